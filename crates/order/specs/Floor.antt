@@ -19,11 +19,9 @@ unfoldable pub isPair : ℕ × ℕ → ℕ × ℕ → Bool
 isPair p q = eqb (p .0) (q .0) && eqb (p .1) (q .1)
 
 unfoldable pub among : ℕ × ℕ → List (ℕ × ℕ) → Bool
-unfolding isPair
 among p [] = false
 among p (q ∷ l) = isPair p q || among p l
 
 -- "an edge joins them": a rack may travel along an edge in both directions
 unfoldable pub joined : Floor → ℕ → ℕ → Bool
-unfolding among
 joined F a b = among (a, b) (F .edges) || among (b, a) (F .edges)

@@ -1,0 +1,75 @@
+// Bit fields of byte strings, most significant bit first: the fields that the records are made of (document 01, "Records").
+// specs/Bits.antt says what a field is; specs/BitLaws.antt reduces any field to bytes.
+ghost use mathlib.Core.Path.{_≡_};
+ghost use Prim.Native.Nat.{_+_, _*_, _≤_, _<_};
+ghost use lib.ListN.{length};
+ghost use Rattle.field.specs.Bits.{field};
+
+// Two positions that stand one after the other: an edge or a move.
+pub struct Pair {
+    pub first: usize,
+    pub second: usize,
+}
+
+fn wide(b: u8) -> usize
+    ensures { λ r. ⌜ (r ≡ b) × (r < 256) ⌝ }
+{
+    b as usize
+}
+
+// The pair that stands j pairs after the first byte. Two pairs take three bytes.
+pub fn pair_at(s: &[u8], j: usize) -> Pair
+    requires { ⌜ 12 * j + 12 ≤ 8 * length (now s) ⌝ }
+    ensures { λ r. ⌜ (r .first ≡ field (now (s .entry)) (12 * j) 6) × (r .second ≡ field (now (s .entry)) (12 * j + 6) 6) ⌝ }
+{
+    let at = j / 2 * 3;
+    if j % 2 == 0 {
+        let a = wide(s[at]);
+        let b = wide(s[at + 1]);
+        return Pair {
+            first: a / 4,
+            second: a % 4 * 16 + b / 16,
+        };
+    }
+    let a = wide(s[at + 1]);
+    let b = wide(s[at + 2]);
+    Pair {
+        first: a % 16 * 4 + b / 64,
+        second: b % 64,
+    }
+}
+
+// The position that stands q positions after the first byte.
+pub fn position_at(s: &[u8], q: usize) -> usize
+    requires { ⌜ 6 * q + 12 ≤ 8 * length (now s) + 4 ⌝ }
+    ensures { λ r. ⌜ r ≡ field (now (s .entry)) (6 * q) 6 ⌝ }
+{
+    let at = q / 4 * 3;
+    let place = q % 4;
+    if place == 0 {
+        return wide(s[at]) / 4;
+    }
+    if place == 1 {
+        return wide(s[at]) % 4 * 16 + wide(s[at + 1]) / 16;
+    }
+    if place == 2 {
+        return wide(s[at + 1]) % 16 * 4 + wide(s[at + 2]) / 64;
+    }
+    wide(s[at + 2]) % 64
+}
+
+// The count of 22 bits that a plan and a timetable begin with.
+pub fn count_at_head(s: &[u8]) -> usize
+    requires { ⌜ 3 ≤ length (now s) ⌝ }
+    ensures { λ r. ⌜ r ≡ field (now (s .entry)) 0 22 ⌝ }
+{
+    wide(s[0]) * 16384 + wide(s[1]) * 64 + wide(s[2]) / 4
+}
+
+// The two spare bits that end the three bytes of a record's head.
+pub fn spare_at_head(s: &[u8]) -> usize
+    requires { ⌜ 3 ≤ length (now s) ⌝ }
+    ensures { λ r. ⌜ r ≡ field (now (s .entry)) 22 2 ⌝ }
+{
+    wide(s[2]) % 4
+}

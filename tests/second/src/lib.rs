@@ -1,0 +1,29 @@
+//! Document 01, "Two-vacancy rack floor", implemented a second time and from the paper alone.
+//!
+//! The proved library is compared with this one on random and damaged records, so nothing here is
+//! taken from it. Each item stands under the sentence of document 01 that it follows. It is also
+//! what the benchmarks measure the proved library against: linear, and no allocation per move or step.
+//!
+//! | module      | section of document 01            | numbers            |
+//! |-------------|-----------------------------------|--------------------|
+//! | `record`    | Records: fields, pads, lengths    |                    |
+//! | `order`     | Records, the order                | 10 to 14           |
+//! | `motion`    | Legal moves and steps             |                    |
+//! | `plan`      | Records, the plan                 | 30 to 33           |
+//! | `timetable` | Records, the timetable            | 40 to 43, 45       |
+//! | `making`    | Making the timetable              | 44                 |
+//! | `floor`     | The floor                         | 20 to 22           |
+//! | `breakdown` | Breakdown and planning            |                    |
+//! | `planning`  | Breakdown and planning, demand 3  | 23                 |
+#![forbid(unsafe_code)]
+
+pub mod answer;
+pub mod breakdown;
+pub mod floor;
+pub mod making;
+pub mod motion;
+pub mod order;
+pub mod plan;
+pub mod planning;
+pub mod record;
+pub mod timetable;

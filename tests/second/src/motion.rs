@@ -1,0 +1,135 @@
+//! "Legal moves and steps": arrangements, and replay over them.
+
+use crate::order::{Floor, Order};
+use crate::record::{pair, positions};
+
+/// Where the racks stand. "A position holds at most one rack."
+#[derive(Clone, PartialEq, Eq, Debug)]
+pub struct Arrangement {
+    /// The rack at each position, 0 if it is vacant.
+    rack_at: [u8; 64],
+}
+
+impl Arrangement {
+    /// "Replay first puts each rack at its start."
+    pub fn starting(order: &Order) -> Arrangement {
+        Arrangement::of(order.starts())
+    }
+
+    /// The arrangement with rack r at the place of index r - 1.
+    pub fn of(places: &[u8]) -> Arrangement {
+        let mut rack_at = [0; 64];
+        for (index, &place) in places.iter().enumerate() {
+            rack_at[usize::from(place)] = index as u8 + 1;
+        }
+        Arrangement { rack_at }
+    }
+
+    #[inline]
+    pub fn is_vacant(&self, position: usize) -> bool {
+        self.rack_at[position] == 0
+    }
+
+    /// The rack at the position, 0 if it is vacant.
+    #[inline]
+    pub fn rack_at(&self, position: usize) -> u8 {
+        self.rack_at[position]
+    }
+
+    /// "A move is legal if both positions are below n, an edge joins them, the first holds a rack and
+    /// the second is vacant."
+    #[inline]
+    pub fn move_is_legal(&self, floor: &Floor, left: usize, entered: usize) -> bool {
+        left < floor.n
+            && entered < floor.n
+            && floor.joined(left, entered)
+            && !self.is_vacant(left)
+            && self.is_vacant(entered)
+    }
+
+    /// "A legal move takes the rack at the position left to the position entered and leaves all others
+    /// where they are".
+    #[inline]
+    pub fn make_move(&mut self, left: usize, entered: usize) {
+        self.rack_at[entered] = self.rack_at[left];
+        self.rack_at[left] = 0;
+    }
+
+    /// The step's moves, if it is legal:
+    ///
+    /// "A step is legal if its moves ascend strictly by position left; both positions of each are below
+    /// n and joined by an edge; each position left holds a rack; no position is entered twice; and each
+    /// move belongs to a train with a leader."
+    pub fn legal_step(&self, floor: &Floor, packed: &[u8], c: usize) -> Option<Step> {
+        let mut step = Step { left: 0, entered: 0, to: [0; 64] };
+        let mut lowest = 0; // that the next move may leave
+        for index in 0..c {
+            let (left, entered) = positions(pair(packed, index));
+            let in_order = left >= lowest;
+            let joined = left < floor.n && entered < floor.n && floor.joined(left, entered);
+            if !in_order || !joined || self.is_vacant(left) || step.entered >> entered & 1 == 1 {
+                return None;
+            }
+            lowest = left + 1;
+            step.left |= 1 << left;
+            step.entered |= 1 << entered;
+            step.to[left] = entered as u8;
+        }
+        self.has_leaders(&step, c).then_some(step)
+    }
+
+    /// "The chain is followed rack by rack to its leader: a move into a position left in the same step
+    /// follows that move, and the chain has to end at a move into a position vacant before the step.
+    /// Trains have any length."
+    ///
+    /// Positions are left once and entered once, so the moves are chains that share nothing, each from
+    /// a position that no move enters, and full rings. The moves on the chains are counted: where there
+    /// are fewer than c, a ring turns.
+    fn has_leaders(&self, step: &Step, c: usize) -> bool {
+        let mut in_chains = 0;
+        let mut lasts = step.left & !step.entered;
+        while lasts != 0 {
+            let mut at = lasts.trailing_zeros() as usize;
+            lasts &= lasts - 1;
+            while step.left >> at & 1 == 1 {
+                at = usize::from(step.to[at]);
+                in_chains += 1;
+            }
+            if !self.is_vacant(at) {
+                return false;
+            }
+        }
+        in_chains == c
+    }
+
+    /// "a legal step does so for all its moves at once"
+    pub fn make_step(&mut self, step: &Step) {
+        let before = self.rack_at;
+        let mut left = step.left;
+        while left != 0 {
+            let at = left.trailing_zeros() as usize;
+            left &= left - 1;
+            self.rack_at[at] = 0;
+        }
+        let mut left = step.left;
+        while left != 0 {
+            let at = left.trailing_zeros() as usize;
+            left &= left - 1;
+            self.rack_at[usize::from(step.to[at])] = before[at];
+        }
+    }
+
+    /// The lowest rack that is not at its goal.
+    pub fn lowest_astray(&self, order: &Order) -> Option<u32> {
+        let astray = |&rack: &usize| usize::from(self.rack_at(usize::from(order.goals[rack - 1]))) != rack;
+        (1..=order.m).find(astray).map(|rack| rack as u32)
+    }
+}
+
+/// The moves of a legal step: the set of positions left, the set of positions entered, and for each
+/// position left the one entered from it.
+pub struct Step {
+    left: u64,
+    entered: u64,
+    to: [u8; 64],
+}

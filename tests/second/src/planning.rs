@@ -1,0 +1,51 @@
+//! What document 01 and demand 3 oblige a planner to answer and to write. The plan's moves are free,
+//! so a planner's output is judged and not made again.
+
+use crate::answer::{refuse, Answer};
+use crate::floor;
+use crate::order::{self, Order};
+use crate::plan;
+
+/// The planner's refusal, the lowest of 10 to 14 and 20 to 23 that applies, else the order to plan.
+pub fn judge_call(order: &[u8], buffer_length: usize) -> Answer<Order> {
+    let order = order::read(order)?;
+    floor::judge(&order)?;
+    // 23: "plan buffer shorter than 12 × n × n × n + 3 bytes"
+    if buffer_length < 12 * order.floor.n.pow(3) + 3 {
+        return refuse(23);
+    }
+    Ok(order)
+}
+
+/// What is wrong with a planner's answer and with its buffer afterwards, in words.
+pub fn fault(order: &[u8], before: &[u8], after: &[u8], answer: Answer<u32>) -> Option<String> {
+    match (judge_call(order, before.len()), answer) {
+        (Err(expected), _) if answer != Err(expected) => Some(format!("{answer:?}, not {expected:?}")),
+        // "No lent byte changes on a refusal."
+        (Err(_), _) => (before != after).then(|| "refused, and the buffer changed".to_string()),
+        (Ok(_), Err(refusal)) => Some(format!("{refusal:?} where a plan is owed")),
+        (Ok(read), Ok(k)) => fault_of_plan(&read, order, before, after, k as usize),
+    }
+}
+
+/// Demand 3: "a plan of at most 8 × n × n × n one-rack moves: replayed from the starts, every move is
+/// legal at its turn, and after the last one every rack stands at its goal".
+fn fault_of_plan(read: &Order, order: &[u8], before: &[u8], after: &[u8], k: usize) -> Option<String> {
+    if k > 8 * read.floor.n.pow(3) {
+        return Some(format!("{k} moves, too many"));
+    }
+    // "If each start is its goal, the plan has no moves."
+    if k > 0 && read.starts() == read.goals() {
+        return Some(format!("{k} moves where each start is its goal"));
+    }
+    // "After acceptance the buffer holds the plan record first, other bytes unchanged, and the answer
+    // gives the count of its moves."
+    let length = plan::length(k);
+    if before.len() != after.len() || before[length..] != after[length..] {
+        return Some("a byte behind the record changed".to_string());
+    }
+    match plan::check(order, &after[..length]) {
+        Ok(_) => None,
+        Err(refusal) => Some(format!("the plan checker answers {refusal:?}")),
+    }
+}

@@ -1,0 +1,238 @@
+//! The case book of document 01, starred cases and others, and a case for each other row of its
+//! table: input and expected answer, one line each.
+
+use second::answer::Refusal;
+use second::timetable::{Counts, Part};
+use second::{floor, making, order, plan, planning, timetable};
+
+/// The bytes that the words give in hexadecimal.
+fn hex(text: &str) -> Vec<u8> {
+    text.split_whitespace().map(|byte| u8::from_str_radix(byte, 16).unwrap()).collect()
+}
+
+fn refused<Counts>(number: u8, place: u32) -> Result<Counts, Refusal> {
+    Err(Refusal { number, place })
+}
+
+fn order_check(order: &str) -> Result<(usize, usize, usize), Refusal> {
+    order::check(&hex(order)).map(|counts| (counts.n, counts.e, counts.m))
+}
+
+fn plan_check(order: &str, plan: &str) -> Result<u32, Refusal> {
+    plan::check(&hex(order), &hex(plan))
+}
+
+fn timetable_check(order: &str, timetable: &str) -> Result<(u32, u32), Refusal> {
+    timetable::check(&hex(order), &hex(timetable)).map(|Counts { steps, moves }| (steps, moves))
+}
+
+/// Offset and length.
+fn timetable_step(timetable: &str, number: u64) -> Result<(usize, usize), Refusal> {
+    timetable::step(&hex(timetable), number).map(|Part { offset, length }| (offset, length))
+}
+
+/// The answer, and the buffer afterwards, which was all AA.
+fn timetable_make(order: &str, plan: &str, length: usize) -> (Result<u32, Refusal>, Vec<u8>) {
+    let mut buffer = vec![0xAA; length];
+    (making::make(&hex(order), &hex(plan), &mut buffer), buffer)
+}
+
+fn floor_check(order: &str) -> Result<(), Refusal> {
+    floor::check(&hex(order))
+}
+
+/// The planner's refusal, if there is one.
+fn plan_make(order: &str, buffer_length: usize) -> Result<(), Refusal> {
+    planning::judge_call(&hex(order), buffer_length).map(|_| ())
+}
+
+/// The order of "Programs": the floor F, rack 1 from 0 to 3, rack 2 from 3 to 0.
+const ORDER: &str = "08 0A 08 00 10 02 04 20 43 08 30 03 0C 00";
+const PLAN: &str = "00 00 10 00 10 C2 08 00 43";
+const TIMETABLE: &str = "00 00 08 02 00 10 C2 02 04 30 80";
+const FULL_F: &str = "08 0A 10 00 10 02 04 20 43 08 30 01 08 30 01 08 30"; // each rack at its goal
+const TWO: &str = "04 02 04 00 10 01"; // two positions, one edge, rack 1 from 0 to 1
+
+#[test]
+fn case_1_the_plan_and_its_timetable() {
+    assert_eq!(order_check(ORDER), Ok((4, 5, 2)));
+    assert_eq!(plan_check(ORDER, PLAN), Ok(4));
+    assert_eq!(timetable_make(ORDER, PLAN, 11), refused_make(44, 11));
+    assert_eq!(timetable_make(ORDER, PLAN, 14), refused_make(44, 14));
+    assert_eq!(timetable_make(ORDER, PLAN, 15), (Ok(2), hex("00 00 08 02 00 10 C2 02 04 30 80 AA AA AA AA")));
+    assert_eq!(timetable_check(ORDER, TIMETABLE), Ok((2, 4)));
+}
+
+/// The maker's refusal: the buffer is as it was.
+fn refused_make(number: u8, length: usize) -> (Result<u32, Refusal>, Vec<u8>) {
+    (refused(number, 0), vec![0xAA; length])
+}
+
+#[test]
+fn case_2_two_moves_in_one_step() {
+    let order = "08 0A 08 00 10 02 04 20 43 08 30 01 04 30";
+    assert_eq!(plan_check(order, "00 00 08 04 30 01"), Ok(2));
+    assert_eq!(timetable_make(order, "00 00 08 04 30 01", 9), (Ok(1), hex("00 00 04 02 00 10 43 AA AA")));
+    assert_eq!(timetable_check(order, "00 00 04 02 00 10 43"), Ok((1, 2)));
+}
+
+#[test]
+fn case_3_a_ring_and_a_swap_have_no_leader() {
+    let to_1_2_0 = "08 0A 0C 00 10 02 04 20 43 08 30 01 08 10 80";
+    let to_1_0_2 = "08 0A 0C 00 10 02 04 20 43 08 30 01 08 10 02";
+    assert_eq!(timetable_check(to_1_2_0, "00 00 04 03 00 10 42 08 00"), refused(42, 1));
+    assert_eq!(timetable_check(to_1_0_2, "00 00 04 02 00 10 40"), refused(42, 1));
+}
+
+#[test]
+fn case_4_a_ring_and_too_many_racks() {
+    assert_eq!(plan_make("06 06 04 00 10 02 04 20 01", 0), refused(22, 0));
+    assert_eq!(plan_make("06 06 04 00 10 02 04 20 01", 1000), refused(22, 0));
+    assert_eq!(floor_check("06 06 04 00 10 02 04 20 01"), refused(22, 0));
+    assert_eq!(plan_make("08 0A 0C 00 10 02 04 20 43 08 30 01 08 10 80", 771), refused(20, 0));
+    assert_eq!(floor_check(ORDER), Ok(()));
+}
+
+#[test]
+fn case_5_paths() {
+    assert_eq!(plan_make("08 06 04 00 10 42 08 30 03", 771), refused(21, 0));
+    assert_eq!(plan_make("06 04 08 00 10 42 00 10 42", 771), refused(20, 0));
+}
+
+#[test]
+fn case_6_the_plan_buffer() {
+    assert_eq!(plan_make(ORDER, 770), refused(23, 0));
+    assert_eq!(plan_make(ORDER, 771), Ok(()));
+}
+
+#[test]
+fn case_7_the_empty_plan() {
+    assert_eq!(plan_check(ORDER, "00 00 00"), refused(33, 1));
+}
+
+#[test]
+fn case_8_largest_floor_and_steps_handed_out() {
+    assert_eq!(order_check("80 00 00"), Ok((64, 0, 0)));
+    assert_eq!(order_check("82 00 00"), refused(11, 0));
+    assert_eq!(timetable_step(TIMETABLE, 1), Ok((3, 4)));
+    assert_eq!(timetable_step(TIMETABLE, 2), Ok((7, 4)));
+    assert_eq!(timetable_step(TIMETABLE, 0), refused(45, 0));
+    assert_eq!(timetable_step(TIMETABLE, 3), refused(45, 0));
+}
+
+#[test]
+fn orders_refused() {
+    assert_eq!(order_check(""), refused(10, 0));
+    assert_eq!(order_check("08 0A"), refused(10, 0));
+    assert_eq!(order_check("08 0A 08"), refused(10, 0)); // its counts give 14 bytes
+    assert_eq!(order_check("00 00 03 00"), refused(10, 0)); // and n = 0, and spare bits set
+    assert_eq!(order_check("00 00 03"), refused(11, 0)); // and spare bits set
+    assert_eq!(order_check("08 0A 09 00 10 02 04 20 43 08 30 03 0C 00"), refused(12, 0)); // spare bit
+    assert_eq!(order_check("08 0A 0A 00 10 02 04 20 43 08 30 03 0C 00"), refused(12, 0)); // the other
+    assert_eq!(order_check("06 02 00 00 11"), refused(12, 0)); // pad bit
+    assert_eq!(order_check("06 02 00 04 00"), refused(13, 0)); // 1-0, not lower first
+    assert_eq!(order_check("06 02 00 04 10"), refused(13, 0)); // 1-1
+    assert_eq!(order_check("06 02 00 00 30"), refused(13, 0)); // 0-3, out of range
+    assert_eq!(order_check("06 04 00 00 10 01"), refused(13, 0)); // 0-1 twice
+    assert_eq!(order_check("06 04 00 04 20 01"), refused(13, 0)); // 1-2 before 0-1
+    assert_eq!(order_check("06 00 04 0C 00"), refused(14, 0)); // start 3
+    assert_eq!(order_check("06 00 04 00 30"), refused(14, 0)); // goal 3
+    assert_eq!(order_check("06 00 08 04 10 02"), refused(14, 0)); // starts 1, 1; goals 0, 2
+    assert_eq!(order_check("06 00 08 00 20 41"), refused(14, 0)); // starts 0, 2; goals 1, 1
+    assert_eq!(order_check("06 00 08 00 20 80"), Ok((3, 0, 2))); // starts 0, 2; goals 2, 0
+}
+
+#[test]
+fn the_smallest_orders() {
+    assert_eq!(order_check("02 00 00"), Ok((1, 0, 0)));
+    assert_eq!(order_check("02 00 04 00 00"), Ok((1, 0, 1))); // full floor
+    assert_eq!(order_check(TWO), Ok((2, 1, 1)));
+}
+
+#[test]
+fn plans_refused() {
+    assert_eq!(plan_check("00 00 00", "00 00 01"), refused(11, 0)); // the order's refusal first
+    assert_eq!(plan_check(TWO, ""), refused(30, 0));
+    assert_eq!(plan_check(TWO, "00 00"), refused(30, 0));
+    assert_eq!(plan_check(TWO, "00 00 04"), refused(30, 0)); // its move is missing
+    assert_eq!(plan_check(TWO, "00 00 04 00 10 00"), refused(30, 0)); // a byte too many
+    assert_eq!(plan_check(TWO, "00 00 05 00 10"), refused(31, 0)); // spare bit
+    assert_eq!(plan_check(TWO, "00 00 04 00 11"), refused(31, 0)); // pad bit
+    assert_eq!(plan_check(TWO, "00 00 04 04 00"), refused(32, 1)); // 1>0, from a vacant position
+    assert_eq!(plan_check(TWO, "00 00 04 00 00"), refused(32, 1)); // 0>0
+    assert_eq!(plan_check(TWO, "00 00 04 00 20"), refused(32, 1)); // 0>2, out of range
+    assert_eq!(plan_check(TWO, "00 00 08 00 10 01"), refused(32, 2)); // 0>1, 0>1
+    assert_eq!(plan_check(TWO, "00 00 08 00 10 40"), refused(33, 1)); // 0>1, 1>0
+    assert_eq!(plan_check(TWO, "00 00 04 00 10"), Ok(1));
+    assert_eq!(plan_check(FULL_F, "00 00 00"), Ok(0)); // a full floor
+    assert_eq!(plan_check(FULL_F, "00 00 04 00 10"), refused(32, 1)); // where no rack can move
+}
+
+#[test]
+fn timetables_refused() {
+    assert_eq!(timetable_check("00 00 00", "00 00 01"), refused(11, 0)); // the order's refusal first
+    assert_eq!(timetable_check(TWO, "00 00"), refused(40, 0));
+    assert_eq!(timetable_check(TWO, "00 00 04"), refused(40, 0)); // its step is missing
+    assert_eq!(timetable_check(TWO, "00 00 04 01 00"), refused(40, 0)); // runs past the end
+    assert_eq!(timetable_check(TWO, "00 00 04 01 00 10 00"), refused(40, 0)); // a byte left over
+    assert_eq!(timetable_check(TWO, "00 00 06 01 00 10"), refused(41, 0)); // spare bit
+    assert_eq!(timetable_check(TWO, "00 00 04 01 00 11"), refused(41, 0)); // pad bit
+    assert_eq!(timetable_check(TWO, "00 00 08 01 04 00 01 00 11"), refused(41, 0)); // after a bad step
+    assert_eq!(timetable_check(TWO, "00 00 04 01 04 00"), refused(42, 1)); // 1>0, vacant
+    assert_eq!(timetable_check(TWO, "00 00 08 01 00 10 01 00 10"), refused(42, 2));
+    assert_eq!(timetable_check(TWO, "00 00 04 02 00 10 01"), refused(42, 1)); // 0>1 twice
+    assert_eq!(timetable_check(TWO, "00 00 08 01 00 10 01 04 00"), refused(43, 1));
+    assert_eq!(timetable_check(TWO, "00 00 00"), refused(43, 1));
+    assert_eq!(timetable_check(TWO, "00 00 04 01 00 10"), Ok((1, 1)));
+    assert_eq!(timetable_check(TWO, "00 00 0C 00 01 00 10 00"), Ok((3, 1))); // two steps of waiting
+    assert_eq!(timetable_check(FULL_F, "00 00 04 00"), Ok((1, 0)));
+}
+
+#[test]
+fn trains_and_their_leaders() {
+    let path = "08 06 0C 00 10 42 08 30 01 08 10 83"; // 0-1-2-3, racks at 0, 1, 2 to 1, 2, 3
+    assert_eq!(timetable_check(path, "00 00 04 03 00 10 42 08 30"), Ok((1, 3))); // 0>1 1>2 2>3
+    assert_eq!(timetable_check(path, "00 00 04 02 00 10 42"), refused(42, 1)); // into 2, which stays
+    assert_eq!(timetable_check(path, "00 00 04 03 04 20 01 08 30"), refused(42, 1)); // not ascending
+    let star = "08 06 08 00 10 02 00 31 02 0C 00 10"; // 0-1, 0-2, 0-3 and pad: see the next line
+    assert_eq!(order_check(star), refused(10, 0));
+    let star = "08 06 08 00 10 02 00 30 42 00 30"; // racks at 1, 2 to 0, 3
+    assert_eq!(timetable_check(star, "00 00 04 02 04 00 80"), refused(42, 1)); // both into 0
+    assert_eq!(timetable_check(star, "00 00 08 01 04 00 01 08 00"), refused(42, 2)); // into rack 1
+}
+
+#[test]
+fn steps_refused() {
+    assert_eq!(timetable_step("00 00", 1), refused(40, 0));
+    assert_eq!(timetable_step("00 00 04", 0), refused(40, 0));
+    assert_eq!(timetable_step("00 00 01", 0), refused(41, 0));
+    assert_eq!(timetable_step("00 00 08 00 01 FF FF", 1), refused(41, 0)); // the pad of step 2
+    assert_eq!(timetable_step("00 00 08 00 01 FF F0", 1), Ok((3, 1)));
+    assert_eq!(timetable_step("00 00 08 00 01 FF F0", 2), Ok((4, 3)));
+    assert_eq!(timetable_step("00 00 08 00 01 FF F0", u64::MAX), refused(45, 0));
+    assert_eq!(timetable_step("00 00 00", 1), refused(45, 0));
+}
+
+#[test]
+fn the_making_rule() {
+    // 0>1 1>0: one rack's moves are one step apart.
+    let home = "04 02 04 00 10 00";
+    assert_eq!(timetable_make(home, "00 00 08 00 10 40", 9), (Ok(2), hex("00 00 08 01 00 10 01 04 00")));
+    // No moves: s is 0, and only the head is written.
+    assert_eq!(timetable_make(home, "00 00 00", 4), (Ok(0), hex("00 00 00 AA")));
+    // The plan's refusal comes before the buffer's.
+    assert_eq!(timetable_make(TWO, "00 00 00", 0), (refused(33, 1), vec![]));
+    assert_eq!(timetable_make(home, "00 00 00", 2), refused_make(44, 2));
+}
+
+#[test]
+fn small_floors() {
+    assert_eq!(floor_check("02 00 00"), refused(20, 0)); // one position
+    assert_eq!(floor_check("04 02 00 00 10"), refused(21, 0)); // two positions, no rack
+    assert_eq!(floor_check(TWO), refused(20, 0));
+    assert_eq!(floor_check("06 04 00 00 10 42"), refused(21, 0)); // path of three
+    assert_eq!(floor_check("06 06 00 00 10 02 04 20"), refused(22, 0)); // ring of three
+    assert_eq!(floor_check("08 08 00 00 10 02 04 30 83"), refused(22, 0)); // ring of four
+    assert_eq!(floor_check("08 0A 00 00 10 02 04 20 43 08 30"), Ok(())); // F
+    assert_eq!(floor_check("08 08 00 00 10 02 00 30 42"), refused(21, 0)); // four edges, not a ring
+}
