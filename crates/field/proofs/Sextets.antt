@@ -2,13 +2,15 @@
 --
 --     sextet-0, -6, -4, -2    the position that begins at that bit of a byte
 --     head-count, head-spare  the count and the spare bits of a head of three bytes
+--     pad-even, pad-odd       the pad after an even and an odd number of pairs
 -- Assumes nothing.
-use Prim.Native.Nat.{ℕ, _+_, _*_, _/_, _%_, _^_, _≤_, _<_}
+use Prim.Native.Nat.{ℕ, _+_, _-_, _*_, _/_, _%_, _^_, _≤_, _<_}
 use mathlib.Core.Path.{_≡_, refl, sym, ap, ap₂, _∙_}
 use mathlib.Core.List.{List}
 use native.Mathlib.Omega.{arith}
+use native.Mathlib.Nat.{mul-add-mod-self-left}
 use lib.ListN.{length, getD}
-use Rattle.field.specs.Bits.{field}
+use Rattle.field.specs.Bits.{field, number, pad}
 use Rattle.field.specs.BitLaws.{field-in-byte, field-across, field-split}
 
 module _ (s : List ℕ) (i k : ℕ) where
@@ -40,3 +42,19 @@ module _ (s : List ℕ) (h : 3 ≤ length s) where
 
   pub head-spare : field s 22 2 ≡ getD s 2 0 % 4
   head-spare = field-in-byte s 2 6 2 0 (omega arith) refl ∙ omega arith
+
+pub pad-even : (s : List ℕ) (k : ℕ) → k % 2 ≡ 0 → field s (12 * k) (pad (12 * k)) ≡ 0
+unfolding field number pad
+pad-even s k e =
+    let at : 12 * k ≡ 8 * (3 * (k / 2)) + 0 = omega arith in
+    let over : 12 * k % 8 ≡ 0 = ap (λ (i : ℕ). i % 8) at ∙ mul-add-mod-self-left 8 (3 * (k / 2)) 0 in
+    let none : (8 - 12 * k % 8) % 8 ≡ 0 = ap (λ (i : ℕ). (8 - i) % 8) over in
+    rw none refl
+
+pub pad-odd : (s : List ℕ) (k : ℕ) → (k % 2 ≡ 0 → ⊥) → k / 2 * 3 + 1 < length s → field s (12 * k) (pad (12 * k)) ≡ getD s (k / 2 * 3 + 1) 0 % 16
+unfolding pad
+pad-odd s k e h =
+    let at : 12 * k ≡ 8 * (k / 2 * 3 + 1) + 4 = omega arith in
+    let over : 12 * k % 8 ≡ 4 = ap (λ (i : ℕ). i % 8) at ∙ mul-add-mod-self-left 8 (k / 2 * 3 + 1) 4 in
+    let four : (8 - 12 * k % 8) % 8 ≡ 4 = ap (λ (i : ℕ). (8 - i) % 8) over in
+    rw four (ap (λ (i : ℕ). field s i 4) at ∙ field-in-byte s (k / 2 * 3 + 1) 4 4 0 h refl ∙ omega arith)

@@ -6,6 +6,8 @@
 --     number l          the number whose bits are l
 --     bitsOf s          the bits of the byte string s
 --     field s i w       the field of w bits at bit i of s, bits counted from 0
+--     PositionAt s i p  the position at bit i of s is p, which six bits keep below 64
+--     PairAt s i a b    the pair of positions at bit i of s is a and b
 --     positions s i k   the k positions at bit i of s, one after another
 --     pairs s i k       the k pairs of positions at bit i of s: an edge or a move is such a pair
 --     positionBits l    the positions l as bits
@@ -14,7 +16,8 @@
 --     padded l          the bits l and their pad
 --     toBytes l         the byte string whose bits are l and their pad
 -- Assumes nothing.
-use Prim.Native.Nat.{ℕ, zero, suc, _+_, _-_, _*_, _/_, _%_, _^_}
+use Prim.Native.Nat.{ℕ, zero, suc, _+_, _-_, _*_, _/_, _%_, _^_, _<_}
+use mathlib.Core.Path.{_≡_}
 use mathlib.Core.List.{List, [], _∷_, _++_}
 use lib.ListN.{length, take, drop, replicate}
 
@@ -32,6 +35,16 @@ bitsOf (b ∷ s) = bits 8 b ++ bitsOf s
 
 unfoldable pub field : List ℕ → ℕ → ℕ → ℕ
 field s i w = number (take w (drop i (bitsOf s)))
+
+pub record PositionAt (s : List ℕ) (i p : ℕ) : Type 0 where
+  pub is : p ≡ field s i 6
+  pub below : p < 64
+
+pub record PairAt (s : List ℕ) (i a b : ℕ) : Type 0 where
+  pub first-is : a ≡ field s i 6
+  pub second-is : b ≡ field s (i + 6) 6
+  pub first-below : a < 64
+  pub second-below : b < 64
 
 unfoldable pub positions : List ℕ → ℕ → ℕ → List ℕ
 positions s i zero = []

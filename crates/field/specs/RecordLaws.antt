@@ -5,16 +5,19 @@
 --     bits-positions, bits-pairs            what was read, as bits, is the part of the record that it was read from
 --     positions-at, pairs-at                what stands in the bits is what is read
 --     positions-drop, pairs-drop            the same, read from the part that begins at byte k
+--     pairs-next, positions-next            the next of what is left to read
 --     length-toBytes, toBytes-are           how many bytes a run of bits makes, and that they are bytes
 --     bitsOf-toBytes                        the bits of the bytes that l makes are l and its pad
 --     toBytes-bitsOf                        a byte string is made again of its bits
 --     bitsOf-injective                      two byte strings of the same bits are the same
+--     up-to-byte                            bits and their pad are whole bytes
+--     rest-is                               the part of a byte string from byte k on
 -- Assumes nothing.
 use Prim.Native.Nat.{ℕ, zero, suc, _+_, _-_, _*_, _/_, _%_, _^_, _≤_, _<_}
 use mathlib.Core.Path.{_≡_, refl, sym, ap, ap₂, _∙_, subst}
 use mathlib.Core.List.{List, [], _∷_, _++_, append-assoc, append-nil}
 use native.Mathlib.Omega.{arith}
-use native.Mathlib.Nat.{mod-eq-of-lt, add-assoc, lt-of-lt-of-le, min-le-left}
+use native.Mathlib.Nat.{mod-eq-of-lt, add-assoc, lt-of-lt-of-le, min-le-left, le-refl}
 use lib.Pow.{pow-mono}
 use lib.ListN.{length, take, drop, replicate, length-append, length-take, length-drop, length-replicate, take-append-drop}
 use lib.Seq.{take-add, drop-drop, length-take-le, take-length, take-all, take-at, drop-at}
@@ -114,13 +117,15 @@ bytes-bits none = refl
 bytes-bits (more {x = x} {l = l} h b) =
     rw (take-at (bits 8 x) (bitsOf l) 8 (length-bits 8 x), drop-at (bits 8 x) (bitsOf l) 8 (length-bits 8 x), number-bits 8 x, mod-eq-of-lt h, bytes-bits b)
 
+-- k bits and their pad are as many whole bytes as k bits, rounded up
+pub up-to-byte : (k : ℕ) → k + pad k ≡ 8 * ((k + 7) / 8)
+unfolding pad
+up-to-byte k = omega arith
+
 pub length-padded : (l : List ℕ) → length (padded l) ≡ 8 * ((length l + 7) / 8)
-unfolding padded pad
+unfolding padded
 length-padded l =
-    length-append l (replicate ((8 - length l % 8) % 8) 0) ∙ rw (length-replicate {A = ℕ} ((8 - length l % 8) % 8) 0) (up (length l))
-  where
-    up : (k : ℕ) → k + (8 - k % 8) % 8 ≡ 8 * ((k + 7) / 8)
-    up k = omega arith
+    length-append l (replicate (pad (length l)) 0) ∙ rw (length-replicate {A = ℕ} (pad (length l)) 0) (up-to-byte (length l))
 
 zeros-are : (n : ℕ) → Bits (replicate n 0)
 zeros-are zero = none
@@ -165,3 +170,24 @@ bitsOf-injective {s} {t} a b e = sym (bytes-bits a) ∙ ap₂ bytes same e ∙ b
 -- the byte string of the bits l, known by its bits
 pub toBytes-from : {s l : List ℕ} → Bytes s → Bits l → bitsOf s ≡ padded l → s ≡ toBytes l
 toBytes-from a b e = bitsOf-injective a (toBytes-are b) (e ∙ sym (bitsOf-toBytes b))
+
+-- the next of what is left to read, for a loop that has read j of k
+pub pairs-next : (s : List ℕ) (j k : ℕ) → j < k
+    → pairs s (12 * j) (k - j) ≡ (field s (12 * j) 6, field s (12 * j + 6) 6) ∷ pairs s (12 * (j + 1)) (k - (j + 1))
+unfolding pairs
+pairs-next s j k h =
+    let left : k - j ≡ suc (k - (j + 1)) = omega arith in
+    let on : 12 * j + 12 ≡ 12 * (j + 1) = omega arith in
+    rw (left, on) refl
+
+pub positions-next : (s : List ℕ) (i j k : ℕ) → j < k
+    → positions s (6 * (i + j)) (k - j) ≡ field s (6 * (i + j)) 6 ∷ positions s (6 * (i + (j + 1))) (k - (j + 1))
+unfolding positions
+positions-next s i j k h =
+    let left : k - j ≡ suc (k - (j + 1)) = omega arith in
+    let on : 6 * (i + j) + 6 ≡ 6 * (i + (j + 1)) = omega arith in
+    rw (left, on) refl
+
+-- the part of a byte string from byte k on, as a part `&s[k..]` has it
+pub rest-is : (k : ℕ) (s : List ℕ) → take (length s - k) (drop k s) ≡ drop k s
+rest-is k s = take-all (length s - k) (drop k s) (rw (length-drop k s) (le-refl _))

@@ -3,7 +3,7 @@
 ghost use mathlib.Core.Path.{_≡_};
 ghost use Prim.Native.Nat.{_+_, _*_, _≤_, _<_};
 ghost use lib.ListN.{length};
-ghost use Rattle.field.specs.Bits.{field};
+ghost use Rattle.field.specs.Bits.{field, pad, PositionAt, PairAt};
 
 // Two positions that stand one after the other: an edge or a move.
 pub struct Pair {
@@ -11,7 +11,8 @@ pub struct Pair {
     pub second: usize,
 }
 
-fn wide(b: u8) -> usize
+// A byte as an index or a part of a larger number.
+pub fn wide(b: u8) -> usize
     ensures { λ r. ⌜ (r ≡ b) × (r < 256) ⌝ }
 {
     b as usize
@@ -20,7 +21,7 @@ fn wide(b: u8) -> usize
 // The pair that stands j pairs after the first byte. Two pairs take three bytes.
 pub fn pair_at(s: &[u8], j: usize) -> Pair
     requires { ⌜ 12 * j + 12 ≤ 8 * length (now s) ⌝ }
-    ensures { λ r. ⌜ (r .first ≡ field (now (s .entry)) (12 * j) 6) × (r .second ≡ field (now (s .entry)) (12 * j + 6) 6) ⌝ }
+    ensures { λ r. ⌜ PairAt (now (s .entry)) (12 * j) (r .first) (r .second) ⌝ }
 {
     let at = j / 2 * 3;
     if j % 2 == 0 {
@@ -41,8 +42,8 @@ pub fn pair_at(s: &[u8], j: usize) -> Pair
 
 // The position that stands q positions after the first byte.
 pub fn position_at(s: &[u8], q: usize) -> usize
-    requires { ⌜ 6 * q + 12 ≤ 8 * length (now s) + 4 ⌝ }
-    ensures { λ r. ⌜ r ≡ field (now (s .entry)) (6 * q) 6 ⌝ }
+    requires { ⌜ 6 * q + 6 ≤ 8 * length (now s) ⌝ }
+    ensures { λ r. ⌜ PositionAt (now (s .entry)) (6 * q) r ⌝ }
 {
     let at = q / 4 * 3;
     let place = q % 4;
@@ -72,4 +73,15 @@ pub fn spare_at_head(s: &[u8]) -> usize
     ensures { λ r. ⌜ r ≡ field (now (s .entry)) 22 2 ⌝ }
 {
     wide(s[2]) % 4
+}
+
+// The pad after k pairs, as a number: 0 where no pad bit is set. An odd number of pairs ends in the middle of a byte.
+pub fn pad_after(s: &[u8], k: usize) -> usize
+    requires { ⌜ 12 * k + pad (12 * k) ≤ 8 * length (now s) ⌝ }
+    ensures { λ r. ⌜ r ≡ field (now (s .entry)) (12 * k) (pad (12 * k)) ⌝ }
+{
+    if k % 2 == 0 {
+        return 0;
+    }
+    wide(s[k / 2 * 3 + 1]) % 16
 }

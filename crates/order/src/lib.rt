@@ -1,1 +1,183 @@
-// The floor and the order record.
+// The order reader: a byte string is judged by 10 to 14 of document 01's table. specs/Order.antt says what an order record is and
+// what each number means; `read` is the entry point. `mark_edges` and `place_racks` give the layers above an accepted order's
+// floor and racks as tables.
+use answers::Fault;
+ghost use mathlib.Core.Path.{_≡_};
+ghost use mathlib.Core.Bool.{not};
+ghost use Prim.Native.Nat.{_+_, _*_, _≤_, _<_};
+ghost use lib.ListN.{length};
+ghost use Rattle.field.specs.Bits.{pairs, positions};
+ghost use Rattle.order.specs.Order.{CountsOf, orderAnswer, wrongEdges, wrongPlaces};
+ghost use Rattle.order.specs.Readers.{headAnswer, edgesAnswer};
+ghost use Rattle.order.specs.Tables.{marked, placed};
+ghost use Rattle.order.specs.Verdict.{answerOf};
+
+// What an order's head says: n positions, e edges, m racks.
+pub struct Counts {
+    pub positions: usize,
+    pub edges: usize,
+    pub racks: usize,
+}
+
+// The verdict on an order: specs/Verdict.antt gives it document 01's number and values.
+pub enum OrderVerdict {
+    Accepted(Counts),
+    Refused(Fault, u32),
+}
+
+fn counts_of(order: &[u8]) -> Counts
+    requires { ⌜ 3 ≤ length (now order) ⌝ }
+    ensures { λ r. ⌜ CountsOf (now (order .entry)) (r .positions) (r .edges) (r .racks) ⌝ }
+{
+    let a = field::wide(order[0]);
+    let b = field::wide(order[1]);
+    let c = field::wide(order[2]);
+    Counts {
+        positions: a / 2,
+        edges: a % 2 * 128 + b / 2,
+        racks: b % 2 * 64 + c / 4,
+    }
+}
+
+// 10 to 12. The length comes first: n and the spare bits are judged only where the counts give it.
+fn read_head(order: &[u8]) -> OrderVerdict
+    ensures { λ r. ⌜ answerOf r ≡ headAnswer (now (order .entry)) ⌝ }
+{
+    if order.len() < 3 {
+        return OrderVerdict::Refused(Fault::OrderLength, 0);
+    }
+    let counts = counts_of(order);
+    let n = counts.positions;
+    let units = counts.edges + counts.racks;
+    if order.len() != 3 + (12 * units + 7) / 8 {
+        return OrderVerdict::Refused(Fault::OrderLength, 0);
+    }
+    if n == 0 {
+        return OrderVerdict::Refused(Fault::OrderPositions, 0);
+    }
+    if 64 < n {
+        return OrderVerdict::Refused(Fault::OrderPositions, 0);
+    }
+    if field::spare_at_head(order) != 0 {
+        return OrderVerdict::Refused(Fault::OrderPadding, 0);
+    }
+    if field::pad_after(&order[3..], units) != 0 {
+        return OrderVerdict::Refused(Fault::OrderPadding, 0);
+    }
+    OrderVerdict::Accepted(counts)
+}
+
+// Whether the e edges of an order's tail are below n, lower first and ascending. The positions are below 64, so an edge's place in
+// the order of edges is one number, and that of every edge that is lower first is above 0.
+fn edges_sound(tail: &[u8], n: usize, e: usize) -> bool
+    requires { ⌜ 12 * e ≤ 8 * length (now tail) ⌝ }
+    ensures { λ r. ⌜ r ≡ not (wrongEdges (record { positions = n; edges = pairs (now (tail .entry)) 0 e })) ⌝ }
+{
+    let mut last = 0;
+    let mut j = 0;
+    while j < e {
+        let edge = field::pair_at(tail, j);
+        let a = edge.first;
+        let b = edge.second;
+        if b <= a {
+            return false;
+        }
+        if n <= b {
+            return false;
+        }
+        let place = a * 64 + b;
+        if place <= last {
+            return false;
+        }
+        last = place;
+        j += 1;
+    }
+    true
+}
+
+// 13, above 10 to 12. The edges are read from the part of the record that begins at its fourth byte.
+fn read_edges(order: &[u8]) -> OrderVerdict
+    ensures { λ r. ⌜ answerOf r ≡ edgesAnswer (now (order .entry)) ⌝ }
+{
+    let head = read_head(order);
+    let OrderVerdict::Accepted(counts) = head else {
+        return head;
+    };
+    let n = counts.positions;
+    let e = counts.edges;
+    if !edges_sound(&order[3..], n, e) {
+        return OrderVerdict::Refused(Fault::OrderEdge, 0);
+    }
+    head
+}
+
+// Whether the m positions that stand `from` positions after the tail's first byte are below n and all different.
+fn places_sound(tail: &[u8], n: usize, from: usize, m: usize) -> bool
+    requires { ⌜ (n ≤ 64) × (6 * (from + m) ≤ 8 * length (now tail)) ⌝ }
+    ensures { λ r. ⌜ r ≡ not (wrongPlaces n (positions (now (tail .entry)) (6 * from) m)) ⌝ }
+{
+    let mut taken = [0u8; 64];
+    let mut i = 0;
+    while i < m {
+        let p = field::position_at(tail, from + i);
+        if n <= p {
+            return false;
+        }
+        if taken[p] != 0 {
+            return false;
+        }
+        taken[p] = 1;
+        i += 1;
+    }
+    true
+}
+
+// 10 to 14: the verdict on any byte string as an order.
+pub fn read(order: &[u8]) -> OrderVerdict
+    ensures { λ r. ⌜ answerOf r ≡ orderAnswer (now (order .entry)) ⌝ }
+{
+    let edges = read_edges(order);
+    let OrderVerdict::Accepted(counts) = edges else {
+        return edges;
+    };
+    let n = counts.positions;
+    let e = counts.edges;
+    let m = counts.racks;
+    let tail = &order[3..];
+    if !places_sound(tail, n, 2 * e, m) {
+        return OrderVerdict::Refused(Fault::OrderRack, 0);
+    }
+    if !places_sound(tail, n, 2 * e + m, m) {
+        return OrderVerdict::Refused(Fault::OrderRack, 0);
+    }
+    edges
+}
+
+// Marks the e edges of an order's tail in a matrix of 64 entries to a row.
+pub fn mark_edges(tail: &[u8], e: usize, matrix: &mut [u8; 4096])
+    requires { ⌜ 12 * e ≤ 8 * length (now tail) ⌝ }
+    ensures { λ _. ⌜ now (matrix .exit) ≡ marked (now (matrix .entry)) (pairs (now (tail .entry)) 0 e) ⌝ }
+{
+    let mut j = 0;
+    while j < e {
+        let edge = field::pair_at(tail, j);
+        let a = edge.first;
+        let b = edge.second;
+        matrix[a * 64 + b] = 1;
+        matrix[b * 64 + a] = 1;
+        j += 1;
+    }
+}
+
+// Puts racks 1 to m at the m positions that stand `from` positions after the tail's first byte.
+pub fn place_racks(tail: &[u8], from: usize, m: usize, racks: &mut [u8; 64])
+    requires { ⌜ (m ≤ 64) × (6 * (from + m) ≤ 8 * length (now tail)) ⌝ }
+    ensures { λ _. ⌜ now (racks .exit) ≡ placed (now (racks .entry)) 1 (positions (now (tail .entry)) (6 * from) m) ⌝ }
+{
+    let mut i = 0;
+    while i < m {
+        let p = field::position_at(tail, from + i);
+        racks[p] = (i + 1) as u8;
+        i += 1;
+    }
+}

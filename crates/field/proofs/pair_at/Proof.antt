@@ -34,7 +34,11 @@ add-t17 c = search needs
 returns : tie.Need-returns
 returns c =
     let a = c .before .before .before .before .before .before .args in
-    (omega (arith, sextet-0 (a .s .now) (12 * a .j) (a .j / 2 * 3) (omega arith) (omega arith) (omega arith)), omega (arith, sextet-6 (a .s .now) (12 * a .j + 6) (a .j / 2 * 3) (a .j / 2 * 3 + 1) (omega arith) (omega arith) (omega arith) (omega arith)))
+    record {
+      first-is = omega (arith, sextet-0 (a .s .now) (12 * a .j) (a .j / 2 * 3) (omega arith) (omega arith) (omega arith));
+      second-is = omega (arith, sextet-6 (a .s .now) (12 * a .j + 6) (a .j / 2 * 3) (a .j / 2 * 3 + 1) (omega arith) (omega arith) (omega arith) (omega arith));
+      first-below = omega arith;
+      second-below = omega arith }
 
 add-wide-2 : tie.Need-add-wide-2
 add-wide-2 c = search needs
@@ -63,7 +67,11 @@ add-t23 c = search needs
 returns-2 : tie.Need-returns-2
 returns-2 c =
     let a = c .before .before .before .before .before .before .args in
-    (omega (arith, sextet-4 (a .s .now) (12 * a .j) (a .j / 2 * 3 + 1) (a .j / 2 * 3 + 2) (omega arith) (omega arith) (omega arith) (omega arith)), omega (arith, sextet-2 (a .s .now) (12 * a .j + 6) (a .j / 2 * 3 + 2) (omega arith) (omega arith)))
+    record {
+      first-is = omega (arith, sextet-4 (a .s .now) (12 * a .j) (a .j / 2 * 3 + 1) (a .j / 2 * 3 + 2) (omega arith) (omega arith) (omega arith) (omega arith));
+      second-is = omega (arith, sextet-2 (a .s .now) (12 * a .j + 6) (a .j / 2 * 3 + 2) (omega arith) (omega arith));
+      first-below = omega arith;
+      second-below = omega arith }
 
 pub pair-at-spec : {M : Type 1} → statement M
 pair-at-spec =

@@ -18,7 +18,7 @@ wide-requires c κs = search needs
 returns : tie.Need-returns
 returns c =
     let a = c .before .before .before .before .args in
-    omega (arith, sextet-0 (a .s .now) (6 * a .q) (a .q / 4 * 3) (omega arith) (omega arith) (omega arith))
+    record { is = omega (arith, sextet-0 (a .s .now) (6 * a .q) (a .q / 4 * 3) (omega arith) (omega arith) (omega arith)); below = omega arith }
 
 shared-slice-read-wide-2 : tie.Need-shared-slice-read-wide-2
 shared-slice-read-wide-2 c = search needs
@@ -44,7 +44,7 @@ add-result c = search needs
 returns-2 : tie.Need-returns-2
 returns-2 c =
     let a = c .before .before .before .before .before .before .before .args in
-    omega (arith, sextet-6 (a .s .now) (6 * a .q) (a .q / 4 * 3) (a .q / 4 * 3 + 1) (omega arith) (omega arith) (omega arith) (omega arith))
+    record { is = omega (arith, sextet-6 (a .s .now) (6 * a .q) (a .q / 4 * 3) (a .q / 4 * 3 + 1) (omega arith) (omega arith) (omega arith) (omega arith)); below = omega arith }
 
 add-wide-2 : tie.Need-add-wide-2
 add-wide-2 c = search needs
@@ -73,7 +73,7 @@ add-result-2 c = search needs
 returns-3 : tie.Need-returns-3
 returns-3 c =
     let a = c .before .before .before .before .before .before .before .before .args in
-    omega (arith, sextet-4 (a .s .now) (6 * a .q) (a .q / 4 * 3 + 1) (a .q / 4 * 3 + 2) (omega arith) (omega arith) (omega arith) (omega arith))
+    record { is = omega (arith, sextet-4 (a .s .now) (6 * a .q) (a .q / 4 * 3 + 1) (a .q / 4 * 3 + 2) (omega arith) (omega arith) (omega arith) (omega arith)); below = omega arith }
 
 add-wide-4 : tie.Need-add-wide-4
 add-wide-4 c = search needs
@@ -87,7 +87,7 @@ wide-requires-6 c κs = search needs
 returns-4 : tie.Need-returns-4
 returns-4 c =
     let a = c .before .before .before .before .before .before .args in
-    omega (arith, sextet-2 (a .s .now) (6 * a .q) (a .q / 4 * 3 + 2) (omega arith) (omega arith))
+    record { is = omega (arith, sextet-2 (a .s .now) (6 * a .q) (a .q / 4 * 3 + 2) (omega arith) (omega arith)); below = omega arith }
 
 pub position-at-spec : {M : Type 1} → statement M
 position-at-spec =

@@ -1,0 +1,93 @@
+// The answers of the entry points: one fault for each number of document 01's table, its number, and its family word.
+ghost use mathlib.Core.Path.{_≡_};
+ghost use lib.ListN.{take};
+ghost use Rattle.answers.specs.Answer.{numberOf};
+ghost use Rattle.answers.specs.Family.{familyWord};
+
+// Why an entry point turns its input down. specs/Answer.antt gives each its number.
+pub enum Fault {
+    // The order is under 3 bytes, or its length is not the one its counts give.
+    OrderLength,
+    // The order's n is 0 or above 64.
+    OrderPositions,
+    // A spare or pad bit of the order is set.
+    OrderPadding,
+    // An edge has a position of n or more, is not lower first, or does not ascend.
+    OrderEdge,
+    // A start or goal is n or more, or two racks share a start or share a goal.
+    OrderRack,
+    // m + 2 is above n.
+    FloorCrowded,
+    // The floor is not bi-connected.
+    FloorNotBiconnected,
+    // The floor is a ring.
+    FloorRing,
+    // The plan buffer is shorter than 12 × n × n × n + 3 bytes.
+    PlanBuffer,
+    // The plan is under 3 bytes, or its length is not the one k gives.
+    PlanLength,
+    // A spare or pad bit of the plan is set.
+    PlanPadding,
+    // A move is not legal at its turn.
+    PlanMove,
+    // After the plan a rack is not at its goal.
+    PlanGoal,
+    // The timetable is under 3 bytes, a step runs past its end, or bytes are left over.
+    TimetableLength,
+    // A spare or pad bit of the timetable is set.
+    TimetablePadding,
+    // A step is not legal.
+    TimetableStep,
+    // After the timetable a rack is not at its goal.
+    TimetableGoal,
+    // The timetable buffer is shorter than 3 × k + 3 bytes.
+    TimetableBuffer,
+    // Step 0, or a step above s, was requested.
+    StepNumber,
+}
+
+// Document 01's number of a fault.
+pub fn number(fault: Fault) -> u64
+    ensures { λ r. ⌜ r ≡ numberOf fault ⌝ }
+{
+    match fault {
+        Fault::OrderLength => 10,
+        Fault::OrderPositions => 11,
+        Fault::OrderPadding => 12,
+        Fault::OrderEdge => 13,
+        Fault::OrderRack => 14,
+        Fault::FloorCrowded => 20,
+        Fault::FloorNotBiconnected => 21,
+        Fault::FloorRing => 22,
+        Fault::PlanBuffer => 23,
+        Fault::PlanLength => 30,
+        Fault::PlanPadding => 31,
+        Fault::PlanMove => 32,
+        Fault::PlanGoal => 33,
+        Fault::TimetableLength => 40,
+        Fault::TimetablePadding => 41,
+        Fault::TimetableStep => 42,
+        Fault::TimetableGoal => 43,
+        Fault::TimetableBuffer => 44,
+        Fault::StepNumber => 45,
+    }
+}
+
+// A short word: its bytes are the first `len` of `bytes`.
+pub struct Word {
+    pub bytes: [u8; 9],
+    pub len: usize,
+}
+
+// The family word of a refusal number.
+pub fn family_word(number: u64) -> Word
+    ensures { λ r. ⌜ take (r .len) (r .bytes) ≡ familyWord number ⌝ }
+{
+    match number {
+        10..=19 => Word { bytes: [b'o', b'r', b'd', b'e', b'r', 0, 0, 0, 0], len: 5 },
+        20..=29 => Word { bytes: [b'f', b'l', b'o', b'o', b'r', 0, 0, 0, 0], len: 5 },
+        30..=39 => Word { bytes: [b'p', b'l', b'a', b'n', 0, 0, 0, 0, 0], len: 4 },
+        40..=49 => Word { bytes: [b't', b'i', b'm', b'e', b't', b'a', b'b', b'l', b'e'], len: 9 },
+        _ => Word { bytes: [b'o', b't', b'h', b'e', b'r', 0, 0, 0, 0], len: 5 },
+    }
+}

@@ -1,0 +1,21 @@
+-- `controller::refusal` meets its contract: a fault's number is at most 45, so the sum fits. Assumes nothing.
+use native.Mathlib.Omega.{arith}
+use Rattle.answers.specs.AnswerLaws.{numberOf-le}
+use borrow.Author.Needs.{needs}
+use Rattle.controller.proofs.refusal.Statement.{statement}
+use Rattle.controller.proofs.refusal.Tie as tie
+
+number-requires : tie.Need-number-requires
+number-requires c κs = search needs
+
+mul-result : tie.Need-mul-result
+mul-result c = search needs
+
+add-result : tie.Need-add-result
+add-result c = omega (arith, numberOf-le (c .before .args .fault))
+
+returns : tie.Need-returns
+returns c = search needs
+
+pub refusal-spec : {M : Type 1} → statement M
+refusal-spec = tie.close (tie.spec number-requires mul-result add-result returns)

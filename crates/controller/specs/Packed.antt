@@ -1,0 +1,16 @@
+-- The one number that a C caller gets, from include/wichteab.h: "The low 8 bits are the number: 0 for accepted, else document 01's
+-- number; the rest" is the place of a refusal, or what the function says of an accepted input.
+--
+--     packed rest a    the answer a as one number, where `rest` makes one number of the counts of an accepted input
+--     nothing          no counts are given
+-- Assumes nothing.
+use Prim.Native.Nat.{ℕ, _+_, _*_}
+use mathlib.Core.List.{List}
+use Rattle.answers.specs.Answer.{Answer, accepted, refused}
+
+abbrev pub packed : (List ℕ → ℕ) → Answer → ℕ
+packed rest (accepted counts) = rest counts * 256
+packed rest (refused number place) = number + place * 256
+
+abbrev pub nothing : List ℕ → ℕ
+nothing counts = 0

@@ -1,0 +1,26 @@
+-- Arrangements of racks, from document 01, "The floor": "Racks are numbered from 1 to m. A position holds at most one rack."
+-- In the field's terms a rack is an agent (a pebble), and an arrangement is Surynek's function S from agents to vertices.
+--
+--     Arrangement      the position of each rack: a list, rack 1's position first
+--     stands A r       where rack r stands, racks counted from 1
+--     occupied A p     some rack stands at p
+--     vacant A p       no rack stands at p
+-- Assumes nothing.
+use Prim.Native.Nat.{ℕ, _-_}
+use mathlib.Core.Bool.{Bool, false, not, _||_}
+use mathlib.Core.List.{List, [], _∷_}
+use lib.ListN.{getD}
+use lib.Dec.{eqb}
+
+abbrev pub Arrangement : Type 0
+Arrangement = List ℕ
+
+unfoldable pub stands : Arrangement → ℕ → ℕ
+stands A r = getD A (r - 1) 0
+
+unfoldable pub occupied : Arrangement → ℕ → Bool
+occupied [] p = false
+occupied (q ∷ A) p = eqb q p || occupied A p
+
+unfoldable pub vacant : Arrangement → ℕ → Bool
+vacant A p = not (occupied A p)

@@ -1,0 +1,34 @@
+-- Moves, from document 01, "Legal moves and steps". A move is a pair: the position left, then the position entered.
+--
+--     onFloor F m       both positions of m are below n and an edge joins them
+--     legalMove F A m   m is legal on the arrangement A of the floor F
+--     goesTo ms p       where a rack that stands at p is taken by the moves ms, made all at once
+--     after A ms        the arrangement that the moves ms, made all at once, make of A
+--     afterMove A m     the arrangement that the one move m makes of A
+-- Assumes nothing.
+use Prim.Native.Nat.{ℕ}
+use mathlib.Core.Bool.{Bool, cond, _&&_}
+use mathlib.Core.List.{List, [], _∷_, map}
+use lib.Dec.{ltb, eqb}
+use Rattle.order.specs.Floor.{Floor, joined}
+use Rattle.motion.specs.Arrangement.{Arrangement, occupied, vacant}
+
+-- "both positions are below n, an edge joins them"
+unfoldable pub onFloor : Floor → ℕ × ℕ → Bool
+onFloor F m = ltb (m .0) (F .positions) && ltb (m .1) (F .positions) && joined F (m .0) (m .1)
+
+-- "A move is legal if both positions are below n, an edge joins them, the first holds a rack and the second is vacant."
+unfoldable pub legalMove : Floor → Arrangement → ℕ × ℕ → Bool
+legalMove F A m = onFloor F m && occupied A (m .0) && vacant A (m .1)
+
+unfoldable pub goesTo : List (ℕ × ℕ) → ℕ → ℕ
+goesTo [] p = p
+goesTo (m ∷ ms) p = cond (eqb p (m .0)) (m .1) (goesTo ms p)
+
+-- "takes the rack at the position left to the position entered and leaves all others where they are; a legal step does so
+-- for all its moves at once"
+unfoldable pub after : Arrangement → List (ℕ × ℕ) → Arrangement
+after A ms = map (goesTo ms) A
+
+unfoldable pub afterMove : Arrangement → ℕ × ℕ → Arrangement
+afterMove A m = after A (m ∷ [])

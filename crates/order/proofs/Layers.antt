@@ -1,0 +1,158 @@
+-- The order reader's layers: what each reader answers, from the lower reader's answer and its own test.
+--
+--     HeadGave s n e m, head-gave    what an accepted head tells
+--     edges-wrong, edges-right       13
+--     order-is                       the table of document 01 as the last layer above the edge reader
+--     starts-wrong, goals-wrong, racks-right    14
+-- Assumes nothing.
+use Prim.Native.Nat.{ℕ, _+_, _-_, _*_, _/_, _≤_, _<_}
+use mathlib.Core.Path.{_≡_, refl, sym, ap, ap₂, _∙_}
+use mathlib.Core.Bool.{Bool, true, false, not, _||_, or-true}
+use mathlib.Core.List.{List, [], _∷_}
+use native.Mathlib.Omega.{arith}
+use native.Mathlib.Nat.{add-assoc}
+use lib.ListN.{length, take, drop, length-drop}
+use borrow.Author.Tests.{not-true, not-false}
+use Rattle.answers.specs.Answer.{Answer, accepted, refused, refuse, passUp}
+use Rattle.answers.specs.AnswerLaws.{refuse-not, refuse-else, passUp-low, passUp-high, passUp-accepted}
+use Rattle.field.specs.Bits.{field, pairs, positions}
+use Rattle.field.specs.BitLaws.{field-lt}
+use Rattle.field.specs.RecordLaws.{rest-is, pairs-drop, positions-drop}
+use Rattle.order.specs.Floor.{Floor}
+use Rattle.order.specs.Order.{positionCount, edgeCount, rackCount, floorOf, startsOf, goalsOf, orderOf, counts, wrongLength, wrongPositions, paddingSet, wrongEdges, wrongPlaces, wrongRacks, orderAnswer}
+use Rattle.order.specs.OrderLaws.{RightHead, right-head}
+use Rattle.order.specs.Readers.{headAnswer, edgesAnswer}
+
+-- what the head reader's acceptance with n, e and m tells
+pub record HeadGave (s : List ℕ) (n e m : ℕ) : Type 0 where
+  pub head : RightHead s
+  pub positions-are : n ≡ positionCount s
+  pub edges-are : e ≡ edgeCount s
+  pub racks-are : m ≡ rackCount s
+  pub edges-below : edgeCount s < 256
+  pub racks-below : rackCount s < 128
+
+head-of : (s v : List ℕ) → headAnswer s ≡ accepted v → RightHead s × (accepted (counts s) ≡ accepted v)
+unfolding headAnswer
+head-of s v e =
+    let a₂ = refuse (paddingSet s) 12 0 (accepted (counts s)) in
+    let a₁ = refuse (wrongPositions s) 11 0 a₂ in
+    let e₁ : a₁ ≡ accepted v = refuse-else (wrongLength s) 10 0 a₁ v e in
+    let e₂ : a₂ ≡ accepted v = refuse-else (wrongPositions s) 11 0 a₂ v e₁ in
+    (right-head s (refuse-not (wrongLength s) 10 0 a₁ v e) (refuse-not (wrongPositions s) 11 0 a₂ v e₁), refuse-else (paddingSet s) 12 0 (accepted (counts s)) v e₂)
+
+pub head-gave : (s : List ℕ) (n e m : ℕ) → accepted (n ∷ e ∷ m ∷ []) ≡ headAnswer s → HeadGave s n e m
+unfolding counts edgeCount rackCount
+head-gave s n e m a =
+    let same = head-of s (n ∷ e ∷ m ∷ []) (sym a) .1 in
+    record {
+      head = head-of s (n ∷ e ∷ m ∷ []) (sym a) .0;
+      positions-are = cc same;
+      edges-are = cc same;
+      racks-are = cc same;
+      edges-below = field-lt s 7 8;
+      racks-below = field-lt s 15 7 }
+
+module _ (s : List ℕ) (n e m : ℕ) (gave : HeadGave s n e m) where
+  pub tail-there : 3 ≤ length s
+  tail-there = gave .head .head-there
+
+  pub tail-room : 12 * (e + m) ≤ 8 * length (take (length s - 3) (drop 3 s))
+  tail-room = rw (rest-is 3 s, length-drop 3 s) (omega (arith, gave .head .length-is))
+
+  floor-is : record { positions = n; edges = pairs (take (length s - 3) (drop 3 s)) 0 e } ≡ floorOf s
+  unfolding floorOf
+  floor-is = rw (rest-is 3 s, ← pairs-drop s 3 0 e, gave .positions-are, gave .edges-are) refl
+
+  counts-are : n ∷ e ∷ m ∷ [] ≡ counts s
+  unfolding counts
+  counts-are = rw (gave .positions-are, gave .edges-are, gave .racks-are) refl
+
+  module _ (a : accepted (n ∷ e ∷ m ∷ []) ≡ headAnswer s) (r : Bool) (t : r ≡ not (wrongEdges (record { positions = n; edges = pairs (take (length s - 3) (drop 3 s)) 0 e }))) where
+    edges-test : r ≡ not (wrongEdges (floorOf s))
+    edges-test = t ∙ ap (λ (F : Floor). not (wrongEdges F)) floor-is
+
+    over : edgesAnswer s ≡ refuse (wrongEdges (floorOf s)) 13 0 (accepted (counts s))
+    unfolding edgesAnswer
+    over = passUp-accepted (headAnswer s) _ (n ∷ e ∷ m ∷ []) (sym a)
+
+    pub edges-wrong : r ≡ false → refused 13 0 ≡ edgesAnswer s
+    edges-wrong f = sym (over ∙ rw (not-false (wrongEdges (floorOf s)) (sym edges-test ∙ f)) refl)
+
+    pub edges-right : r ≡ true → accepted (n ∷ e ∷ m ∷ []) ≡ edgesAnswer s
+    edges-right f = ap accepted counts-are ∙ sym (over ∙ rw (not-true (wrongEdges (floorOf s)) (sym edges-test ∙ f)) refl)
+
+pub order-is : (s : List ℕ) → orderAnswer s ≡ passUp (edgesAnswer s) (refuse (wrongRacks (orderOf s)) 14 0 (accepted (counts s)))
+unfolding orderAnswer edgesAnswer headAnswer
+order-is s = chain (wrongLength s) (wrongPositions s) (paddingSet s) (wrongEdges (floorOf s)) (refuse (wrongRacks (orderOf s)) 14 0 (accepted (counts s)))
+  where
+    chain : (a b c d : Bool) (rest : Answer)
+        → refuse a 10 0 (refuse b 11 0 (refuse c 12 0 (refuse d 13 0 rest)))
+        ≡ passUp (passUp (refuse a 10 0 (refuse b 11 0 (refuse c 12 0 (accepted (counts s))))) (refuse d 13 0 (accepted (counts s)))) rest
+    chain true b c d rest = refl
+    chain false true c d rest = refl
+    chain false false true d rest = refl
+    chain false false false true rest = refl
+    chain false false false false rest = refl
+
+pub edges-gave : (s : List ℕ) (n e m : ℕ) → accepted (n ∷ e ∷ m ∷ []) ≡ edgesAnswer s → HeadGave s n e m
+unfolding edgesAnswer
+edges-gave s n e m a = head-gave s n e m (ap accepted same ∙ sym head-accepted)
+  where
+    low : (w : List ℕ) × (headAnswer s ≡ accepted w)
+    low = passUp-low (headAnswer s) (refuse (wrongEdges (floorOf s)) 13 0 (accepted (counts s))) (n ∷ e ∷ m ∷ []) (sym a)
+
+    own : accepted (counts s) ≡ accepted (low .0)
+    own = head-of s (low .0) (low .1) .1
+
+    rest : accepted (counts s) ≡ accepted (n ∷ e ∷ m ∷ [])
+    rest = refuse-else (wrongEdges (floorOf s)) 13 0 (accepted (counts s)) (n ∷ e ∷ m ∷ []) (passUp-high (headAnswer s) (refuse (wrongEdges (floorOf s)) 13 0 (accepted (counts s))) (n ∷ e ∷ m ∷ []) (sym a))
+
+    same : n ∷ e ∷ m ∷ [] ≡ counts s
+    same = cc rest
+
+    head-accepted : headAnswer s ≡ accepted (counts s)
+    head-accepted = low .1 ∙ sym own
+
+module _ (s : List ℕ) (n e m : ℕ) (a : accepted (n ∷ e ∷ m ∷ []) ≡ edgesAnswer s) where
+  gave : HeadGave s n e m
+  gave = edges-gave s n e m a
+
+  over-edges : orderAnswer s ≡ refuse (wrongRacks (orderOf s)) 14 0 (accepted (counts s))
+  over-edges = order-is s ∙ passUp-accepted (edgesAnswer s) (refuse (wrongRacks (orderOf s)) 14 0 (accepted (counts s))) (n ∷ e ∷ m ∷ []) (sym a)
+
+  -- the starts and the goals, read from the part that begins at the fourth byte
+  starts-are : positions (take (length s - 3) (drop 3 s)) (6 * (2 * e)) m ≡ startsOf s
+  unfolding startsOf
+  starts-are =
+      let at : 6 * (2 * e) ≡ 12 * edgeCount s = omega (arith, gave .edges-are) in
+      rw (rest-is 3 s, at, ← positions-drop s 3 (12 * edgeCount s) m, gave .racks-are) refl
+
+  goals-are : positions (take (length s - 3) (drop 3 s)) (6 * (2 * e + m)) m ≡ goalsOf s
+  unfolding goalsOf
+  goals-are =
+      let at : 6 * (2 * e + m) ≡ 12 * edgeCount s + 6 * rackCount s = omega (arith, gave .edges-are, gave .racks-are) in
+      rw (rest-is 3 s, at, ← positions-drop s 3 (12 * edgeCount s + 6 * rackCount s) m, gave .racks-are)
+      (ap (λ (i : ℕ). positions s i (rackCount s)) (sym (add-assoc 24 (12 * edgeCount s) (6 * rackCount s))))
+
+  module _ (r : Bool) (t : r ≡ not (wrongPlaces n (positions (take (length s - 3) (drop 3 s)) (6 * (2 * e)) m))) where
+    starts-test : r ≡ not (wrongPlaces (positionCount s) (startsOf s))
+    starts-test = t ∙ ap not (ap₂ wrongPlaces (gave .positions-are) starts-are)
+
+    pub starts-wrong : r ≡ false → refused 14 0 ≡ orderAnswer s
+    unfolding wrongRacks orderOf floorOf
+    starts-wrong f = sym (over-edges ∙ rw (not-false (wrongPlaces (positionCount s) (startsOf s)) (sym starts-test ∙ f)) refl)
+
+    module _ (q : Bool) (u : q ≡ not (wrongPlaces n (positions (take (length s - 3) (drop 3 s)) (6 * (2 * e + m)) m))) where
+      goals-test : q ≡ not (wrongPlaces (positionCount s) (goalsOf s))
+      goals-test = u ∙ ap not (ap₂ wrongPlaces (gave .positions-are) goals-are)
+
+      pub goals-wrong : q ≡ false → refused 14 0 ≡ orderAnswer s
+      unfolding wrongRacks orderOf floorOf
+      goals-wrong f = sym (over-edges ∙ simp (not-false (wrongPlaces (positionCount s) (goalsOf s)) (sym goals-test ∙ f), or-true))
+
+      pub racks-right : r ≡ true → q ≡ true → accepted (n ∷ e ∷ m ∷ []) ≡ orderAnswer s
+      unfolding wrongRacks orderOf floorOf
+      racks-right f g =
+          ap accepted (counts-are s n e m gave)
+          ∙ sym (over-edges ∙ rw (not-true (wrongPlaces (positionCount s) (startsOf s)) (sym starts-test ∙ f), not-true (wrongPlaces (positionCount s) (goalsOf s)) (sym goals-test ∙ g)) refl)

@@ -1,0 +1,68 @@
+-- `order::mark_edges` meets its contract. The loop's invariant: what is left to mark decides the matrix at the end. Assumes nothing.
+use Prim.Native.Nat.{_≤_, _-_, _+_, _*_}
+use native.Mathlib.Omega.{arith}
+use borrow.Author.Needs.{needs}
+use Rattle.order.proofs.Tables.{ToMark, mark-first, mark-next, mark-last}
+use Rattle.order.proofs.mark_edges.Statement.{statement}
+use Rattle.order.proofs.mark_edges.Tie as tie
+
+abbrev Inv-loop : tie.InvT-loop
+Inv-loop tail e matrix₀ j₀ matrix j = (j ≤ e) × ToMark tail e matrix₀ matrix j
+
+abbrev μ-loop : tie.MeasureT-loop
+μ-loop tail e matrix₀ j₀ matrix j = e - j
+
+loop-holds : tie.Need-loop-holds Inv-loop μ-loop
+loop-holds c = (omega arith, mark-first (c .before .args .tail .now) (c .before .args .e) (c .before .args .matrix .now))
+
+pair-at-requires : tie.Need-pair-at-requires Inv-loop μ-loop
+pair-at-requires c κs = omega arith
+
+mul-matrix : tie.Need-mul-matrix Inv-loop μ-loop
+mul-matrix c = omega arith
+
+add-matrix : tie.Need-add-matrix Inv-loop μ-loop
+add-matrix c = omega arith
+
+element-write-matrix : tie.Need-element-write-matrix Inv-loop μ-loop
+element-write-matrix c = omega arith
+
+mul-matrix-2 : tie.Need-mul-matrix-2 Inv-loop μ-loop
+mul-matrix-2 c = omega arith
+
+add-matrix-2 : tie.Need-add-matrix-2 Inv-loop μ-loop
+add-matrix-2 c = omega arith
+
+element-write-matrix-2 : tie.Need-element-write-matrix-2 Inv-loop μ-loop
+element-write-matrix-2 c = omega arith
+
+add-j : tie.Need-add-j Inv-loop μ-loop
+add-j c = omega arith
+
+loop-less : tie.Need-loop-less Inv-loop μ-loop
+loop-less c = omega arith
+
+loop-again : tie.Need-loop-again Inv-loop μ-loop
+loop-again c = (omega arith, mark-next (c .before .before .before .before .args .tail .now) (c .before .before .before .before .args .e) (c .before .before .before .before .args .matrix .now) (c .before .before .loop .matrix) (c .before .before .loop .j) (c .pair-at .result .first) (c .pair-at .result .second) (c .before .before .loop .inv .1) (omega arith) (c .pair-at .ensures .first-is) (c .pair-at .ensures .second-is))
+
+returns : tie.Need-returns Inv-loop μ-loop
+returns c = mark-last (c .before .before .before .args .tail .now) (c .before .before .before .args .e) (c .before .before .before .args .matrix .now) (c .before .loop .matrix) (c .before .loop .j) (c .before .loop .inv .1) (omega arith)
+
+pub mark-edges-spec : {M : Type 1} → statement M
+mark-edges-spec =
+    tie.close
+    (tie.spec
+    Inv-loop
+    μ-loop
+    loop-holds
+    pair-at-requires
+    mul-matrix
+    add-matrix
+    element-write-matrix
+    mul-matrix-2
+    add-matrix-2
+    element-write-matrix-2
+    add-j
+    loop-less
+    loop-again
+    returns)

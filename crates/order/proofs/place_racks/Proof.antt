@@ -1,0 +1,60 @@
+-- `order::place_racks` meets its contract. The loop's invariant: what is left to place decides the table at the end. Assumes nothing.
+use Prim.Native.Nat.{_≤_, _-_, _+_}
+use native.Mathlib.Omega.{arith}
+use borrow.Author.Needs.{needs}
+use Rattle.order.proofs.Tables.{ToPlace, place-first, place-next, place-last}
+use Rattle.order.proofs.place_racks.Statement.{statement}
+use Rattle.order.proofs.place_racks.Tie as tie
+
+abbrev Inv-loop : tie.InvT-loop
+Inv-loop tail from m racks₀ i₀ racks i = (i ≤ m) × ToPlace tail from m racks₀ racks i
+
+abbrev μ-loop : tie.MeasureT-loop
+μ-loop tail from m racks₀ i₀ racks i = m - i
+
+loop-holds : tie.Need-loop-holds Inv-loop μ-loop
+loop-holds c = (omega arith, place-first (c .before .args .tail .now) (c .before .args .from) (c .before .args .m) (c .before .args .racks .now))
+
+add-position-at : tie.Need-add-position-at Inv-loop μ-loop
+add-position-at c = omega arith
+
+position-at-requires : tie.Need-position-at-requires Inv-loop μ-loop
+position-at-requires c κs = omega arith
+
+add-racks : tie.Need-add-racks Inv-loop μ-loop
+add-racks c = omega arith
+
+cast-racks : tie.Need-cast-racks Inv-loop μ-loop
+cast-racks c = omega arith
+
+element-write-racks : tie.Need-element-write-racks Inv-loop μ-loop
+element-write-racks c = omega arith
+
+add-i : tie.Need-add-i Inv-loop μ-loop
+add-i c = omega arith
+
+loop-less : tie.Need-loop-less Inv-loop μ-loop
+loop-less c = omega arith
+
+loop-again : tie.Need-loop-again Inv-loop μ-loop
+loop-again c = (omega arith, place-next (c .before .before .before .before .args .tail .now) (c .before .before .before .before .args .from) (c .before .before .before .before .args .m) (c .before .before .before .before .args .racks .now) (c .before .before .loop .racks) (c .before .before .loop .i) (c .position-at .result) (c .before .before .loop .inv .1) (omega arith) (c .position-at .ensures .is))
+
+returns : tie.Need-returns Inv-loop μ-loop
+returns c = place-last (c .before .before .before .args .tail .now) (c .before .before .before .args .from) (c .before .before .before .args .m) (c .before .before .before .args .racks .now) (c .before .loop .racks) (c .before .loop .i) (c .before .loop .inv .1) (omega arith)
+
+pub place-racks-spec : {M : Type 1} → statement M
+place-racks-spec =
+    tie.close
+    (tie.spec
+    Inv-loop
+    μ-loop
+    loop-holds
+    add-position-at
+    position-at-requires
+    add-racks
+    cast-racks
+    element-write-racks
+    add-i
+    loop-less
+    loop-again
+    returns)

@@ -1,0 +1,64 @@
+-- `order::read_edges` meets its contract: a refusal of the head reader is passed up, and `Layers` has the answers above an accepted head.
+-- Assumes nothing.
+use native.Mathlib.Omega.{arith}
+use borrow.Author.Tests.{not-true, not-false}
+use mathlib.Core.Path.{ap, sym, _∙_}
+use Rattle.answers.specs.AnswerLaws.{passUp-refused}
+use Rattle.order.specs.Readers.{edgesAnswer}
+use Rattle.order.specs.Verdict.{answerOf}
+use Rattle.order.proofs.Layers.{head-gave, tail-there, tail-room, edges-wrong, edges-right}
+use borrow.Author.Needs.{needs}
+use Rattle.order.proofs.read_edges.Statement.{statement}
+use Rattle.order.proofs.read_edges.Tie as tie
+
+read-head-requires : tie.Need-read-head-requires
+read-head-requires c κs = search needs
+
+enum-known-head : tie.Need-enum-known-head
+enum-known-head c = search needs
+
+enum-told : tie.Need-enum-told
+enum-told c = search needs
+
+returns : tie.Need-returns
+unfolding edgesAnswer
+returns c =
+    c .before .before .read-head .ensures ∙ passUp-refused _ _ _ _ (sym (c .before .before .read-head .ensures) ∙ ap answerOf (c .enum-told .given .1))
+
+sub-edges-sound : tie.Need-sub-edges-sound
+sub-edges-sound c =
+    tail-there (c .before .before .before .before .before .args .order .now) (c .before .head .given .0 .0 .positions) (c .before .head .given .0 .0 .edges) (c .before .head .given .0 .0 .racks) (head-gave (c .before .before .before .before .before .args .order .now) (c .before .head .given .0 .0 .positions) (c .before .head .given .0 .0 .edges) (c .before .head .given .0 .0 .racks) (ap answerOf (sym (c .before .head .given .1)) ∙ c .before .before .before .read-head .ensures))
+
+part-edges-sound-start : tie.Need-part-edges-sound-start
+part-edges-sound-start c =
+    tail-there (c .before .before .before .before .before .args .order .now) (c .before .head .given .0 .0 .positions) (c .before .head .given .0 .0 .edges) (c .before .head .given .0 .0 .racks) (head-gave (c .before .before .before .before .before .args .order .now) (c .before .head .given .0 .0 .positions) (c .before .head .given .0 .0 .edges) (c .before .head .given .0 .0 .racks) (ap answerOf (sym (c .before .head .given .1)) ∙ c .before .before .before .read-head .ensures))
+
+part-edges-sound-end : tie.Need-part-edges-sound-end
+part-edges-sound-end c = search needs
+
+edges-sound-requires : tie.Need-edges-sound-requires
+edges-sound-requires c κs =
+    omega (arith, tail-room (c .before .before .before .before .before .before .args .order .now) (c .before .before .head .given .0 .0 .positions) (c .before .before .head .given .0 .0 .edges) (c .before .before .head .given .0 .0 .racks) (head-gave (c .before .before .before .before .before .before .args .order .now) (c .before .before .head .given .0 .0 .positions) (c .before .before .head .given .0 .0 .edges) (c .before .before .head .given .0 .0 .racks) (ap answerOf (sym (c .before .before .head .given .1)) ∙ c .before .before .before .before .read-head .ensures)))
+
+returns-2 : tie.Need-returns-2
+returns-2 c =
+    edges-wrong (c .before .before .before .before .before .before .before .before .args .order .now) (c .before .before .before .before .head .given .0 .0 .positions) (c .before .before .before .before .head .given .0 .0 .edges) (c .before .before .before .before .head .given .0 .0 .racks) (head-gave (c .before .before .before .before .before .before .before .before .args .order .now) (c .before .before .before .before .head .given .0 .0 .positions) (c .before .before .before .before .head .given .0 .0 .edges) (c .before .before .before .before .head .given .0 .0 .racks) (ap answerOf (sym (c .before .before .before .before .head .given .1)) ∙ c .before .before .before .before .before .before .read-head .ensures)) (ap answerOf (sym (c .before .before .before .before .head .given .1)) ∙ c .before .before .before .before .before .before .read-head .ensures) (c .before .edges-sound .result) (c .before .edges-sound .ensures) (not-true _ (c .if1 .taken))
+
+returns-3 : tie.Need-returns-3
+returns-3 c =
+    edges-right (c .before .before .before .before .before .before .before .before .args .order .now) (c .before .before .before .before .head .given .0 .0 .positions) (c .before .before .before .before .head .given .0 .0 .edges) (c .before .before .before .before .head .given .0 .0 .racks) (head-gave (c .before .before .before .before .before .before .before .before .args .order .now) (c .before .before .before .before .head .given .0 .0 .positions) (c .before .before .before .before .head .given .0 .0 .edges) (c .before .before .before .before .head .given .0 .0 .racks) (ap answerOf (sym (c .before .before .before .before .head .given .1)) ∙ c .before .before .before .before .before .before .read-head .ensures)) (ap answerOf (sym (c .before .before .before .before .head .given .1)) ∙ c .before .before .before .before .before .before .read-head .ensures) (c .before .edges-sound .result) (c .before .edges-sound .ensures) (not-false _ (c .if1 .left))
+
+pub read-edges-spec : {M : Type 1} → statement M
+read-edges-spec =
+    tie.close
+    (tie.spec
+    read-head-requires
+    enum-known-head
+    enum-told
+    returns
+    sub-edges-sound
+    part-edges-sound-start
+    part-edges-sound-end
+    edges-sound-requires
+    returns-2
+    returns-3)
