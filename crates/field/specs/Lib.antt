@@ -1,3 +1,5 @@
 pub mod Bits
 pub mod BitLaws
 pub mod RecordLaws
+pub mod Units
+pub mod UnitLaws

@@ -1,9 +1,11 @@
 // Bit fields of byte strings, most significant bit first: the fields that the records are made of (document 01, "Records").
 // specs/Bits.antt says what a field is; specs/BitLaws.antt reduces any field to bytes.
 ghost use mathlib.Core.Path.{_≡_};
-ghost use Prim.Native.Nat.{_+_, _*_, _≤_, _<_};
+ghost use mathlib.Core.Bool.{not, false};
+ghost use Prim.Native.Nat.{_+_, _*_, _^_, _≤_, _<_};
 ghost use lib.ListN.{length};
 ghost use Rattle.field.specs.Bits.{field, pad, PositionAt, PairAt};
+ghost use Rattle.field.specs.Units.{misfits, unclean};
 
 // Two positions that stand one after the other: an edge or a move.
 pub struct Pair {
@@ -84,4 +86,32 @@ pub fn pad_after(s: &[u8], k: usize) -> usize
         return 0;
     }
     wide(s[k / 2 * 3 + 1]) % 16
+}
+
+// Whether a byte string is as long as a record of u units.
+pub fn units_fit(s: &[u8], u: usize) -> bool
+    requires { ⌜ u < 2 ^ 32 ⌝ }
+    ensures { λ r. ⌜ r ≡ not (misfits (now (s .entry)) u) ⌝ }
+{
+    if s.len() < 3 {
+        return false;
+    }
+    if s.len() != 3 + (12 * u + 7) / 8 {
+        return false;
+    }
+    true
+}
+
+// Whether no spare or pad bit of a record of u units is set.
+pub fn units_clean(s: &[u8], u: usize) -> bool
+    requires { ⌜ misfits (now s) u ≡ false ⌝ }
+    ensures { λ r. ⌜ r ≡ not (unclean (now (s .entry)) u) ⌝ }
+{
+    if spare_at_head(s) != 0 {
+        return false;
+    }
+    if pad_after(&s[3..], u) != 0 {
+        return false;
+    }
+    true
 }

@@ -2,6 +2,7 @@ pub mod Arrangement
 pub mod Move
 pub mod Step
 pub mod Replay
+pub mod Judgement
 pub mod Lawful
 pub mod Test
 pub mod ArrangementLaws

@@ -2,19 +2,20 @@
 --
 --     head-positions, head-edges, head-racks    the counts of a head, as sums of parts of its three bytes
 --     short, .., sound                          the head reader's answer, from the facts that its tests leave
---     tail-room                                 the edges, starts, goals and their pad take the whole tail
 -- Assumes nothing.
-use Prim.Native.Nat.{ℕ, _+_, _-_, _*_, _/_, _%_, _≤_, _<_}
+use Prim.Native.Nat.{ℕ, _+_, _*_, _/_, _%_, _≤_, _<_}
 use mathlib.Core.Path.{_≡_, refl, sym, ap, ap₂, _∙_}
+use mathlib.Core.Bool.{Bool, true, false, not}
 use mathlib.Core.List.{List, [], _∷_}
+use borrow.Author.Tests.{not-true, not-false}
 use native.Mathlib.Omega.{arith}
-use lib.ListN.{length, getD, take, drop, length-drop}
+use lib.ListN.{length, getD}
 use Rattle.answers.specs.Answer.{Answer, accepted, refused}
-use Rattle.field.specs.Bits.{field, pad}
-use Rattle.field.specs.BitLaws.{field-in-byte, field-across, field-drop}
-use Rattle.field.specs.RecordLaws.{up-to-byte, rest-is}
-use Rattle.order.specs.Order.{CountsOf, positionCount, edgeCount, rackCount, orderLength, counts}
-use Rattle.order.specs.OrderLaws.{short-length, odd-length, right-length, no-positions, many-positions, right-positions, spare-set, pad-set, clear-padding}
+use Rattle.field.specs.BitLaws.{field-in-byte, field-across}
+use Rattle.field.specs.Units.{misfits, unclean}
+use Rattle.field.specs.UnitLaws.{misfits-short}
+use Rattle.order.specs.Order.{CountsOf, positionCount, edgeCount, rackCount, unitCount, wrongLength, wrongPositions, paddingSet, counts}
+use Rattle.order.specs.OrderLaws.{no-positions, many-positions, right-positions}
 use Rattle.order.specs.Readers.{headAnswer}
 
 module _ (s : List ℕ) (h : 3 ≤ length s) (a : getD s 0 0 < 256) (b : getD s 1 0 < 256) (c : getD s 2 0 < 256) where
@@ -31,47 +32,52 @@ module _ (s : List ℕ) (h : 3 ≤ length s) (a : getD s 0 0 < 256) (b : getD s 
   head-racks = field-across s 1 7 1 6 2 (omega arith) refl refl ∙ omega arith
 
 pub short : (s : List ℕ) → length s < 3 → refused 10 0 ≡ headAnswer s
-unfolding headAnswer
-short s h = simp (short-length s h)
+unfolding headAnswer wrongLength
+short s h = simp (misfits-short s (unitCount s) h)
 
 module _ (s : List ℕ) (n e m : ℕ) (are : CountsOf s n e m) where
-  units-are : e + m ≡ edgeCount s + rackCount s
+  units-are : e + m ≡ unitCount s
+  unfolding unitCount
   units-are = omega arith
 
-  by-counts : 3 + (12 * (e + m) + 7) / 8 ≡ orderLength s
-  unfolding orderLength
-  by-counts = ap (λ (k : ℕ). 3 + (12 * k + 7) / 8) units-are
+  module _ (f : Bool) (t : f ≡ not (misfits s (e + m))) where
+    length-test : f ≡ not (wrongLength s)
+    unfolding wrongLength
+    length-test = t ∙ ap (λ (u : ℕ). not (misfits s u)) units-are
 
-  pub wrong-length : (length s ≡ 3 + (12 * (e + m) + 7) / 8 → ⊥) → refused 10 0 ≡ headAnswer s
-  unfolding headAnswer
-  wrong-length d = simp (odd-length s (λ f. d (f ∙ sym by-counts)))
-
-  module _ (h : 3 ≤ length s) (l : length s ≡ 3 + (12 * (e + m) + 7) / 8) where
-    pub tail-room : 12 * (e + m) + pad (12 * (e + m)) ≤ 8 * length (take (length s - 3) (drop 3 s))
-    tail-room = rw (rest-is 3 s, length-drop 3 s, up-to-byte (12 * (e + m))) (omega arith)
-
-    pad-is : field (take (length s - 3) (drop 3 s)) (12 * (e + m)) (pad (12 * (e + m))) ≡ field s (24 + 12 * (e + m)) (pad (12 * (e + m)))
-    pad-is = rw (rest-is 3 s) (sym (field-drop s 3 (12 * (e + m)) (pad (12 * (e + m)))))
-
-    pub none : n ≡ 0 → refused 11 0 ≡ headAnswer s
+    pub wrong-length : f ≡ false → refused 10 0 ≡ headAnswer s
     unfolding headAnswer
-    none z = simp (right-length s h (l ∙ by-counts), no-positions s (omega arith))
+    wrong-length z = simp (not-false (wrongLength s) (sym length-test ∙ z))
 
-    pub many : 64 < n → refused 11 0 ≡ headAnswer s
-    unfolding headAnswer
-    many k = simp (right-length s h (l ∙ by-counts), many-positions s (omega arith))
+    module _ (o : f ≡ true) where
+      right-length : wrongLength s ≡ false
+      right-length = not-true (wrongLength s) (sym length-test ∙ o)
 
-    module _ (some : n ≡ 0 → ⊥) (few : n ≤ 64) where
-      pub spare : (field s 22 2 ≡ 0 → ⊥) → refused 12 0 ≡ headAnswer s
+      pub fitted : misfits s (e + m) ≡ false
+      fitted = not-true (misfits s (e + m)) (sym t ∙ o)
+
+      pub none : n ≡ 0 → refused 11 0 ≡ headAnswer s
       unfolding headAnswer
-      spare d = simp (right-length s h (l ∙ by-counts), right-positions s (λ z. some (are .positions-are ∙ z)) (omega arith), spare-set s d)
+      none z = simp (right-length, no-positions s (omega arith))
 
-      pub padding : (field (take (length s - 3) (drop 3 s)) (12 * (e + m)) (pad (12 * (e + m))) ≡ 0 → ⊥) → refused 12 0 ≡ headAnswer s
+      pub many : 64 < n → refused 11 0 ≡ headAnswer s
       unfolding headAnswer
-      padding d = simp (right-length s h (l ∙ by-counts), right-positions s (λ z. some (are .positions-are ∙ z)) (omega arith), pad-set s (e + m) units-are (λ z. d (pad-is ∙ z)))
+      many k = simp (right-length, many-positions s (omega arith))
 
-      pub sound : field s 22 2 ≡ 0 → field (take (length s - 3) (drop 3 s)) (12 * (e + m)) (pad (12 * (e + m))) ≡ 0 → accepted (n ∷ e ∷ m ∷ []) ≡ headAnswer s
-      unfolding headAnswer counts
-      sound a b =
-          simp (right-length s h (l ∙ by-counts), right-positions s (λ z. some (are .positions-are ∙ z)) (omega arith), clear-padding s (e + m) units-are a (sym pad-is ∙ b))
-          (rw (are .positions-are, are .edges-are, are .racks-are) refl)
+      module _ (some : n ≡ 0 → ⊥) (few : n ≤ 64) (g : Bool) (u : g ≡ not (unclean s (e + m))) where
+        positions-right : wrongPositions s ≡ false
+        positions-right = right-positions s (λ z. some (are .positions-are ∙ z)) (omega arith)
+
+        clean-test : g ≡ not (paddingSet s)
+        unfolding paddingSet
+        clean-test = u ∙ ap (λ (k : ℕ). not (unclean s k)) units-are
+
+        pub padding : g ≡ false → refused 12 0 ≡ headAnswer s
+        unfolding headAnswer
+        padding z = simp (right-length, positions-right, not-false (paddingSet s) (sym clean-test ∙ z))
+
+        pub sound : g ≡ true → accepted (n ∷ e ∷ m ∷ []) ≡ headAnswer s
+        unfolding headAnswer counts
+        sound z =
+            simp (right-length, positions-right, not-true (paddingSet s) (sym clean-test ∙ z))
+            (rw (are .positions-are, are .edges-are, are .racks-are) refl)

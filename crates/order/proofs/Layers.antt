@@ -17,9 +17,10 @@ use Rattle.answers.specs.Answer.{Answer, accepted, refused, refuse, passUp}
 use Rattle.answers.specs.AnswerLaws.{refuse-not, refuse-else, passUp-low, passUp-high, passUp-accepted}
 use Rattle.field.specs.Bits.{field, pairs, positions}
 use Rattle.field.specs.BitLaws.{field-lt}
+use Rattle.field.specs.UnitLaws.{tail-units}
 use Rattle.field.specs.RecordLaws.{rest-is, pairs-drop, positions-drop}
 use Rattle.order.specs.Floor.{Floor}
-use Rattle.order.specs.Order.{positionCount, edgeCount, rackCount, floorOf, startsOf, goalsOf, orderOf, counts, wrongLength, wrongPositions, paddingSet, wrongEdges, wrongPlaces, wrongRacks, orderAnswer}
+use Rattle.order.specs.Order.{positionCount, edgeCount, rackCount, unitCount, floorOf, startsOf, goalsOf, orderOf, counts, wrongLength, wrongPositions, paddingSet, wrongEdges, wrongPlaces, wrongRacks, orderAnswer}
 use Rattle.order.specs.OrderLaws.{RightHead, right-head}
 use Rattle.order.specs.Readers.{headAnswer, edgesAnswer}
 
@@ -55,10 +56,11 @@ head-gave s n e m a =
 
 module _ (s : List ℕ) (n e m : ℕ) (gave : HeadGave s n e m) where
   pub tail-there : 3 ≤ length s
-  tail-there = gave .head .head-there
+  tail-there = gave .head .fit .head-there
 
   pub tail-room : 12 * (e + m) ≤ 8 * length (take (length s - 3) (drop 3 s))
-  tail-room = rw (rest-is 3 s, length-drop 3 s) (omega (arith, gave .head .length-is))
+  unfolding unitCount
+  tail-room = omega (arith, tail-units s (unitCount s) (gave .head .fit), gave .edges-are, gave .racks-are)
 
   floor-is : record { positions = n; edges = pairs (take (length s - 3) (drop 3 s)) 0 e } ≡ floorOf s
   unfolding floorOf

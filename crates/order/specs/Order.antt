@@ -11,14 +11,15 @@
 --     orderAnswer s            the answer for s: the first condition that applies, else accepted
 --     WellFormed s             none of 10 to 14 applies to s
 -- Assumes nothing.
-use Prim.Native.Nat.{ℕ, _+_, _*_, _/_, _<_}
+use Prim.Native.Nat.{ℕ, _+_, _*_, _<_}
 use mathlib.Core.Path.{_≡_}
 use mathlib.Core.Bool.{Bool, true, false, not, _&&_, _||_}
 use mathlib.Core.List.{List, [], _∷_, _++_}
 use lib.ListN.{length}
 use lib.Dec.{leb, ltb, eqb}
 use Rattle.answers.specs.Answer.{Answer, accepted, refuse}
-use Rattle.field.specs.Bits.{bits, field, pairs, positions, pairBits, positionBits, pad, toBytes}
+use Rattle.field.specs.Bits.{bits, field, pairs, positions, pairBits, positionBits, toBytes}
+use Rattle.field.specs.Units.{misfits, unclean}
 use Rattle.order.specs.Floor.{Floor}
 
 -- "An order gives each rack a start and a goal." Rack 1's come first.
@@ -62,23 +63,22 @@ goalsOf s = positions s (24 + 12 * edgeCount s + 6 * rackCount s) (rackCount s)
 unfoldable pub orderOf : List ℕ → Order
 orderOf s = record { floor = floorOf s; starts = startsOf s; goals = goalsOf s }
 
--- "The length is 3 bytes plus 12 × (e + m) bits rounded up to bytes."
-unfoldable pub orderLength : List ℕ → ℕ
-orderLength s = 3 + (12 * (edgeCount s + rackCount s) + 7) / 8
+-- the edges and, in 12 bits each, a start and a goal for each rack
+unfoldable pub unitCount : List ℕ → ℕ
+unitCount s = edgeCount s + rackCount s
 
--- 10: "order under 3 bytes, or its length is not the one its counts give"
+-- 10: "order under 3 bytes, or its length is not the one its counts give". "The length is 3 bytes plus 12 × (e + m) bits rounded up to
+-- bytes."
 unfoldable pub wrongLength : List ℕ → Bool
-wrongLength s = ltb (length s) 3 || not (eqb (length s) (orderLength s))
+wrongLength s = misfits s (unitCount s)
 
 -- 11: "n is 0 or above 64"
 unfoldable pub wrongPositions : List ℕ → Bool
 wrongPositions s = eqb (positionCount s) 0 || ltb 64 (positionCount s)
 
--- 12: "a spare or pad bit of the order is set": as a number, a run of bits is 0 just where none of them is set
+-- 12: "a spare or pad bit of the order is set"
 unfoldable pub paddingSet : List ℕ → Bool
-paddingSet s =
-    let units = edgeCount s + rackCount s in
-    not (eqb (field s 22 2) 0) || not (eqb (field s (24 + 12 * units) (pad (12 * units))) 0)
+paddingSet s = unclean s (unitCount s)
 
 -- some element of the list passes the test
 unfoldable pub some : {X : Type 0} → (X → Bool) → List X → Bool

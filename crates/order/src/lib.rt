@@ -49,7 +49,7 @@ fn read_head(order: &[u8]) -> OrderVerdict
     let counts = counts_of(order);
     let n = counts.positions;
     let units = counts.edges + counts.racks;
-    if order.len() != 3 + (12 * units + 7) / 8 {
+    if !field::units_fit(order, units) {
         return OrderVerdict::Refused(Fault::OrderLength, 0);
     }
     if n == 0 {
@@ -58,10 +58,7 @@ fn read_head(order: &[u8]) -> OrderVerdict
     if 64 < n {
         return OrderVerdict::Refused(Fault::OrderPositions, 0);
     }
-    if field::spare_at_head(order) != 0 {
-        return OrderVerdict::Refused(Fault::OrderPadding, 0);
-    }
-    if field::pad_after(&order[3..], units) != 0 {
+    if !field::units_clean(order, units) {
         return OrderVerdict::Refused(Fault::OrderPadding, 0);
     }
     OrderVerdict::Accepted(counts)

@@ -28,12 +28,12 @@ returns c =
 sub-tail : tie.Need-sub-tail
 sub-tail c =
     let g = edges-gave (c .before .before .before .before .before .args .order .now) (c .before .edges .given .0 .0 .positions) (c .before .edges .given .0 .0 .edges) (c .before .edges .given .0 .0 .racks) (ap answerOf (sym (c .before .edges .given .1)) ∙ c .before .before .before .read-edges .ensures) in
-    g .head .head-there
+    g .head .fit .head-there
 
 part-tail-start : tie.Need-part-tail-start
 part-tail-start c =
     let g = edges-gave (c .before .before .before .before .before .args .order .now) (c .before .edges .given .0 .0 .positions) (c .before .edges .given .0 .0 .edges) (c .before .edges .given .0 .0 .racks) (ap answerOf (sym (c .before .edges .given .1)) ∙ c .before .before .before .read-edges .ensures) in
-    g .head .head-there
+    g .head .fit .head-there
 
 part-tail-end : tie.Need-part-tail-end
 part-tail-end c = search needs

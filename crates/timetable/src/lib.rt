@@ -1,0 +1,1 @@
+// The timetable checker and the step reader.
