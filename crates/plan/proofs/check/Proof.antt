@@ -1,0 +1,92 @@
+-- `plan::check` meets its contract: a refusal of the order reader or of the record reader is passed up, and `Layers` has the judgement
+-- above their acceptance. Assumes nothing.
+use native.Mathlib.Omega.{arith}
+use mathlib.Core.Path.{ap, sym, _∙_}
+use mathlib.Core.List.{[], _∷_}
+use Rattle.order.specs.Verdict.{answerOf as orderAnswerOf}
+use Rattle.plan.specs.Verdict.{answerOf}
+use Rattle.plan.proofs.Layers.{order-refused, record-refused, order-gave, record-gave, order-room, plan-room, answer-is}
+use borrow.Author.Needs.{needs}
+use Rattle.plan.proofs.check.Statement.{statement}
+use Rattle.plan.proofs.check.Tie as tie
+
+read-requires : tie.Need-read-requires
+read-requires c κs = search needs
+
+enum-known-below : tie.Need-enum-known-below
+enum-known-below c = search needs
+
+enum-told : tie.Need-enum-told
+enum-told c = search needs
+
+refusal-requires : tie.Need-refusal-requires
+refusal-requires c κs = search needs
+
+returns : tie.Need-returns
+returns c =
+    order-refused (c .before .before .before .before .before .before .args .order .now) (c .before .before .before .before .before .before .args .plan .now) _ _ _ _ (c .before .before .before .read .ensures) (ap orderAnswerOf (c .before .enum-told .given .1)) (c .refusal .ensures)
+
+read-record-requires : tie.Need-read-record-requires
+read-record-requires c κs = search needs
+
+enum-known-head : tie.Need-enum-known-head
+enum-known-head c = search needs
+
+enum-told-2 : tie.Need-enum-told-2
+enum-told-2 c = search needs
+
+returns-2 : tie.Need-returns-2
+returns-2 c =
+    record-refused (c .before .before .before .before .before .before .before .before .before .args .order .now) (c .before .before .before .before .before .before .before .before .before .args .plan .now) _ _ _ _ (ap orderAnswerOf (sym (c .before .before .before .before .below .given .1)) ∙ c .before .before .before .before .before .before .read .ensures) (c .before .before .read-record .ensures) (ap answerOf (c .enum-told2 .given .1))
+
+sub-judge : tie.Need-sub-judge
+sub-judge c =
+    order-gave (c .before .before .before .before .before .before .before .before .before .before .args .order .now) (c .before .before .before .before .before .below .given .0 .0 .positions) (c .before .before .before .before .before .below .given .0 .0 .edges) (c .before .before .before .before .before .below .given .0 .0 .racks) (ap orderAnswerOf (sym (c .before .before .before .before .before .below .given .1)) ∙ c .before .before .before .before .before .before .before .read .ensures) .fit .head-there
+
+part-judge-start : tie.Need-part-judge-start
+part-judge-start c =
+    order-gave (c .before .before .before .before .before .before .before .before .before .before .args .order .now) (c .before .before .before .before .before .below .given .0 .0 .positions) (c .before .before .before .before .before .below .given .0 .0 .edges) (c .before .before .before .before .before .below .given .0 .0 .racks) (ap orderAnswerOf (sym (c .before .before .before .before .before .below .given .1)) ∙ c .before .before .before .before .before .before .before .read .ensures) .fit .head-there
+
+part-judge-end : tie.Need-part-judge-end
+part-judge-end c = search needs
+
+sub-judge-2 : tie.Need-sub-judge-2
+sub-judge-2 c =
+    record-gave (c .before .before .before .before .before .before .before .before .before .before .before .args .plan .now) (c .before .before .head .given .0 .0) (ap answerOf (sym (c .before .before .head .given .1)) ∙ c .before .before .before .before .read-record .ensures) .fit .head-there
+
+part-judge-start-2 : tie.Need-part-judge-start-2
+part-judge-start-2 c =
+    record-gave (c .before .before .before .before .before .before .before .before .before .before .before .args .plan .now) (c .before .before .head .given .0 .0) (ap answerOf (sym (c .before .before .head .given .1)) ∙ c .before .before .before .before .read-record .ensures) .fit .head-there
+
+part-judge-end-2 : tie.Need-part-judge-end-2
+part-judge-end-2 c = search needs
+
+judge-requires : tie.Need-judge-requires
+judge-requires c κs =
+    (order-gave (c .before .before .before .before .before .before .before .before .before .before .before .before .args .order .now) (c .before .before .before .before .before .before .before .below .given .0 .0 .positions) (c .before .before .before .before .before .before .before .below .given .0 .0 .edges) (c .before .before .before .before .before .before .before .below .given .0 .0 .racks) (ap orderAnswerOf (sym (c .before .before .before .before .before .before .before .below .given .1)) ∙ c .before .before .before .before .before .before .before .before .before .read .ensures) .edges-below, order-gave (c .before .before .before .before .before .before .before .before .before .before .before .before .args .order .now) (c .before .before .before .before .before .before .before .below .given .0 .0 .positions) (c .before .before .before .before .before .before .before .below .given .0 .0 .edges) (c .before .before .before .before .before .before .before .below .given .0 .0 .racks) (ap orderAnswerOf (sym (c .before .before .before .before .before .before .before .below .given .1)) ∙ c .before .before .before .before .before .before .before .before .before .read .ensures) .racks-below, order-room (c .before .before .before .before .before .before .before .before .before .before .before .before .args .order .now) (c .before .before .before .before .before .before .before .below .given .0 .0 .positions) (c .before .before .before .before .before .before .before .below .given .0 .0 .edges) (c .before .before .before .before .before .before .before .below .given .0 .0 .racks) (order-gave (c .before .before .before .before .before .before .before .before .before .before .before .before .args .order .now) (c .before .before .before .before .before .before .before .below .given .0 .0 .positions) (c .before .before .before .before .before .before .before .below .given .0 .0 .edges) (c .before .before .before .before .before .before .before .below .given .0 .0 .racks) (ap orderAnswerOf (sym (c .before .before .before .before .before .before .before .below .given .1)) ∙ c .before .before .before .before .before .before .before .before .before .read .ensures)) (c .before .before .before .before .before .before .before .before .before .before .before .before .args .plan .now) (c .before .before .before .head .given .0 .0) (record-gave (c .before .before .before .before .before .before .before .before .before .before .before .before .args .plan .now) (c .before .before .before .head .given .0 .0) (ap answerOf (sym (c .before .before .before .head .given .1)) ∙ c .before .before .before .before .before .read-record .ensures)), record-gave (c .before .before .before .before .before .before .before .before .before .before .before .before .args .plan .now) (c .before .before .before .head .given .0 .0) (ap answerOf (sym (c .before .before .before .head .given .1)) ∙ c .before .before .before .before .before .read-record .ensures) .count-below, plan-room (c .before .before .before .before .before .before .before .before .before .before .before .before .args .order .now) (c .before .before .before .before .before .before .before .below .given .0 .0 .positions) (c .before .before .before .before .before .before .before .below .given .0 .0 .edges) (c .before .before .before .before .before .before .before .below .given .0 .0 .racks) (order-gave (c .before .before .before .before .before .before .before .before .before .before .before .before .args .order .now) (c .before .before .before .before .before .before .before .below .given .0 .0 .positions) (c .before .before .before .before .before .before .before .below .given .0 .0 .edges) (c .before .before .before .before .before .before .before .below .given .0 .0 .racks) (ap orderAnswerOf (sym (c .before .before .before .before .before .before .before .below .given .1)) ∙ c .before .before .before .before .before .before .before .before .before .read .ensures)) (c .before .before .before .before .before .before .before .before .before .before .before .before .args .plan .now) (c .before .before .before .head .given .0 .0) (record-gave (c .before .before .before .before .before .before .before .before .before .before .before .before .args .plan .now) (c .before .before .before .head .given .0 .0) (ap answerOf (sym (c .before .before .before .head .given .1)) ∙ c .before .before .before .before .before .read-record .ensures)))
+
+returns-3 : tie.Need-returns-3
+returns-3 c =
+    c .judge .ensures ∙ answer-is (c .before .before .before .before .before .before .before .before .before .before .before .before .before .args .order .now) (c .before .before .before .before .before .before .before .before .below .given .0 .0 .positions) (c .before .before .before .before .before .before .before .before .below .given .0 .0 .edges) (c .before .before .before .before .before .before .before .before .below .given .0 .0 .racks) (order-gave (c .before .before .before .before .before .before .before .before .before .before .before .before .before .args .order .now) (c .before .before .before .before .before .before .before .before .below .given .0 .0 .positions) (c .before .before .before .before .before .before .before .before .below .given .0 .0 .edges) (c .before .before .before .before .before .before .before .before .below .given .0 .0 .racks) (ap orderAnswerOf (sym (c .before .before .before .before .before .before .before .before .below .given .1)) ∙ c .before .before .before .before .before .before .before .before .before .before .read .ensures)) (c .before .before .before .before .before .before .before .before .before .before .before .before .before .args .plan .now) (c .before .before .before .before .head .given .0 .0) (record-gave (c .before .before .before .before .before .before .before .before .before .before .before .before .before .args .plan .now) (c .before .before .before .before .head .given .0 .0) (ap answerOf (sym (c .before .before .before .before .head .given .1)) ∙ c .before .before .before .before .before .before .read-record .ensures)) (ap orderAnswerOf (sym (c .before .before .before .before .before .before .before .before .below .given .1)) ∙ c .before .before .before .before .before .before .before .before .before .before .read .ensures) (ap answerOf (sym (c .before .before .before .before .head .given .1)) ∙ c .before .before .before .before .before .before .read-record .ensures)
+
+pub check-spec : {M : Type 1} → statement M
+check-spec =
+    tie.close
+    (tie.spec
+    read-requires
+    enum-known-below
+    enum-told
+    refusal-requires
+    returns
+    read-record-requires
+    enum-known-head
+    enum-told-2
+    returns-2
+    sub-judge
+    part-judge-start
+    part-judge-end
+    sub-judge-2
+    part-judge-start-2
+    part-judge-end-2
+    judge-requires
+    returns-3)
