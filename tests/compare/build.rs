@@ -1,1 +1,27 @@
-fn main(){}
+//! Links the static library that `rt staticlib controller` writes. It is looked for in
+//! target/staticlib at the top of the repository, or in the folder that WICHTEAB_STATICLIB_DIR names.
+//! With no feature on, no exported function is declared, and nothing is linked.
+
+use std::env;
+use std::path::PathBuf;
+
+fn main() {
+    println!("cargo:rerun-if-changed=build.rs");
+    println!("cargo:rerun-if-env-changed=WICHTEAB_STATICLIB_DIR");
+    if !env::vars_os().any(|(name, _)| name.to_string_lossy().starts_with("CARGO_FEATURE_")) {
+        return;
+    }
+    let folder = env::var_os("WICHTEAB_STATICLIB_DIR").map_or_else(in_repository, PathBuf::from);
+    let archive = folder.join("libcontroller.a");
+    if !archive.is_file() {
+        panic!("no {}: run `rt staticlib controller` first", archive.display());
+    }
+    println!("cargo:rerun-if-changed={}", archive.display());
+    println!("cargo:rustc-link-search=native={}", folder.display());
+    println!("cargo:rustc-link-lib=static=controller");
+}
+
+fn in_repository() -> PathBuf {
+    let package = PathBuf::from(env::var_os("CARGO_MANIFEST_DIR").expect("set by cargo"));
+    package.join("../../target/staticlib")
+}

@@ -84,10 +84,25 @@ pub fn family_word(number: u64) -> Word
     ensures { λ r. ⌜ take (r .len) (r .bytes) ≡ familyWord number ⌝ }
 {
     match number {
-        10..=19 => Word { bytes: [b'o', b'r', b'd', b'e', b'r', 0, 0, 0, 0], len: 5 },
-        20..=29 => Word { bytes: [b'f', b'l', b'o', b'o', b'r', 0, 0, 0, 0], len: 5 },
-        30..=39 => Word { bytes: [b'p', b'l', b'a', b'n', 0, 0, 0, 0, 0], len: 4 },
-        40..=49 => Word { bytes: [b't', b'i', b'm', b'e', b't', b'a', b'b', b'l', b'e'], len: 9 },
-        _ => Word { bytes: [b'o', b't', b'h', b'e', b'r', 0, 0, 0, 0], len: 5 },
+        10..=19 => Word {
+            bytes: [b'o', b'r', b'd', b'e', b'r', 0, 0, 0, 0],
+            len: 5,
+        },
+        20..=29 => Word {
+            bytes: [b'f', b'l', b'o', b'o', b'r', 0, 0, 0, 0],
+            len: 5,
+        },
+        30..=39 => Word {
+            bytes: [b'p', b'l', b'a', b'n', 0, 0, 0, 0, 0],
+            len: 4,
+        },
+        40..=49 => Word {
+            bytes: [b't', b'i', b'm', b'e', b't', b'a', b'b', b'l', b'e'],
+            len: 9,
+        },
+        _ => Word {
+            bytes: [b'o', b't', b'h', b'e', b'r', 0, 0, 0, 0],
+            len: 5,
+        },
     }
 }

@@ -10,6 +10,9 @@
 --     bitsOf-toBytes                        the bits of the bytes that l makes are l and its pad
 --     toBytes-bitsOf                        a byte string is made again of its bits
 --     bitsOf-injective                      two byte strings of the same bits are the same
+--     length-positionBits, length-pairBits, positionBits-are, pairBits-are    the bits that are written
+--     bits-zero, zeros-at                   zero bits
+--     join-part                             two parts that follow each other
 --     up-to-byte                            bits and their pad are whole bytes
 --     rest-is                               the part of a byte string from byte k on
 -- Assumes nothing.
@@ -17,7 +20,7 @@ use Prim.Native.Nat.{ℕ, zero, suc, _+_, _-_, _*_, _/_, _%_, _^_, _≤_, _<_}
 use mathlib.Core.Path.{_≡_, refl, sym, ap, ap₂, _∙_, subst}
 use mathlib.Core.List.{List, [], _∷_, _++_, append-assoc, append-nil}
 use native.Mathlib.Omega.{arith}
-use native.Mathlib.Nat.{mod-eq-of-lt, add-assoc, lt-of-lt-of-le, min-le-left, le-refl}
+use native.Mathlib.Nat.{mod-eq-of-lt, add-assoc, lt-of-lt-of-le, min-le-left, le-refl, zero-div}
 use lib.Pow.{pow-mono}
 use lib.ListN.{length, take, drop, replicate, length-append, length-take, length-drop, length-replicate, take-append-drop}
 use lib.Seq.{take-add, drop-drop, length-take-le, take-length, take-all, take-at, drop-at}
@@ -191,3 +194,39 @@ positions-next s i j k h =
 -- the part of a byte string from byte k on, as a part `&s[k..]` has it
 pub rest-is : (k : ℕ) (s : List ℕ) → take (length s - k) (drop k s) ≡ drop k s
 rest-is k s = take-all (length s - k) (drop k s) (rw (length-drop k s) (le-refl _))
+
+pub length-positionBits : (l : List ℕ) → length (positionBits l) ≡ 6 * length l
+unfolding positionBits
+length-positionBits [] = refl
+length-positionBits (p ∷ l) = length-append (bits 6 p) (positionBits l) ∙ rw (length-bits 6 p, length-positionBits l) (omega arith)
+
+pub length-pairBits : (l : List (ℕ × ℕ)) → length (pairBits l) ≡ 12 * length l
+unfolding pairBits
+length-pairBits [] = refl
+length-pairBits (p ∷ l) =
+    length-append (bits 6 (p .0) ++ bits 6 (p .1)) (pairBits l)
+    ∙ rw (length-append (bits 6 (p .0)) (bits 6 (p .1)), length-bits 6 (p .0), length-bits 6 (p .1), length-pairBits l) (omega arith)
+
+pub positionBits-are : (l : List ℕ) → Bits (positionBits l)
+unfolding positionBits
+positionBits-are [] = none
+positionBits-are (p ∷ l) = below-append (bits-are 6 p) (positionBits-are l)
+
+pub pairBits-are : (l : List (ℕ × ℕ)) → Bits (pairBits l)
+unfolding pairBits
+pairBits-are [] = none
+pairBits-are (p ∷ l) = below-append (below-append (bits-are 6 (p .0)) (bits-are 6 (p .1))) (pairBits-are l)
+
+-- the bits of 0
+pub bits-zero : (w : ℕ) → bits w 0 ≡ replicate w 0
+unfolding bits
+bits-zero zero = refl
+bits-zero (suc w) = ap₂ (λ (b : ℕ) (l : List ℕ). b ∷ l) (ap (λ (n : ℕ). n % 2) (zero-div (2 ^ w))) (bits-zero w)
+
+-- a field that reads 0 is zero bits
+pub zeros-at : (s : List ℕ) (i w : ℕ) → i + w ≤ 8 * length s → field s i w ≡ 0 → replicate w 0 ≡ take w (drop i (bitsOf s))
+zeros-at s i w h e = sym (bits-zero w) ∙ ap (bits w) (sym e) ∙ bits-field s i w h
+
+-- the first i bits and the w bits that follow them
+pub join-part : (s : List ℕ) (i w : ℕ) → take i (bitsOf s) ++ take w (drop i (bitsOf s)) ≡ take (i + w) (bitsOf s)
+join-part s i w = sym (take-add i w (bitsOf s))

@@ -3,9 +3,11 @@
 --     misfits-short, misfits-not, fits        the length
 --     Fitting s u, fitting                    what the length's test leaves
 --     unclean-spare, unclean-pad, clean       the spare and pad bits
+--     Clean s u, cleanly                      what that test leaves
 --     tail-room                               the units and their pad take the whole tail, the part from the fourth byte on
 -- Assumes nothing.
-use Prim.Native.Nat.{ℕ, _+_, _-_, _*_, _/_, _≤_, _<_}
+use Prim.Native.Nat.{ℕ, _+_, _-_, _*_, _/_, _%_, _≤_, _<_}
+use native.Mathlib.Nat.{mul-add-mod-self-left}
 use mathlib.Core.Path.{_≡_, refl, sym, ap, _∙_}
 use mathlib.Core.Bool.{Bool, true, false, not, _||_, or-true}
 use mathlib.Core.List.{List}
@@ -51,7 +53,8 @@ module _ (s : List ℕ) (u : ℕ) where
       let right = eqb (length s) (3 + (12 * u + 7) / 8) in
       record {
         head-there = ltb-false (length s) 3 (or-left long (not right) e);
-        length-is = eqb-true (length s) (3 + (12 * u + 7) / 8) (not-false right (or-right long (not right) e)) }
+        length-is = eqb-true (length s) (3 + (12 * u + 7) / 8) (not-false right (or-right long (not right) e));
+      }
 
   pub unclean-spare : (field s 22 2 ≡ 0 → ⊥) → unclean s u ≡ true
   unfolding unclean
@@ -75,3 +78,23 @@ module _ (s : List ℕ) (u : ℕ) where
 
     pub tail-units : 12 * u ≤ 8 * length (take (length s - 3) (drop 3 s))
     tail-units = omega (arith, tail-room)
+
+pub record Clean (s : List ℕ) (u : ℕ) : Type 0 where
+  pub spare-clear : field s 22 2 ≡ 0
+  pub pad-clear : field s (24 + 12 * u) (pad (12 * u)) ≡ 0
+
+pub cleanly : (s : List ℕ) (u : ℕ) → unclean s u ≡ false → Clean s u
+unfolding unclean
+cleanly s u e =
+    let spare = eqb (field s 22 2) 0 in
+    let padding = eqb (field s (24 + 12 * u) (pad (12 * u))) 0 in
+    record {
+      spare-clear = eqb-true (field s 22 2) 0 (not-false spare (or-left (not spare) (not padding) e));
+      pad-clear = eqb-true (field s (24 + 12 * u) (pad (12 * u))) 0 (not-false padding (or-right (not spare) (not padding) e));
+    }
+
+-- a head of three bytes changes nothing of the pad
+pub pad-after-head : (k : ℕ) → pad (24 + k) ≡ pad k
+unfolding pad
+pad-after-head k =
+    ap (λ (i : ℕ). (8 - i) % 8) (mul-add-mod-self-left 8 3 k)

@@ -17,3 +17,16 @@ pub mod Exchange
 pub mod Conjugation
 pub mod Untouched
 pub mod Inhabited
+pub mod ListLaws
+pub mod StepTests
+pub mod Trains
+pub mod LegalStep
+pub mod Problem
+pub mod ParallelPathFinding
+pub mod Racks
+pub mod StepOf
+pub mod StepChange
+pub mod StepReplay
+pub mod StepSolutions
+pub mod StepLimits
+pub mod StepCases

@@ -1,11 +1,6 @@
--- Pebble motion on a graph: Surynek's Definition 1 (source document 001), word for word, with document 01's readings. The graph
--- is the floor, its vertices V the positions, its edges E the floor's edges, the pebbles P the racks 1 to m.
+-- Pebble motion on a graph: Surynek's Definition 1 (source document 001), word for word, with document 01's readings. `Problem`
+-- has the notions that it shares with Definition 2.
 --
---     IsRack m p                 p is one of the racks 1 to m: p ∈ P
---     UniquelyInvertible F m S   S is a uniquely invertible function P → V
---     Instance F m S⁰ S⁺         an instance of pebble motion: the quadruple (G, P, S⁰, S⁺)
---     arrangementAt S k          the arrangement at time step k of the sequence S
---     AlongEdges F m S S′        point (iii), between an arrangement and the next
 --     IntoUnoccupied m S S′      point (iv), between an arrangement and the next
 --     OneMoves m S S′            exactly one rack moves between an arrangement and the next
 --     Solution F m S⁰ S⁺ ξ S     the sequence S = [S⁰, S¹, …, S^ξ] is a solution that moves one rack at each step
@@ -16,40 +11,14 @@
 -- and its plans are made "one rack at a time", while the source lets several pebbles move in a time step.
 -- Assumes nothing.
 use Prim.Native.Nat.{ℕ, suc, _<_, _≤_}
-use mathlib.Core.List.{List, []}
-use mathlib.Core.Logic.{_⊎_, _≢_}
+use mathlib.Core.List.{List}
+use mathlib.Core.Logic.{_≢_}
 use mathlib.Core.Path.{_≡_}
-use lib.Dec.{T}
-use lib.ListN.{length, getD}
-use Rattle.order.specs.Floor.{Floor, joined}
+use lib.ListN.{length}
+use Rattle.order.specs.Floor.{Floor}
 use Rattle.motion.specs.Arrangement.{Arrangement, stands}
-
--- "let P = {p₁, p₂, …, p_μ} … be a set of pebbles"
-abbrev pub IsRack : ℕ → ℕ → Type 0
-IsRack m p = (1 ≤ p) × (p ≤ m)
-
--- "uniquely invertible functions S : P → V (that is S(p) ≠ S(q) for every p, q ∈ P with p ≠ q)"
-pub record UniquelyInvertible (F : Floor) (m : ℕ) (S : Arrangement) : Type 0 where
-  pub racks : length S ≡ m
-  pub within : (p : ℕ) → IsRack m p → stands S p < F .positions
-  pub apart : (p q : ℕ) → IsRack m p → IsRack m q → p ≢ q → stands S p ≢ stands S q
-
--- "Let G = (V, E) be an undirected graph and let P … where μ < |V| be a set of pebbles. The initial arrangement and the goal
--- arrangement of pebbles in G are defined by two uniquely invertible functions … The instance of PMG is formally a quadruple
--- Π = (G, P, S⁰, S⁺)." Here μ ≤ |V|.
-pub record Instance (F : Floor) (m : ℕ) (S⁰ S⁺ : Arrangement) : Type 0 where
-  pub fewer : m ≤ F .positions
-  pub initial : UniquelyInvertible F m S⁰
-  pub goal : UniquelyInvertible F m S⁺
-
--- "the time step is indicated by the upper index": S^k
-unfoldable pub arrangementAt : List Arrangement → ℕ → Arrangement
-arrangementAt S k = getD S k []
-
--- "either S^k(p) = S^{k+1}(p) or {S^k(p), S^{k+1}(p)} ∈ E for every p ∈ P … (that is, a pebble either stays in a vertex or moves
--- along an edge)"
-abbrev pub AlongEdges : Floor → ℕ → Arrangement → Arrangement → Type 0
-AlongEdges F m S S′ = (p : ℕ) → IsRack m p → (stands S p ≡ stands S′ p) ⊎ T (joined F (stands S p) (stands S′ p))
+pub use Rattle.motion.specs.Problem.{IsRack, UniquelyInvertible, Instance, AlongEdges}
+unfoldable pub use Rattle.motion.specs.Problem.{arrangementAt}
 
 -- "if S^k(p) ≠ S^{k+1}(p) (that is, the pebble p moves between time steps k and k + 1) then S^k(q) ≠ S^{k+1}(p) ∀q ∈ P with q ≠ p
 -- must hold for every p ∈ P … (that is, a pebble can move into a currently unoccupied vertex only)"

@@ -7,45 +7,20 @@ use Prim.Native.Nat.{ℕ, zero, suc, _+_, _-_, _*_, _≤_, _<_}
 use mathlib.Core.Path.{_≡_, refl, sym, ap, ap₂, _∙_}
 use mathlib.Core.Bool.{Bool, true, false, not, _&&_, _||_, or-true, or-false, or-assoc}
 use mathlib.Core.List.{List, [], _∷_}
-use mathlib.Core.Logic.{_⊎_, ⊎-elim}
 use native.Mathlib.Omega.{arith}
 use native.Mathlib.Decide.{decLe}
 use native.Mathlib.Nat.{lt-of-not-le, sub-zero}
-use borrow.Author.Tests.{le-leb, lt-leb, lt-ltb, le-ltb, eq-eqb, ne-eqb, leb-true, leb-false}
-use lib.ListN.{length}
-use lib.Dec.{leb, ltb, eqb}
+use borrow.Author.Tests.{le-leb, lt-leb}
+use lib.Dec.{leb}
 use Rattle.field.specs.Bits.{field, pairs}
-use Rattle.field.specs.BitLaws.{field-lt}
-use Rattle.field.specs.RecordLaws.{BelowPairs, none₂, more₂, pairs-lt, pairs-next}
+use Rattle.field.specs.RecordLaws.{BelowPairs, more₂, pairs-lt, pairs-next}
 use Rattle.order.specs.Floor.{Floor}
-use Rattle.order.specs.Order.{some, badEdge, precedes, ascending, wrongEdges}
-
--- the place of an edge in the order of edges
-abbrev pub place : ℕ × ℕ → ℕ
-place e = e .0 * 64 + e .1
+use Rattle.order.specs.EdgeLaws.{place, bad-is, precedes-is}
+use Rattle.order.specs.Order.{some, badEdge, ascending, wrongEdges}
 
 unfoldable pub wrongAfter : ℕ → ℕ → List (ℕ × ℕ) → Bool
 wrongAfter n last [] = false
 wrongAfter n last (e ∷ l) = leb (e .1) (e .0) || leb n (e .1) || leb (place e) last || wrongAfter n (place e) l
-
--- an edge that is lower first has its lower position below n where the higher one is
-bad-is : (n : ℕ) (e : ℕ × ℕ) → badEdge n e ≡ (leb (e .1) (e .0) || leb n (e .1))
-unfolding badEdge
-bad-is n e = elim (decLe (e .1) (e .0)) [
-    yes h ↦ simp (le-leb (e .1) (e .0) h, or-true)
-  | no h ↦ elim (decLe n (e .1)) [
-      yes k ↦ simp (le-leb n (e .1) k, or-true)
-    | no k ↦ simp (lt-leb n (e .1) (lt-of-not-le k), lt-leb (e .1) (e .0) (lt-of-not-le h), lt-leb n (e .0) (omega (arith, lt-of-not-le h, lt-of-not-le k))) ] ]
-
-precedes-is : (p e : ℕ × ℕ) → p .1 < 64 → e .1 < 64 → precedes p e ≡ not (leb (place e) (place p))
-unfolding precedes
-precedes-is p e hp he = elim (decLe (e .0) (p .0)) [
-    yes h ↦ elim (decLe (p .0) (e .0)) [
-      yes k ↦ elim (decLe (e .1) (p .1)) [
-        yes l ↦ simp (le-ltb (p .0) (e .0) h, le-ltb (p .1) (e .1) l, le-leb (place e) (place p) (omega arith), eq-eqb (p .0) (e .0) (omega arith))
-      | no l ↦ simp (le-ltb (p .0) (e .0) h, eq-eqb (p .0) (e .0) (omega arith), lt-ltb (p .1) (e .1) (lt-of-not-le l), lt-leb (place e) (place p) (omega (arith, lt-of-not-le l))) ]
-    | no k ↦ simp (le-ltb (p .0) (e .0) h, ne-eqb (p .0) (e .0) (omega (arith, lt-of-not-le k)), le-leb (place e) (place p) (omega (arith, lt-of-not-le k))) ]
-  | no h ↦ simp (lt-ltb (p .0) (e .0) (lt-of-not-le h), lt-leb (place e) (place p) (omega (arith, lt-of-not-le h))) ]
 
 regroup : (b k s a : Bool) → (b || k || (s || not a)) ≡ (b || s || not (not k && a))
 regroup true k s a = refl
@@ -66,10 +41,11 @@ pub wrongAfter-is : (n : ℕ) (l : List (ℕ × ℕ)) → BelowPairs 64 l → wr
 unfolding wrongAfter wrongEdges some ascending
 wrongAfter-is n [] b = refl
 wrongAfter-is n (e ∷ l) (more₂ h₀ h₁ b) = elim (decLe (e .1) (e .0)) [
-    yes h ↦ simp (bad-is n e, le-leb (e .1) (e .0) h)
+  | yes h ↦ simp (bad-is n e, le-leb (e .1) (e .0) h)
   | no h ↦
       rw (← bad-is n e, lt-leb (place e) 0 (omega (arith, lt-of-not-le h)), or-false (badEdge n e), after-is n e l h₁ b)
-      (sym (or-assoc (badEdge n e) (some (badEdge n) l) (not (ascending (e ∷ l))))) ]
+      (sym (or-assoc (badEdge n e) (some (badEdge n) l) (not (ascending (e ∷ l)))))
+]
 
 -- the loop over the e edges of s: at edge j, after an edge at the place `last`
 module _ (s : List ℕ) (n e : ℕ) where

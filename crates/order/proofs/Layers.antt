@@ -52,7 +52,8 @@ head-gave s n e m a =
       edges-are = cc same;
       racks-are = cc same;
       edges-below = field-lt s 7 8;
-      racks-below = field-lt s 15 7 }
+      racks-below = field-lt s 15 7;
+    }
 
 module _ (s : List ℕ) (n e m : ℕ) (gave : HeadGave s n e m) where
   pub tail-there : 3 ≤ length s

@@ -29,8 +29,9 @@ wrongGiven n taken (p ∷ l) = leb n p || flagged taken p || wrongGiven n (set t
 flagged-set : (taken : List ℕ) (p q : ℕ) → p < length taken → flagged (set taken p 1) q ≡ (eqb p q || flagged taken q)
 unfolding flagged
 flagged-set taken p q h = elim (ℕ-discrete p q) [
-    yes e ↦ rw (eq-eqb p q e, ← e, getD-set-same taken p 1 0 h)
-  | no d ↦ rw (ne-eqb p q d, getD-set-other taken p q 1 0 (λ e. d (sym e))) ]
+  | yes e ↦ rw (eq-eqb p q e, ← e, getD-set-same taken p 1 0 h)
+  | no d ↦ rw (ne-eqb p q d, getD-set-other taken p q 1 0 (λ e. d (sym e)))
+]
 
 some-set : (taken : List ℕ) (p : ℕ) (l : List ℕ) → p < length taken → some (flagged (set taken p 1)) l ≡ (some (eqb p) l || some (flagged taken) l)
 unfolding some
@@ -47,10 +48,11 @@ given-is : (n : ℕ) (taken l : List ℕ) → n ≤ length taken → wrongGiven 
 unfolding wrongGiven some repeats
 given-is n taken [] h = refl
 given-is n taken (p ∷ l) h = elim (decLe n p) [
-    yes k ↦ simp (le-leb n p k)
+  | yes k ↦ simp (le-leb n p k)
   | no k ↦
       rw (lt-leb n p (lt-of-not-le k), given-is n (set taken p 1) l (rw (length-set taken p 1) h), some-set taken p l (omega (arith, lt-of-not-le k)))
-      (swap (flagged taken p) (some (leb n) l) (some (eqb p) l) (some (flagged taken) l) (repeats l)) ]
+      (swap (flagged taken p) (some (leb n) l) (some (eqb p) l) (some (flagged taken) l) (repeats l))
+]
   where
     swap : (f s e t r : Bool) → (f || (s || (e || t || r))) ≡ (s || (f || t || (e || r)))
     swap true true e t r = refl
@@ -67,8 +69,9 @@ none-flagged k (p ∷ l) = rw (zero-there, none-flagged k l) refl
   where
     zero-there : _≡_ {A = ℕ} (getD (replicate k 0) p 0) 0
     zero-there = elim (decLe k p) [
-        yes h ↦ List·getD-eq-default (replicate k 0) 0 (rw (length-replicate {A = ℕ} k 0) h)
-      | no h ↦ getD-replicate k p 0 0 (lt-of-not-le h) ]
+      | yes h ↦ List·getD-eq-default (replicate k 0) 0 (rw (length-replicate {A = ℕ} k 0) h)
+      | no h ↦ getD-replicate k p 0 0 (lt-of-not-le h)
+    ]
 
 pub wrongGiven-is : (n k : ℕ) (l : List ℕ) → n ≤ k → wrongGiven n (replicate k 0) l ≡ wrongPlaces n l
 unfolding wrongPlaces

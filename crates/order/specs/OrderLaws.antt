@@ -42,7 +42,8 @@ right-head s l p =
     record {
       fit = fitting s (unitCount s) l;
       some-position = omega arith;
-      few-positions = ltb-false 64 (positionCount s) (or-right (eqb (positionCount s) 0) (ltb 64 (positionCount s)) p) }
+      few-positions = ltb-false 64 (positionCount s) (or-right (eqb (positionCount s) 0) (ltb 64 (positionCount s)) p);
+    }
 
 pub accepted-is : (s : List ℕ) → WellFormed s → orderAnswer s ≡ accepted (counts s)
 unfolding orderAnswer
@@ -64,4 +65,5 @@ well-formed s v e =
       positions-right = refuse-not (wrongPositions s) 11 0 a₂ v e₁;
       padding-clear = refuse-not (paddingSet s) 12 0 a₃ v e₂;
       edges-right = refuse-not (wrongEdges (floorOf s)) 13 0 a₄ v e₃;
-      racks-right = refuse-not (wrongRacks (orderOf s)) 14 0 (accepted (counts s)) v e₄ }
+      racks-right = refuse-not (wrongRacks (orderOf s)) 14 0 (accepted (counts s)) v e₄;
+    }

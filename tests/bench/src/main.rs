@@ -1,1 +1,248 @@
-fn main(){}
+//! Prints, for each capability that is switched on, how fast the proved function and the second
+//! implementation are on the same inputs. Nothing depends on the times.
+
+// What only the functions to come use is idle until they are switched on.
+#![cfg_attr(
+    not(all(
+        feature = "order_check",
+        feature = "floor_check",
+        feature = "plan_check",
+        feature = "plan_make",
+        feature = "timetable_check",
+        feature = "timetable_step",
+        feature = "timetable_make"
+    )),
+    allow(dead_code, unused_imports)
+)]
+
+use compare::floors;
+use compare::orders;
+use compare::plans;
+use compare::proved;
+use compare::random::Random;
+use compare::timetables;
+use compare::write::{Order, Plan};
+use std::hint::black_box;
+use std::time::Instant;
+
+/// Rounds that each function is measured; the best counts.
+const ROUNDS: usize = 7;
+
+fn main() {
+    println!("Proved library and second implementation: same inputs, both built for release, time of one");
+    println!("call, best of {ROUNDS} rounds. A ratio above 1 means that the proved function is the faster.");
+    println!("Buffers that are written are cleared to zero before each call, outside the measured time.");
+    println!("{:<16} {:<44} {:>12} {:>12} {:>6}", "function", "input", "proved", "second", "ratio");
+    #[cfg(feature = "order_check")]
+    order_check();
+    #[cfg(feature = "floor_check")]
+    floor_check();
+    #[cfg(feature = "plan_check")]
+    plan_check();
+    #[cfg(feature = "timetable_check")]
+    timetable_check();
+    #[cfg(feature = "timetable_step")]
+    timetable_step();
+    #[cfg(feature = "timetable_make")]
+    timetable_make();
+    #[cfg(feature = "plan_make")]
+    plan_make();
+}
+
+/// Seconds that one of so many calls takes.
+fn seconds(calls: usize, call: &mut impl FnMut() -> u64) -> f64 {
+    let start = Instant::now();
+    for _ in 0..calls {
+        black_box(call());
+    }
+    start.elapsed().as_secs_f64() / calls as f64
+}
+
+/// Measures both in turn and prints the line. Both have to answer the same.
+fn compare_speed(
+    function: &str,
+    input: &str,
+    calls: usize,
+    mut proved: impl FnMut() -> u64,
+    mut second: impl FnMut() -> u64,
+) {
+    assert_eq!(proved(), second(), "{function}, {input}: the answers differ");
+    let (mut of_proved, mut of_second) = (f64::MAX, f64::MAX);
+    for _ in 0..ROUNDS {
+        of_proved = of_proved.min(seconds(calls, &mut proved));
+        of_second = of_second.min(seconds(calls, &mut second));
+    }
+    let ratio = of_second / of_proved;
+    println!("{function:<16} {input:<44} {:>12} {:>12} {ratio:>6.2}", shown(of_proved), shown(of_second));
+}
+
+/// A time with three digits or more, and its unit.
+fn shown(seconds: f64) -> String {
+    match seconds {
+        s if s < 1e-6 => format!("{:.1} ns", s * 1e9),
+        s if s < 1e-3 => format!("{:.2} us", s * 1e6),
+        s => format!("{:.2} ms", s * 1e3),
+    }
+}
+
+/// The case book's order.
+const CASE_BOOK: [u8; 14] =
+    [0x08, 0x0A, 0x08, 0x00, 0x10, 0x02, 0x04, 0x20, 0x43, 0x08, 0x30, 0x03, 0x0C, 0x00];
+
+/// The largest order: 64 positions, 255 edges, 64 racks.
+fn largest_order() -> Vec<u8> {
+    let mut edges: Vec<(u8, u8)> =
+        floors::all_pairs(64).into_iter().map(|(a, b)| (a as u8, b as u8)).collect();
+    edges.truncate(255);
+    let places: Vec<u8> = (0..64).collect();
+    Order { n: 64, edges, starts: places.clone(), goals: places, spare: 0, pad: 0 }.record()
+}
+
+#[cfg(feature = "order_check")]
+fn order_check() {
+    let second = |order: &[u8]| compare::packed::nothing(second::order::check(order));
+    let mut random = Random::new(0xBE_0001);
+    let largest = largest_order();
+    let many: Vec<Vec<u8>> = (0..1000).map(|_| orders::random_order(&mut random).record()).collect();
+    let line = |input, calls, order: &[u8]| {
+        compare_speed(
+            "order_check",
+            input,
+            calls,
+            || proved::order_check(black_box(order)),
+            || second(black_box(order)),
+        )
+    };
+    line("case book, 14 bytes", 200_000, &CASE_BOOK);
+    line("64 positions, 255 edges, 64 racks, 482 bytes", 20_000, &largest);
+    compare_speed(
+        "order_check",
+        "1000 random sound orders",
+        20,
+        || many.iter().map(|order| proved::order_check(order)).sum(),
+        || many.iter().map(|order| second(order)).sum(),
+    );
+}
+
+#[cfg(feature = "floor_check")]
+fn floor_check() {
+    let second = |order: &[u8]| compare::packed::nothing(second::floor::check(order));
+    let mut random = Random::new(0xBE_0002);
+    let grid = orders::order_on(&mut random, &floors::grid(8, 8), 62).record();
+    let floor = floors::floor_of_shape(&mut random, floors::Shape::Complete);
+    let complete = orders::order_on(&mut random, &floor, 0).record();
+    let line = |input: &str, order: &[u8]| {
+        compare_speed(
+            "floor_check",
+            input,
+            1000,
+            || proved::floor_check(black_box(order)),
+            || second(black_box(order)),
+        )
+    };
+    line("8 by 8 grid", &grid);
+    line(&format!("complete, {} positions", floor.n), &complete);
+}
+
+/// A plan of so many moves on an 8 by 8 grid, and its order.
+fn grid_plan(m: usize, moves: usize) -> (Vec<u8>, Vec<u8>) {
+    let mut random = Random::new(0xBE_0003);
+    let sample = plans::sound_on(&mut random, floors::grid(8, 8), m, moves);
+    (sample.order.record(), Plan { moves: sample.moves, spare: 0, pad: 0 }.record())
+}
+
+#[cfg(feature = "plan_check")]
+fn plan_check() {
+    for (m, moves, calls) in [(62, 1_354, 500), (62, 2_097_152, 1), (32, 2_097_152, 1)] {
+        let (order, plan) = grid_plan(m, moves);
+        compare_speed(
+            "plan_check",
+            &format!("8 by 8 grid, {m} racks, {moves} moves"),
+            calls,
+            || proved::plan_check(black_box(&order), &plan),
+            || compare::packed::count(second::plan::check(black_box(&order), &plan)),
+        );
+    }
+}
+
+/// A timetable of so many steps on an 8 by 8 grid, with its order and its moves.
+fn grid_timetable(m: usize, steps: usize) -> (Vec<u8>, Vec<u8>, usize) {
+    let mut random = Random::new(0xBE_0004);
+    let sample = timetables::sound_on(&mut random, floors::grid(8, 8), m, steps);
+    (sample.order.record(), sample.timetable.record(), sample.timetable.move_count())
+}
+
+#[cfg(feature = "timetable_check")]
+fn timetable_check() {
+    for (m, steps, calls) in [(62, 223, 500), (62, 1_000_000, 1), (32, 1_000_000, 1)] {
+        let (order, timetable, moves) = grid_timetable(m, steps);
+        compare_speed(
+            "timetable_check",
+            &format!("{m} racks, {steps} steps, {moves} moves"),
+            calls,
+            || proved::timetable_check(black_box(&order), &timetable),
+            || compare::packed::steps_and_moves(second::timetable::check(black_box(&order), &timetable)),
+        );
+    }
+}
+
+#[cfg(feature = "timetable_step")]
+fn timetable_step() {
+    for (steps, calls) in [(223, 1000), (1_000_000, 1)] {
+        let (_, timetable, _) = grid_timetable(62, steps);
+        compare_speed(
+            "timetable_step",
+            &format!("the last of {steps} steps"),
+            calls,
+            || proved::timetable_step(black_box(&timetable), steps as u64),
+            || compare::packed::part(second::timetable::step(black_box(&timetable), steps as u64)),
+        );
+    }
+}
+
+#[cfg(feature = "timetable_make")]
+fn timetable_make() {
+    for (m, moves) in [(62, 1_354), (62, 21_844), (62, 2_097_152), (1, 2_097_152)] {
+        let (order, plan) = grid_plan(m, moves);
+        let mut buffer = vec![0; 3 * moves + 3];
+        let (mut of_proved, mut of_second) = (f64::MAX, f64::MAX);
+        for _ in 0..if moves > 1_000_000 { 3 } else { ROUNDS } {
+            buffer.fill(0);
+            of_proved = of_proved.min(seconds(1, &mut || proved::timetable_make(&order, &plan, &mut buffer)));
+            buffer.fill(0);
+            of_second = of_second.min(seconds(1, &mut || {
+                compare::packed::count(second::making::make(&order, &plan, &mut buffer))
+            }));
+        }
+        let input = format!("8 by 8 grid, {m} racks, {moves} moves");
+        let ratio = of_second / of_proved;
+        println!(
+            "{:<16} {input:<44} {:>12} {:>12} {ratio:>6.2}",
+            "timetable_make",
+            shown(of_proved),
+            shown(of_second)
+        );
+    }
+}
+
+/// There is no second planner: the time and the moves of the proved one alone.
+#[cfg(feature = "plan_make")]
+fn plan_make() {
+    let mut random = Random::new(0xBE_0005);
+    for (rows, columns) in [(3, 3), (4, 4), (8, 8)] {
+        let floor = floors::grid(rows, columns);
+        let order = orders::order_on(&mut random, &floor, floor.n - 2).record();
+        let mut buffer = vec![0; 12 * floor.n.pow(3) + 3];
+        let mut moves = 0;
+        let mut best = f64::MAX;
+        for _ in 0..ROUNDS {
+            buffer.fill(0);
+            best = best.min(seconds(1, &mut || {
+                moves = proved::plan_make(&order, &mut buffer) >> 8;
+                moves
+            }));
+        }
+        let input = format!("{rows} by {columns} grid, two vacancies, {moves} moves");
+        println!("{:<16} {input:<44} {:>12} {:>12} {:>6}", "plan_make", shown(best), "-", "-");
+    }
+}

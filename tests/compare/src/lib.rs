@@ -1,1 +1,26 @@
+//! The proved library, called through its C interface, against the second implementation, on random
+//! and damaged records. Every case comes from a fixed seed, so a difference shows up again.
+//!
+//! | module       | what it has                                                        |
+//! |--------------|--------------------------------------------------------------------|
+//! | `proved`     | the exported functions, one for each feature that is on            |
+//! | `packed`     | an answer of the second implementation as the exports pack it      |
+//! | `tally`      | how many cases were compared, and how often each number was met    |
+//! | `random`     | the generator of random numbers                                    |
+//! | `write`      | records written from their fields, sound or not                    |
+//! | `floors`     | floors of every shape                                              |
+//! | `orders`     | orders on them, and damage                                         |
+//! | `racks`      | an arrangement, random moves and random steps on it                |
+//! | `plans`      | plans, and damage                                                  |
+//! | `timetables` | timetables, and damage                                             |
 
+pub mod floors;
+pub mod orders;
+pub mod packed;
+pub mod plans;
+pub mod proved;
+pub mod racks;
+pub mod random;
+pub mod tally;
+pub mod timetables;
+pub mod write;

@@ -38,7 +38,8 @@ returns c =
       first-is = omega (arith, sextet-0 (a .s .now) (12 * a .j) (a .j / 2 * 3) (omega arith) (omega arith) (omega arith));
       second-is = omega (arith, sextet-6 (a .s .now) (12 * a .j + 6) (a .j / 2 * 3) (a .j / 2 * 3 + 1) (omega arith) (omega arith) (omega arith) (omega arith));
       first-below = omega arith;
-      second-below = omega arith }
+      second-below = omega arith;
+    }
 
 add-wide-2 : tie.Need-add-wide-2
 add-wide-2 c = search needs
@@ -71,7 +72,8 @@ returns-2 c =
       first-is = omega (arith, sextet-4 (a .s .now) (12 * a .j) (a .j / 2 * 3 + 1) (a .j / 2 * 3 + 2) (omega arith) (omega arith) (omega arith) (omega arith));
       second-is = omega (arith, sextet-2 (a .s .now) (12 * a .j + 6) (a .j / 2 * 3 + 2) (omega arith) (omega arith));
       first-below = omega arith;
-      second-below = omega arith }
+      second-below = omega arith;
+    }
 
 pub pair-at-spec : {M : Type 1} → statement M
 pair-at-spec =

@@ -43,7 +43,8 @@ returns c =
       edges-are = omega (arith, head-edges s (omega arith) (omega arith) (omega arith) (omega arith));
       racks-are = omega (arith, head-racks s (omega arith) (omega arith) (omega arith) (omega arith));
       edges-below = omega arith;
-      racks-below = omega arith }
+      racks-below = omega arith;
+    }
 
 pub counts-of-spec : {M : Type 1} → statement M
 counts-of-spec =

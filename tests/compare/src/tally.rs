@@ -1,0 +1,66 @@
+//! How many cases were compared, and how often each number was met.
+
+use std::fmt::{self, Display, Formatter};
+
+/// Bytes as two hexadecimal digits each, for the message of a difference.
+pub struct Hex<'a>(pub &'a [u8]);
+
+impl Display for Hex<'_> {
+    fn fmt(&self, out: &mut Formatter<'_>) -> fmt::Result {
+        self.0.iter().try_for_each(|byte| write!(out, "{byte:02X} "))
+    }
+}
+
+/// The answers met so far, by their number.
+pub struct Tally {
+    name: &'static str,
+    met: [u64; 256],
+}
+
+impl Tally {
+    pub fn new(name: &'static str) -> Tally {
+        Tally { name, met: [0; 256] }
+    }
+
+    /// Holds the proved answer to the second implementation's, and counts its number.
+    #[track_caller]
+    pub fn compare(&mut self, proved: u64, second: u64, records: &[&[u8]]) {
+        if proved != second {
+            let shown: Vec<String> = records.iter().map(|record| Hex(record).to_string()).collect();
+            panic!("{}: proved {proved:#x}, second {second:#x}, on {}", self.name, shown.join("| "));
+        }
+        self.met[(second & 0xFF) as usize] += 1;
+    }
+
+    /// The number of cases so far.
+    pub fn cases(&self) -> u64 {
+        self.met.iter().sum()
+    }
+
+    /// Prints how many cases there were, and how often each number was met.
+    pub fn print(&self) {
+        println!("{}: {} cases compared", self.name, self.cases());
+        for (number, met) in self.met.iter().enumerate().filter(|(_, &met)| met > 0) {
+            match number {
+                0 => println!("  accepted {met}"),
+                _ => println!("  {number} {met}"),
+            }
+        }
+    }
+
+    /// Prints, and sees that there were enough cases, that each of these numbers (0 for accepted) was met
+    /// at least 1,000 times, and that no other was met.
+    #[track_caller]
+    pub fn finish(&self, least_cases: u64, numbers: &[u8]) {
+        self.print();
+        assert!(self.cases() >= least_cases, "{}: under {least_cases} cases", self.name);
+        for number in 0..=255 {
+            let met = self.met[usize::from(number)];
+            if numbers.contains(&number) {
+                assert!(met >= 1000, "{}: {number} met {met} times only", self.name);
+            } else {
+                assert_eq!(met, 0, "{}: {number} is not a number of this function", self.name);
+            }
+        }
+    }
+}

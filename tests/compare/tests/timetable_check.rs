@@ -1,0 +1,98 @@
+//! The proved timetable checker against the second one.
+
+use compare::floors::{self, Shape};
+use compare::packed;
+use compare::proved;
+use compare::random::Random;
+use compare::tally::Tally;
+use compare::timetables::{self, DAMAGES};
+use compare::write::{Order, Step, Timetable};
+
+const NUMBERS: [u8; 10] = [0, 10, 11, 12, 13, 14, 40, 41, 42, 43];
+
+fn compare(tally: &mut Tally, order: &[u8], timetable: &[u8]) {
+    let expected = packed::steps_and_moves(second::timetable::check(order, timetable));
+    tally.compare(proved::timetable_check(order, timetable), expected, &[order, timetable]);
+}
+
+#[test]
+fn sound_and_damaged_timetables_on_floors_of_every_shape() {
+    let mut random = Random::new(0x5EED_3001);
+    let mut tally = Tally::new("timetable_check");
+    let mut met = [0; DAMAGES.len()];
+    for _ in 0..300_000 {
+        let (damage, case) = timetables::random_case(&mut random);
+        compare(&mut tally, &case.order, &case.timetable);
+        met[damage as usize] += 1;
+    }
+    for (damage, &times) in DAMAGES.iter().zip(&met) {
+        println!("  {damage:?} {times}");
+        assert!(times >= 1000, "{damage:?} met {times} times only");
+    }
+    tally.finish(300_000, &NUMBERS);
+}
+
+#[test]
+fn every_step_on_every_floor_of_up_to_four_positions() {
+    let mut tally = Tally::new("timetable_check, every step");
+    for n in 1..=4 {
+        timetables::every_step(n, |case| compare(&mut tally, &case.order.record(), &case.timetable.record()));
+    }
+    tally.finish(10_000, &[0, 42]);
+}
+
+#[test]
+fn trains_of_every_length() {
+    let mut random = Random::new(0x5EED_3002);
+    let mut tally = Tally::new("timetable_check, trains on rings of 3 to 64");
+    for n in 3..=64u8 {
+        // positions 0 to n - 1 in a ring, a vacancy at `gap` and everywhere from `end` on
+        let edges: Vec<(usize, usize)> =
+            (0..n).map(|at| (usize::from(at), (usize::from(at) + 1) % usize::from(n))).collect();
+        for end in [n, random.between(2, usize::from(n)) as u8] {
+            for gap in [None, Some(random.below(usize::from(end)) as u8)] {
+                let starts: Vec<u8> = (0..end).filter(|&at| Some(at) != gap).collect();
+                let goals: Vec<u8> = starts.iter().map(|&at| (at + 1) % n).collect();
+                let moves = starts.iter().copied().zip(goals.iter().copied()).collect();
+                let floor = floors::Floor::new(usize::from(n), edges.clone());
+                let order = Order { n: floor.n, edges: floor.edges, starts, goals, spare: 0, pad: 0 };
+                let timetable = Timetable { steps: vec![Step { moves, pad: 0 }], spare: 0 };
+                compare(&mut tally, &order.record(), &timetable.record());
+            }
+        }
+    }
+    tally.print();
+}
+
+#[test]
+fn many_steps() {
+    let most = (1 << 22) - 1;
+    let mut tally = Tally::new("timetable_check, up to 4194303 steps");
+    let order = Order { n: 2, edges: vec![(0, 1)], starts: vec![0], goals: vec![1], spare: 0, pad: 0 };
+    for steps in [0usize, 1, 255, 256, 65_535, 65_536, most - 1, most] {
+        // rack 1 goes to and fro, then waits
+        let step = |index: usize| match index {
+            0..100 => Step { moves: vec![[(0, 1), (1, 0)][index % 2]], pad: 0 },
+            _ => Step::default(),
+        };
+        let timetable = Timetable { steps: (0..steps).map(step).collect(), spare: 0 }.record();
+        compare(&mut tally, &order.record(), &timetable);
+        compare(&mut tally, &order.record(), &timetable[..timetable.len() - 1]);
+    }
+    tally.print();
+}
+
+#[test]
+fn long_timetables_on_large_floors() {
+    let mut random = Random::new(0x5EED_3003);
+    let mut tally = Tally::new("timetable_check, 20000 steps");
+    for m in [0, 1, 20, 62, 63, 64] {
+        for shape in [Shape::Grid, Shape::Ring, Shape::BiConnected, Shape::Path] {
+            let floor = floors::floor_of_shape(&mut random, shape);
+            let m = m.min(floor.n);
+            let sample = timetables::sound_on(&mut random, floor, m, 20_000);
+            compare(&mut tally, &sample.order.record(), &sample.timetable.record());
+        }
+    }
+    tally.print();
+}
