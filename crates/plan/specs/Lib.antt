@@ -1,3 +1,4 @@
 pub mod Plan
 pub mod Verdict
 pub mod Readers
+pub mod PlanRecord
