@@ -2,3 +2,4 @@ pub mod Plan
 pub mod Verdict
 pub mod Readers
 pub mod PlanRecord
+pub mod Solutions
