@@ -3,3 +3,4 @@ pub mod Verdict
 pub mod Readers
 pub mod PlanRecord
 pub mod Solutions
+pub mod Examples
