@@ -74,13 +74,13 @@ fn replay(tail: &[u8], k: usize, matrix: &[u8; 4096], racks: &mut [u8; 64]) -> u
         let step = field::pair_at(tail, j);
         let a = step.first;
         let b = step.second;
-        j += 1;
         let rack = racks[a];
         if !legal(matrix[a * 64 + b], rack, racks[b]) {
-            return j;
+            return j + 1;
         }
         racks[a] = 0;
         racks[b] = rack;
+        j += 1;
     }
     0
 }
