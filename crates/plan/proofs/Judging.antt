@@ -1,17 +1,15 @@
 -- The judgement on tables, from what its calls give: g and h are the tables filled, r the number of the first illegal move or 0 and h′
 -- the table after the replay, q the lowest misplaced rack or 0. Assumes nothing.
 use Prim.Native.Nat.{ℕ, zero, suc, _+_, _*_}
-use mathlib.Core.Path.{_≡_, refl, sym, ap, _∙_}
-use mathlib.Core.Bool.{true, false, not}
+use mathlib.Core.Path.{_≡_, refl, ap, _∙_}
 use mathlib.Core.List.{List, [], _∷_}
-use native.Mathlib.Omega.{arith}
 use borrow.Author.Tests.{eq-eqb, ne-eqb}
 use lib.ListN.{replicate}
 use Rattle.answers.specs.Answer.{accepted, refused}
 use Rattle.field.specs.Bits.{pairs, positions}
 use Rattle.order.specs.Tables.{marked, placed}
-use Rattle.motion.specs.Replay.{Replayed, ended, stopped}
-use Rattle.tables.specs.Tables.{misplacedOn, MisplacedOn, judgedOn}
+use Rattle.motion.specs.Replay.{ended, stopped}
+use Rattle.tables.specs.Tables.{MisplacedOn, judgedOn}
 use Rattle.tables.specs.MovesOn.{replayOn}
 use Rattle.plan.specs.Readers.{endOf, Replays, tableAnswer}
 

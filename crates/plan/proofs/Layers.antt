@@ -6,12 +6,12 @@
 --     judgement-is      the judgement on tables is document 01's
 -- Assumes nothing.
 use Prim.Native.Nat.{ℕ, _+_, _-_, _*_, _^_, _≤_, _<_}
-use mathlib.Core.Path.{_≡_, refl, sym, ap, ap₂, _∙_}
-use mathlib.Core.Bool.{Bool, true, false, not}
+use mathlib.Core.Path.{_≡_, refl, sym, ap, _∙_}
+use mathlib.Core.Bool.{Bool, true, false}
 use mathlib.Core.List.{List, [], _∷_}
 use native.Mathlib.Omega.{arith}
 use native.Mathlib.Nat.{add-assoc}
-use lib.ListN.{length, take, drop, replicate}
+use lib.ListN.{length, take, drop}
 use Rattle.answers.specs.Answer.{Answer, accepted, refused, refuse, passUp}
 use Rattle.answers.specs.AnswerLaws.{refuse-not, refuse-else, passUp-accepted, passUp-refused}
 use Rattle.field.specs.Bits.{field, pairs, positions}
@@ -20,12 +20,10 @@ use Rattle.field.specs.UnitLaws.{Fitting, fitting, tail-units}
 use Rattle.field.specs.RecordLaws.{rest-is, pairs-drop, positions-drop, pairs-lt}
 use Rattle.order.specs.Order.{edgeCount, rackCount, unitCount, floorOf, startsOf, goalsOf, counts, orderAnswer, wrongLength, WellFormed}
 use Rattle.order.specs.OrderLaws.{well-formed, accepted-is}
-use Rattle.order.specs.Tables.{marked, placed}
-use Rattle.motion.specs.Replay.{Replayed, replayMoves}
+use Rattle.motion.specs.Replay.{replayMoves}
 use Rattle.motion.specs.Judgement.{judged}
-use Rattle.tables.specs.Tables.{judgedOn}
 use Rattle.tables.specs.Accepted.{WellPlaced, well-placed}
-use Rattle.tables.specs.MovesOn.{matrixOf, tableOf, replayOn, moves-judged}
+use Rattle.tables.specs.MovesOn.{matrixOf, tableOf, moves-judged}
 use Rattle.plan.specs.Plan.{moveCount, planMoves, wrongPlanLength, planPaddingSet, planAnswer}
 use Rattle.plan.specs.Readers.{recordAnswer, tableAnswer}
 

@@ -9,7 +9,7 @@ use native.Mathlib.Numerals.{add-one}
 use lib.ListN.{getD, set}
 use Rattle.field.specs.Bits.{field, pairs}
 use Rattle.field.specs.RecordLaws.{pairs-next}
-use Rattle.motion.specs.Replay.{Replayed, ended, stopped, replayFrom}
+use Rattle.motion.specs.Replay.{stopped, replayFrom}
 use Rattle.tables.specs.Tables.{legalEntries, legalOn, movedOn}
 use Rattle.tables.specs.MovesOn.{replayOn}
 use Rattle.plan.specs.Readers.{endOf, Replays}

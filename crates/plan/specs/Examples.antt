@@ -5,6 +5,7 @@
 --     case-1, case-7         starred cases 1, first half, and 7
 --     meets-30, ..           one plan each for the other numbers; an order's refusal is passed up
 --     case-well-formed, case-solution, case-only    an order, a solution and its one record, for the theorems
+--     full-empty, bare-empty                        an empty plan on a full floor and on one without racks, for the limits
 --     case-written, case-read                       writing and reading the case book's moves
 -- Assumes nothing.
 use Prim.Native.Nat.{ℕ}
@@ -23,6 +24,7 @@ use Rattle.motion.specs.Replay.{replayFrom, replayMoves, trace}
 use Rattle.motion.specs.Judgement.{misplaced, judged}
 use Rattle.plan.specs.Plan.{planBits, planRecord, moveCount, planMoves, wrongPlanLength, planPaddingSet, planAnswer}
 use Rattle.plan.specs.PlanRecord.{Written, written}
+use Rattle.plan.specs.Limits.{EmptyPlan, full-floor, no-racks}
 use Rattle.plan.specs.Solutions.{SolutionOf, AcceptedPlan, OnlyRecord, plan-solutions}
 
 -- n = 4, edges 0-1, 0-2, 1-2, 1-3, 2-3, rack 1 from 0 to 3, rack 2 from 3 to 0
@@ -100,3 +102,35 @@ case-written = refl
 
 pub case-read : Written caseMoves
 case-read = written caseMoves (lit< tt) case-small
+
+-- n = 1, one rack from 0 to 0
+abbrev fullFloor : List ℕ
+fullFloor = 0x02 ∷ 0x00 ∷ 0x04 ∷ 0x00 ∷ 0x00 ∷ []
+
+full-well-formed : WellFormed fullFloor
+unfolding planAnswer wrongPlanLength planPaddingSet moveCount planMoves judged misplaced replayMoves replayFrom legalMove onFloor joined among isPair occupied vacant afterMove after goesTo orderAnswer wrongLength misfits unitsLength unitCount wrongPositions paddingSet unclean pad wrongEdges some badEdge precedes ascending wrongRacks wrongPlaces repeats orderOf floorOf startsOf goalsOf counts positionCount edgeCount rackCount field number bitsOf bits pairs positions
+full-well-formed = record { length-right = refl; positions-right = refl; padding-clear = refl; edges-right = refl; racks-right = refl }
+
+full-accepted : planAnswer fullFloor (0x00 ∷ 0x00 ∷ 0x00 ∷ []) ≡ accepted (0 ∷ [])
+unfolding planAnswer wrongPlanLength planPaddingSet moveCount planMoves judged misplaced replayMoves replayFrom legalMove onFloor joined among isPair occupied vacant afterMove after goesTo orderAnswer wrongLength misfits unitsLength unitCount wrongPositions paddingSet unclean pad wrongEdges some badEdge precedes ascending wrongRacks wrongPlaces repeats orderOf floorOf startsOf goalsOf counts positionCount edgeCount rackCount field number bitsOf bits pairs positions
+full-accepted = refl
+
+pub full-empty : EmptyPlan fullFloor (0x00 ∷ 0x00 ∷ 0x00 ∷ []) (0 ∷ [])
+unfolding rackCount floorOf positionCount field number bitsOf bits
+full-empty = full-floor fullFloor (0x00 ∷ 0x00 ∷ 0x00 ∷ []) (0 ∷ []) full-well-formed refl .0 full-accepted
+
+-- n = 1, no rack
+abbrev bareFloor : List ℕ
+bareFloor = 0x02 ∷ 0x00 ∷ 0x00 ∷ []
+
+bare-well-formed : WellFormed bareFloor
+unfolding planAnswer wrongPlanLength planPaddingSet moveCount planMoves judged misplaced replayMoves replayFrom legalMove onFloor joined among isPair occupied vacant afterMove after goesTo orderAnswer wrongLength misfits unitsLength unitCount wrongPositions paddingSet unclean pad wrongEdges some badEdge precedes ascending wrongRacks wrongPlaces repeats orderOf floorOf startsOf goalsOf counts positionCount edgeCount rackCount field number bitsOf bits pairs positions
+bare-well-formed = record { length-right = refl; positions-right = refl; padding-clear = refl; edges-right = refl; racks-right = refl }
+
+bare-accepted : planAnswer bareFloor (0x00 ∷ 0x00 ∷ 0x00 ∷ []) ≡ accepted (0 ∷ [])
+unfolding planAnswer wrongPlanLength planPaddingSet moveCount planMoves judged misplaced replayMoves replayFrom legalMove onFloor joined among isPair occupied vacant afterMove after goesTo orderAnswer wrongLength misfits unitsLength unitCount wrongPositions paddingSet unclean pad wrongEdges some badEdge precedes ascending wrongRacks wrongPlaces repeats orderOf floorOf startsOf goalsOf counts positionCount edgeCount rackCount field number bitsOf bits pairs positions
+bare-accepted = refl
+
+pub bare-empty : EmptyPlan bareFloor (0x00 ∷ 0x00 ∷ 0x00 ∷ []) (0 ∷ [])
+unfolding rackCount floorOf positionCount field number bitsOf bits
+bare-empty = no-racks bareFloor (0x00 ∷ 0x00 ∷ 0x00 ∷ []) (0 ∷ []) bare-well-formed refl .0 bare-accepted

@@ -3,4 +3,5 @@ pub mod Verdict
 pub mod Readers
 pub mod PlanRecord
 pub mod Solutions
+pub mod Limits
 pub mod Examples

@@ -1,11 +1,12 @@
 -- Writing and reading a plan record are inverse (document 01, "Records").
 --
+--     moves-counted         a byte string lists as many moves as its count says
 --     length-planBits       how many bits the moves take
 --     Written ms, written   of fewer than 2^22 moves of positions below 64: the record is bytes, 30 and 31 pass it, its count is how many
 --                           moves there are, and reading it gives them back
 --     record-read           a byte string that 30 and 31 pass is the record of the moves that it lists
 -- Assumes nothing.
-use Prim.Native.Nat.{ℕ, _+_, _*_, _/_, _^_, _≤_, _<_}
+use Prim.Native.Nat.{ℕ, _+_, _*_, _/_, _^_, _<_}
 use mathlib.Core.Path.{_≡_, refl, sym, ap, ap₂, _∙_}
 use mathlib.Core.Bool.{false}
 use mathlib.Core.List.{List, [], _++_, append-assoc, append-nil}
@@ -13,11 +14,15 @@ use native.Mathlib.Omega.{arith}
 use lib.ListN.{length, take, drop, replicate, length-append}
 use lib.Seq.{take-all}
 use lib.Pow.{pow-pos}
-use Rattle.field.specs.Bits.{bits, bitsOf, field, pairs, pairBits, pad, padded, toBytes}
+use Rattle.field.specs.Bits.{bits, bitsOf, field, pairBits, pad, padded}
 use Rattle.field.specs.BitLaws.{Bits, Bytes, below-append, bits-are, bits-field, length-bits, length-bitsOf, field-at}
 use Rattle.field.specs.RecordLaws.{BelowPairs, length-pairs, length-pairBits, pairBits-are, bits-pairs, pairs-at, bits-zero, zeros-at, join-part, up-to-byte, length-toBytes, toBytes-are, bitsOf-toBytes, toBytes-from}
 use Rattle.field.specs.UnitLaws.{Fitting, fitting, fits, Clean, cleanly, clean, pad-after-head}
 use Rattle.plan.specs.Plan.{planBits, planRecord, moveCount, planMoves, wrongPlanLength, planPaddingSet}
+
+pub moves-counted : (p : List ℕ) → length (planMoves p) ≡ moveCount p
+unfolding planMoves
+moves-counted p = length-pairs p 24 (moveCount p)
 
 pub length-planBits : (ms : List (ℕ × ℕ)) → length (planBits ms) ≡ 24 + 12 * length ms
 unfolding planBits
@@ -106,13 +111,9 @@ module _ (p : List ℕ) (b : Bytes p) (l : wrongPlanLength p ≡ false) (c : pla
       (zeros-at p (24 + 12 * k) (pad (12 * k)) (omega arith) (clear .pad-clear))
       ∙ take-all (24 + 12 * k + pad (12 * k)) (bitsOf p) (rw length-bitsOf (omega arith))
 
-  moves-counted : length (planMoves p) ≡ moveCount p
-  unfolding planMoves
-  moves-counted = length-pairs p 24 (moveCount p)
-
   pub record-read : planRecord (planMoves p) ≡ p
   unfolding planRecord
   record-read = sym (toBytes-from b (planBits-are (planMoves p)) (sym all))
     where
       all : padded (planBits (planMoves p)) ≡ bitsOf p
-      all = padded-by (planMoves p) ∙ (unfold planBits in rw moves-counted read-bits)
+      all = padded-by (planMoves p) ∙ (unfold planBits in rw (moves-counted p) read-bits)

@@ -1,5 +1,7 @@
 -- The plan checker accepts exactly the solutions of Surynek's Definition 1, as document 01 reads it (motion's Pebble): demand 2 for plans.
 --
+--     SolutionOf o ξ S     the arrangements S solve the task of the order o in ξ moves
+--     arrangements o p     the arrangements that the replay of the plan p for the order o passes through
 --     AcceptedPlan o p v   what acceptance of the plan p for the order o with the counts v means: 10 to 14, 30 and 31 pass both, v is the
 --                          count of moves, and the arrangements of the replay are a solution with as many moves
 --     OnlyRecord o ξ S     exactly one byte string that 30 and 31 pass has the arrangements S as its replay, and it is accepted with ξ
@@ -7,39 +9,37 @@
 --                          exactly one record, which is accepted
 -- Assumes nothing.
 use Prim.Native.Nat.{ℕ, _^_, _≤_, _<_}
-use mathlib.Core.Bool.{Bool, false}
+use mathlib.Core.Bool.{false}
 use mathlib.Core.List.{List, [], _∷_}
 use mathlib.Core.Logic.{_↔_}
 use mathlib.Core.Path.{_≡_, refl, sym, ap, _∙_}
 use native.Mathlib.Omega.{arith}
-use lib.Dec.{T}
 use lib.ListN.{length}
-use Rattle.answers.specs.Answer.{Answer, accepted, refuse, passUp}
+use Rattle.answers.specs.Answer.{Answer, accepted, refuse}
 use Rattle.answers.specs.AnswerLaws.{refuse-not, refuse-else, passUp-low, passUp-high, passUp-accepted}
 use Rattle.field.specs.BitLaws.{Bytes}
-use Rattle.field.specs.RecordLaws.{BelowPairs, none₂, more₂, length-pairs}
+use Rattle.field.specs.RecordLaws.{BelowPairs, none₂, more₂}
 use Rattle.order.specs.Floor.{Floor}
 use Rattle.order.specs.Order.{rackCount, floorOf, startsOf, goalsOf, counts, orderAnswer, WellFormed}
 use Rattle.order.specs.OrderLaws.{well-formed, accepted-is}
 use Rattle.motion.specs.Arrangement.{Arrangement}
 use Rattle.motion.specs.Move.{afterMove}
 use Rattle.motion.specs.MoveLaws.{onFloor-parts, legal-parts}
-use Rattle.motion.specs.Replay.{Replayed, ended, replayMoves, trace}
+use Rattle.motion.specs.Replay.{ended, replayMoves, trace}
 use Rattle.motion.specs.Lawful.{Leads, still, _then_, replayMoves-ended}
 use Rattle.motion.specs.Sound.{leads-length}
 use Rattle.motion.specs.Judgement.{judged}
 use Rattle.motion.specs.JudgementLaws.{judged-accepted}
 use Rattle.motion.specs.Pebble.{Solution}
 use Rattle.motion.specs.PebbleLaws.{OnlyMoves, pebble-replay}
-use Rattle.tables.specs.Accepted.{WellPlaced, well-placed}
+use Rattle.tables.specs.Accepted.{well-placed}
 use Rattle.plan.specs.Plan.{planRecord, moveCount, planMoves, wrongPlanLength, planPaddingSet, planAnswer}
-use Rattle.plan.specs.PlanRecord.{Written, written, record-read}
+use Rattle.plan.specs.PlanRecord.{moves-counted, Written, written, record-read}
 
--- the order's task: a solution of ξ moves is a sequence of arrangements S from the starts to the goals
 abbrev pub SolutionOf : List ℕ → ℕ → List Arrangement → Type 0
 SolutionOf o ξ S = Solution (floorOf o) (rackCount o) (startsOf o) (goalsOf o) ξ S
 
--- the arrangements that the replay of p passes through, the starts and the last included
+-- the starts and the last included
 abbrev pub arrangements : List ℕ → List ℕ → List Arrangement
 arrangements o p = trace afterMove (startsOf o) (planMoves p)
 
@@ -59,10 +59,6 @@ pub record OnlyRecord (o : List ℕ) (ξ : ℕ) (S : List Arrangement) : Type 0 
   pub is-accepted : planAnswer o plan ≡ accepted (ξ ∷ [])
   pub only : (p : List ℕ) → Bytes p → wrongPlanLength p ≡ false → planPaddingSet p ≡ false → arrangements o p ≡ S → p ≡ plan
 
-moves-counted : (p : List ℕ) → length (planMoves p) ≡ moveCount p
-unfolding planMoves
-moves-counted p = length-pairs p 24 (moveCount p)
-
 module _ (o p v : List ℕ) where
   judgement : Answer
   judgement = judged 32 33 (goalsOf o) (moveCount p ∷ []) (replayMoves (floorOf o) (startsOf o) (planMoves p))
@@ -75,7 +71,7 @@ module _ (o p v : List ℕ) where
       let x = replayMoves (floorOf o) (startsOf o) (planMoves p) in
       let same : (A : Arrangement) → x ≡ ended A → length A ≡ length (goalsOf o) = λ A e. leads-length (floorOf o) (replayMoves-ended (floorOf o) (startsOf o) (planMoves p) A .0 e) ∙ g .starts-length ∙ sym (g .goals-length) in
       let by = judged-accepted 32 33 (goalsOf o) (moveCount p ∷ []) v x same in
-      let solved = pebble-replay (floorOf o) (rackCount o) (startsOf o) (goalsOf o) (g .pebbles) .0 (planMoves p) in
+      let solved = pebble-replay (floorOf o) (rackCount o) (startsOf o) (goalsOf o) (g .task) .0 (planMoves p) in
       (λ a. (by .0 a .1, rw moves-counted at (solved .0 (by .0 a .0))), λ t. by .1 (solved .1 (rw moves-counted (t .1)), t .0))
 
   accepted-to : planAnswer o p ≡ accepted v → AcceptedPlan o p v
@@ -113,7 +109,7 @@ leads-small F few (_then_ {A = A} {x = m} l rest) =
 
 module _ (o : List ℕ) (w : WellFormed o) (ξ : ℕ) (S : List Arrangement) (few : ξ < 2 ^ 22) (s : SolutionOf o ξ S) where
   the-moves : OnlyMoves (floorOf o) (startsOf o) (goalsOf o) ξ S
-  the-moves = pebble-replay (floorOf o) (rackCount o) (startsOf o) (goalsOf o) (well-placed o w .pebbles) .1 ξ S s
+  the-moves = pebble-replay (floorOf o) (rackCount o) (startsOf o) (goalsOf o) (well-placed o w .task) .1 ξ S s
 
   the-record : Written (the-moves .moves)
   the-record =

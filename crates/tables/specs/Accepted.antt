@@ -3,9 +3,9 @@
 --     places-sound       starts or goals that 14 passes stand at different positions below n
 --     WellPlaced o, well-placed   of a well-formed order: few positions, edges and racks of positions below 64, sound starts and goals
 -- Assumes nothing.
-use Prim.Native.Nat.{ℕ, _+_, _*_, _≤_, _<_}
-use mathlib.Core.Path.{_≡_, refl, sym, ap, _∙_}
-use mathlib.Core.Bool.{Bool, true, false, not, _&&_, _||_}
+use Prim.Native.Nat.{ℕ, _+_, _*_, _≤_}
+use mathlib.Core.Path.{_≡_, refl, sym, _∙_}
+use mathlib.Core.Bool.{false, _&&_}
 use mathlib.Core.List.{List, [], _∷_}
 use mathlib.Core.Logic.{⊎-elim, _≢_}
 use native.Mathlib.Omega.{arith}
@@ -15,10 +15,10 @@ use lib.Dec.{T, leb, eqb, ltb, lt→ltb}
 use Rattle.field.specs.RecordLaws.{BelowPairs, length-positions, pairs-lt}
 use Rattle.field.specs.UnitLaws.{or-left, or-right}
 use Rattle.order.specs.Order.{positionCount, edgeCount, rackCount, floorOf, startsOf, goalsOf, orderOf, some, repeats, wrongPlaces, wrongEdges, wrongRacks, WellFormed}
-use Rattle.order.specs.OrderLaws.{RightHead, right-head}
-use Rattle.motion.specs.Arrangement.{Arrangement, occupied, vacant}
+use Rattle.order.specs.OrderLaws.{right-head}
+use Rattle.motion.specs.Arrangement.{occupied, vacant}
 use Rattle.motion.specs.Sound.{Sound, isSound, isSound-sound, sound-length}
-use Rattle.motion.specs.Pebble.{Instance}
+use Rattle.motion.specs.Problem.{Instance}
 use Rattle.motion.specs.PebbleLaws.{invertible-sound}
 use Rattle.motion.specs.Test.{and-parts, equal?}
 
@@ -57,8 +57,8 @@ pub record WellPlaced (o : List ℕ) : Type 0 where
   pub goals-sound : Sound (floorOf o .positions) (goalsOf o)
   pub starts-length : length (startsOf o) ≡ rackCount o
   pub goals-length : length (goalsOf o) ≡ rackCount o
-  -- "The instance of PMG is formally a quadruple" (motion's Pebble)
-  pub pebbles : Instance (floorOf o) (rackCount o) (startsOf o) (goalsOf o)
+  -- of both of Surynek's problems (motion's Problem)
+  pub task : Instance (floorOf o) (rackCount o) (startsOf o) (goalsOf o)
 
 module _ (o : List ℕ) (w : WellFormed o) where
   few : positionCount o ≤ 64
@@ -99,7 +99,7 @@ module _ (o : List ℕ) (w : WellFormed o) where
         goals-sound = goals;
         starts-length = starts-count;
         goals-length = goals-count;
-        pebbles = record {
+        task = record {
           fewer = fewer;
           initial = invertible-sound (floorOf o) (rackCount o) (startsOf o) .1 (starts-count, starts);
           goal = invertible-sound (floorOf o) (rackCount o) (goalsOf o) .1 (goals-count, goals);

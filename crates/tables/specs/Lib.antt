@@ -4,3 +4,4 @@ pub mod MatrixLaws
 pub mod Simulation
 pub mod MovesOn
 pub mod Accepted
+pub mod Examples

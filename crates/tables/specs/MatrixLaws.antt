@@ -5,23 +5,24 @@
 --     joined-below       an edge of a floor that 13 passes joins positions below n
 --     onFloor-joined     so on such a floor an edge is all that a move needs to be on the floor
 -- Assumes nothing.
-use Prim.Native.Nat.{ℕ, zero, suc, _+_, _*_, _≤_, _<_}
+use Prim.Native.Nat.{ℕ, _+_, _*_, _<_}
 use mathlib.Core.Path.{_≡_, refl, sym, ap, ap₂, _∙_}
 use mathlib.Core.Bool.{Bool, true, false, not, _&&_, _||_, and-comm}
 use mathlib.Core.List.{List, [], _∷_}
 use mathlib.Core.Logic.{⊎-elim, _≢_}
 use native.Mathlib.Omega.{arith}
-use borrow.Author.Tests.{eq-eqb, ne-eqb, lt-ltb, leb-false}
-use lib.ListN.{length, getD, set, replicate, length-set, length-replicate}
+use borrow.Author.Tests.{eq-eqb, ne-eqb, lt-ltb}
+use lib.ListN.{length, set, replicate, length-set, length-replicate}
 use lib.Seq.{getD-set-same, getD-set-other}
-use lib.Dec.{T, eqb, leb, ltb}
+use lib.Dec.{T, eqb, ltb}
 use Rattle.field.specs.RecordLaws.{BelowPairs, none₂, more₂}
-use Rattle.field.specs.UnitLaws.{or-left, or-right}
+use Rattle.field.specs.UnitLaws.{or-left}
 use Rattle.order.specs.Floor.{Floor, isPair, among, joined}
+use Rattle.order.specs.EdgeLaws.{good-among}
 use Rattle.order.specs.Order.{some, badEdge, ascending, wrongEdges}
 use Rattle.order.specs.Tables.{marked}
 use Rattle.motion.specs.Move.{onFloor}
-use Rattle.motion.specs.Test.{and-parts, or-parts, eqb-parts, equal?, decided}
+use Rattle.motion.specs.Test.{or-parts, equal?, decided}
 use Rattle.tables.specs.Tables.{edgeAt}
 use Rattle.tables.specs.TableLaws.{passed, failed, zeros-at}
 
@@ -87,35 +88,18 @@ matrix-joined F a b r h k =
     marked-edges (replicate 4096 0) (F .edges) a b (length-replicate {A = ℕ} 4096 0) r h k
     ∙ ap (λ (e : Bool). e || (among (a, b) (F .edges) || among (b, a) (F .edges))) (none-there (a, b))
 
--- the edges that 13 passes
-edge-below : (n : ℕ) (e : ℕ × ℕ) → badEdge n e ≡ false → (e .0 < n) × (e .1 < n)
-unfolding badEdge
-edge-below n e r =
-    let u : (leb n (e .0) || leb n (e .1)) ≡ false = or-left (leb n (e .0) || leb n (e .1)) (leb (e .1) (e .0)) r in
-    (leb-false n (e .0) (or-left (leb n (e .0)) (leb n (e .1)) u), leb-false n (e .1) (or-right (leb n (e .0)) (leb n (e .1)) u))
-
-among-below : (n a b : ℕ) (l : List (ℕ × ℕ)) → some (badEdge n) l ≡ false → T (among (a, b) l) → (a < n) × (b < n)
-unfolding among some isPair
-among-below n a b [] r t = absurd t
-among-below n a b (e ∷ l) r t =
-    ⊎-elim
-    (λ (here : T (eqb a (e .0) && eqb b (e .1))).
-    let u = and-parts (eqb a (e .0)) (eqb b (e .1)) .0 here in
-    let v = edge-below n e (or-left (badEdge n e) (some (badEdge n) l) r) in
-    let p : a ≡ e .0 = eqb-parts a (e .0) .0 (u .0) in
-    let q : b ≡ e .1 = eqb-parts b (e .1) .0 (u .1) in
-    (omega (arith, v .0), omega (arith, v .1)))
-    (λ (there : T (among (a, b) l)). among-below n a b l (or-right (badEdge n e) (some (badEdge n) l) r) there)
-    (or-parts (eqb a (e .0) && eqb b (e .1)) (among (a, b) l) .0 t)
-
 module _ (F : Floor) (right : wrongEdges F ≡ false) (a b : ℕ) where
   pub joined-below : T (joined F a b) → (a < F .positions) × (b < F .positions)
   unfolding joined wrongEdges
   joined-below t =
-      let r : some (badEdge (F .positions)) (F .edges) ≡ false = or-left (some (badEdge (F .positions)) (F .edges)) (not (ascending (F .edges))) right in
+      let good : some (badEdge (F .positions)) (F .edges) ≡ false = or-left (some (badEdge (F .positions)) (F .edges)) (not (ascending (F .edges))) right in
       ⊎-elim
-      (λ (u : T (among (a, b) (F .edges))). among-below (F .positions) a b (F .edges) r u)
-      (λ (u : T (among (b, a) (F .edges))). let v = among-below (F .positions) b a (F .edges) r u in (v .1, v .0))
+      (λ (u : T (among (a, b) (F .edges))).
+      let v = good-among (F .positions) (a, b) (F .edges) good (passed (among (a, b) (F .edges)) u) in
+      (omega (arith, v .0, v .1), v .1))
+      (λ (u : T (among (b, a) (F .edges))).
+      let v = good-among (F .positions) (b, a) (F .edges) good (passed (among (b, a) (F .edges)) u) in
+      (v .1, omega (arith, v .0, v .1)))
       (or-parts (among (a, b) (F .edges)) (among (b, a) (F .edges)) .0 t)
 
   pub onFloor-joined : onFloor F (a, b) ≡ joined F a b

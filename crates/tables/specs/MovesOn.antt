@@ -7,15 +7,14 @@
 --     moves-alike      the replay on tables of moves below 64 ends as the replay on arrangements does
 --     moves-judged     and so it is judged
 -- Assumes nothing.
-use Prim.Native.Nat.{ℕ, _+_, _*_, _≤_, _<_}
+use Prim.Native.Nat.{ℕ, _≤_, _<_}
 use mathlib.Core.Path.{_≡_, refl, sym, ap, ap₂, _∙_}
 use mathlib.Core.Bool.{Bool, true, false, not, _&&_}
-use mathlib.Core.List.{List, [], _∷_}
-use native.Mathlib.Omega.{arith}
+use mathlib.Core.List.{List}
 use lib.ListN.{length, getD, replicate}
 use lib.Dec.{T, eqb}
 use Rattle.field.specs.RecordLaws.{BelowPairs, none₂, more₂}
-use Rattle.order.specs.Floor.{Floor, joined}
+use Rattle.order.specs.Floor.{Floor}
 use Rattle.order.specs.Order.{wrongEdges}
 use Rattle.order.specs.Tables.{marked, placed}
 use Rattle.motion.specs.Arrangement.{Arrangement, occupied, vacant}

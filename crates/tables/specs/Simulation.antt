@@ -3,22 +3,20 @@
 --     Each P xs          each of the list xs has the property P
 --     Alike R x y        two replays ended alike: at two that R relates, or both stopped at the same number
 --     replay-alike       where R is kept, and both judge alike what has the property P, replays of a list of such end alike
---     judged-alike       replays that end alike are judged alike, where R makes of two ends the same judgement
---     judged-on          on tables: an arrangement and the table that holds it
+--     judged-on          replays that end alike are judged alike, where R says that the table holds the arrangement
 -- Assumes nothing.
 use Prim.Native.Nat.{ℕ, suc}
-use mathlib.Core.Path.{_≡_, refl, sym, ap, _∙_}
-use mathlib.Core.Bool.{Bool, not, cond}
+use mathlib.Core.Path.{_≡_, refl}
+use mathlib.Core.Bool.{Bool, not}
 use mathlib.Core.List.{List, [], _∷_}
 use mathlib.Core.Logic.{⊎-elim}
-use lib.Dec.{T, eqb}
+use lib.Dec.{T}
 use lib.ListN.{length}
-use Rattle.answers.specs.Answer.{Answer, accepted, refuse}
 use Rattle.motion.specs.Arrangement.{Arrangement}
 use Rattle.motion.specs.Replay.{Replayed, ended, stopped, replayFrom}
-use Rattle.motion.specs.Judgement.{misplaced, judged}
-use Rattle.motion.specs.Test.{decided, cond-true, cond-false}
-use Rattle.tables.specs.Tables.{misplacedOn, judgedOn, Holds}
+use Rattle.motion.specs.Judgement.{judged}
+use Rattle.motion.specs.Test.{decided}
+use Rattle.tables.specs.Tables.{judgedOn, Holds}
 use Rattle.tables.specs.TableLaws.{passed, failed, misplaced-on}
 
 pub data Each {X : Type 0} (P : X → Type 0) : List X → Type 0 where

@@ -9,14 +9,13 @@
 -- Assumes nothing.
 use Prim.Native.Nat.{ℕ, zero, suc, _+_, _≤_, _<_}
 use mathlib.Core.Path.{_≡_, refl, sym, ap, _∙_}
-use mathlib.Core.Bool.{Bool, true, false, not, cond, _&&_, _||_}
+use mathlib.Core.Bool.{Bool, true, false, not, _&&_}
 use mathlib.Core.List.{List, [], _∷_}
 use mathlib.Core.Logic.{⊎-elim, _≢_}
 use native.Mathlib.Omega.{arith}
 use native.Mathlib.Nat.{add-zero, add-suc, suc-add}
-use native.Mathlib.Numerals.{add-one}
 use borrow.Author.Tests.{eq-eqb, ne-eqb}
-use lib.ListN.{length, getD, set, replicate, length-set, length-replicate, getD-replicate, List·getD-eq-default}
+use lib.ListN.{length, getD, set, replicate, length-set, length-replicate}
 use lib.Seq.{getD-set-same, getD-set-other}
 use lib.Dec.{T, eqb, ltb, ltb→lt}
 use Rattle.order.specs.Tables.{placed}
@@ -26,7 +25,7 @@ use Rattle.motion.specs.Move.{afterMove}
 use Rattle.motion.specs.MoveLaws.{move-length, moved-rack, moved-other}
 use Rattle.motion.specs.Sound.{Sound, isSound, isSound-sound}
 use Rattle.motion.specs.Judgement.{misplaced}
-use Rattle.motion.specs.Test.{and-parts, or-parts, not-parts, eqb-parts, equal?}
+use Rattle.motion.specs.Test.{and-parts, equal?}
 use Rattle.tables.specs.Tables.{heldAt, movedOn, misplacedOn, Holds}
 
 -- a test that passes or fails, as an equation

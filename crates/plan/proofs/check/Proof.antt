@@ -1,14 +1,29 @@
 -- `plan::check` meets its contract: a refusal of the order reader or of the record reader is passed up, and `Layers` has the judgement
 -- above their acceptance. Assumes nothing.
-use native.Mathlib.Omega.{arith}
-use mathlib.Core.Path.{ap, sym, _∙_}
+use mathlib.Core.Path.{_≡_, ap, sym, _∙_}
 use mathlib.Core.List.{[], _∷_}
+use Rattle.answers.specs.Answer.{accepted}
+use Rattle.order.specs.Order.{orderAnswer}
 use Rattle.order.specs.Verdict.{answerOf as orderAnswerOf}
+use Rattle.plan.specs.Readers.{recordAnswer}
 use Rattle.plan.specs.Verdict.{answerOf}
-use Rattle.plan.proofs.Layers.{order-refused, record-refused, order-gave, record-gave, order-room, plan-room, answer-is}
+use Rattle.plan.proofs.Layers.{order-refused, record-refused, OrderGave, order-gave, RecordGave, record-gave, order-room, plan-room, answer-is}
 use borrow.Author.Needs.{needs}
 use Rattle.plan.proofs.check.Statement.{statement}
 use Rattle.plan.proofs.check.Tie as tie
+
+-- what both readers' acceptance tells
+order-accepted : (c : tie.After-known-told2) → accepted (c .before .before .before .before .before .below .given .0 .0 .positions ∷ c .before .before .before .before .before .below .given .0 .0 .edges ∷ c .before .before .before .before .before .below .given .0 .0 .racks ∷ []) ≡ orderAnswer (c .before .before .before .before .before .before .before .before .before .before .args .order .now)
+order-accepted c = ap orderAnswerOf (sym (c .before .before .before .before .before .below .given .1)) ∙ c .before .before .before .before .before .before .before .read .ensures
+
+record-accepted : (c : tie.After-known-told2) → accepted (c .before .head .given .0 .0 ∷ []) ≡ recordAnswer (c .before .before .before .before .before .before .before .before .before .before .args .plan .now)
+record-accepted c = ap answerOf (sym (c .before .head .given .1)) ∙ c .before .before .before .read-record .ensures
+
+of-order : (c : tie.After-known-told2) → OrderGave (c .before .before .before .before .before .before .before .before .before .before .args .order .now) (c .before .before .before .before .before .below .given .0 .0 .positions) (c .before .before .before .before .before .below .given .0 .0 .edges) (c .before .before .before .before .before .below .given .0 .0 .racks)
+of-order c = order-gave (c .before .before .before .before .before .before .before .before .before .before .args .order .now) (c .before .before .before .before .before .below .given .0 .0 .positions) (c .before .before .before .before .before .below .given .0 .0 .edges) (c .before .before .before .before .before .below .given .0 .0 .racks) (order-accepted c)
+
+of-record : (c : tie.After-known-told2) → RecordGave (c .before .before .before .before .before .before .before .before .before .before .args .plan .now) (c .before .head .given .0 .0)
+of-record c = record-gave (c .before .before .before .before .before .before .before .before .before .before .args .plan .now) (c .before .head .given .0 .0) (record-accepted c)
 
 read-requires : tie.Need-read-requires
 read-requires c κs = search needs
@@ -40,34 +55,30 @@ returns-2 c =
     record-refused (c .before .before .before .before .before .before .before .before .before .args .order .now) (c .before .before .before .before .before .before .before .before .before .args .plan .now) _ _ _ _ (ap orderAnswerOf (sym (c .before .before .before .before .below .given .1)) ∙ c .before .before .before .before .before .before .read .ensures) (c .before .before .read-record .ensures) (ap answerOf (c .enum-told2 .given .1))
 
 sub-judge : tie.Need-sub-judge
-sub-judge c =
-    order-gave (c .before .before .before .before .before .before .before .before .before .before .args .order .now) (c .before .before .before .before .before .below .given .0 .0 .positions) (c .before .before .before .before .before .below .given .0 .0 .edges) (c .before .before .before .before .before .below .given .0 .0 .racks) (ap orderAnswerOf (sym (c .before .before .before .before .before .below .given .1)) ∙ c .before .before .before .before .before .before .before .read .ensures) .fit .head-there
+sub-judge c = of-order c .fit .head-there
 
 part-judge-start : tie.Need-part-judge-start
-part-judge-start c =
-    order-gave (c .before .before .before .before .before .before .before .before .before .before .args .order .now) (c .before .before .before .before .before .below .given .0 .0 .positions) (c .before .before .before .before .before .below .given .0 .0 .edges) (c .before .before .before .before .before .below .given .0 .0 .racks) (ap orderAnswerOf (sym (c .before .before .before .before .before .below .given .1)) ∙ c .before .before .before .before .before .before .before .read .ensures) .fit .head-there
+part-judge-start c = of-order c .fit .head-there
 
 part-judge-end : tie.Need-part-judge-end
 part-judge-end c = search needs
 
 sub-judge-2 : tie.Need-sub-judge-2
-sub-judge-2 c =
-    record-gave (c .before .before .before .before .before .before .before .before .before .before .before .args .plan .now) (c .before .before .head .given .0 .0) (ap answerOf (sym (c .before .before .head .given .1)) ∙ c .before .before .before .before .read-record .ensures) .fit .head-there
+sub-judge-2 c = of-record (c .before) .fit .head-there
 
 part-judge-start-2 : tie.Need-part-judge-start-2
-part-judge-start-2 c =
-    record-gave (c .before .before .before .before .before .before .before .before .before .before .before .args .plan .now) (c .before .before .head .given .0 .0) (ap answerOf (sym (c .before .before .head .given .1)) ∙ c .before .before .before .before .read-record .ensures) .fit .head-there
+part-judge-start-2 c = of-record (c .before) .fit .head-there
 
 part-judge-end-2 : tie.Need-part-judge-end-2
 part-judge-end-2 c = search needs
 
 judge-requires : tie.Need-judge-requires
 judge-requires c κs =
-    (order-gave (c .before .before .before .before .before .before .before .before .before .before .before .before .args .order .now) (c .before .before .before .before .before .before .before .below .given .0 .0 .positions) (c .before .before .before .before .before .before .before .below .given .0 .0 .edges) (c .before .before .before .before .before .before .before .below .given .0 .0 .racks) (ap orderAnswerOf (sym (c .before .before .before .before .before .before .before .below .given .1)) ∙ c .before .before .before .before .before .before .before .before .before .read .ensures) .edges-below, order-gave (c .before .before .before .before .before .before .before .before .before .before .before .before .args .order .now) (c .before .before .before .before .before .before .before .below .given .0 .0 .positions) (c .before .before .before .before .before .before .before .below .given .0 .0 .edges) (c .before .before .before .before .before .before .before .below .given .0 .0 .racks) (ap orderAnswerOf (sym (c .before .before .before .before .before .before .before .below .given .1)) ∙ c .before .before .before .before .before .before .before .before .before .read .ensures) .racks-below, order-room (c .before .before .before .before .before .before .before .before .before .before .before .before .args .order .now) (c .before .before .before .before .before .before .before .below .given .0 .0 .positions) (c .before .before .before .before .before .before .before .below .given .0 .0 .edges) (c .before .before .before .before .before .before .before .below .given .0 .0 .racks) (order-gave (c .before .before .before .before .before .before .before .before .before .before .before .before .args .order .now) (c .before .before .before .before .before .before .before .below .given .0 .0 .positions) (c .before .before .before .before .before .before .before .below .given .0 .0 .edges) (c .before .before .before .before .before .before .before .below .given .0 .0 .racks) (ap orderAnswerOf (sym (c .before .before .before .before .before .before .before .below .given .1)) ∙ c .before .before .before .before .before .before .before .before .before .read .ensures)) (c .before .before .before .before .before .before .before .before .before .before .before .before .args .plan .now) (c .before .before .before .head .given .0 .0) (record-gave (c .before .before .before .before .before .before .before .before .before .before .before .before .args .plan .now) (c .before .before .before .head .given .0 .0) (ap answerOf (sym (c .before .before .before .head .given .1)) ∙ c .before .before .before .before .before .read-record .ensures)), record-gave (c .before .before .before .before .before .before .before .before .before .before .before .before .args .plan .now) (c .before .before .before .head .given .0 .0) (ap answerOf (sym (c .before .before .before .head .given .1)) ∙ c .before .before .before .before .before .read-record .ensures) .count-below, plan-room (c .before .before .before .before .before .before .before .before .before .before .before .before .args .order .now) (c .before .before .before .before .before .before .before .below .given .0 .0 .positions) (c .before .before .before .before .before .before .before .below .given .0 .0 .edges) (c .before .before .before .before .before .before .before .below .given .0 .0 .racks) (order-gave (c .before .before .before .before .before .before .before .before .before .before .before .before .args .order .now) (c .before .before .before .before .before .before .before .below .given .0 .0 .positions) (c .before .before .before .before .before .before .before .below .given .0 .0 .edges) (c .before .before .before .before .before .before .before .below .given .0 .0 .racks) (ap orderAnswerOf (sym (c .before .before .before .before .before .before .before .below .given .1)) ∙ c .before .before .before .before .before .before .before .before .before .read .ensures)) (c .before .before .before .before .before .before .before .before .before .before .before .before .args .plan .now) (c .before .before .before .head .given .0 .0) (record-gave (c .before .before .before .before .before .before .before .before .before .before .before .before .args .plan .now) (c .before .before .before .head .given .0 .0) (ap answerOf (sym (c .before .before .before .head .given .1)) ∙ c .before .before .before .before .before .read-record .ensures)))
+    (of-order (c .before .before) .edges-below, of-order (c .before .before) .racks-below, order-room (c .before .before .before .before .before .before .before .before .before .before .before .before .args .order .now) (c .before .before .before .before .before .before .before .below .given .0 .0 .positions) (c .before .before .before .before .before .before .before .below .given .0 .0 .edges) (c .before .before .before .before .before .before .before .below .given .0 .0 .racks) (of-order (c .before .before)) (c .before .before .before .before .before .before .before .before .before .before .before .before .args .plan .now) (c .before .before .before .head .given .0 .0) (of-record (c .before .before)), of-record (c .before .before) .count-below, plan-room (c .before .before .before .before .before .before .before .before .before .before .before .before .args .order .now) (c .before .before .before .before .before .before .before .below .given .0 .0 .positions) (c .before .before .before .before .before .before .before .below .given .0 .0 .edges) (c .before .before .before .before .before .before .before .below .given .0 .0 .racks) (of-order (c .before .before)) (c .before .before .before .before .before .before .before .before .before .before .before .before .args .plan .now) (c .before .before .before .head .given .0 .0) (of-record (c .before .before)))
 
 returns-3 : tie.Need-returns-3
 returns-3 c =
-    c .judge .ensures ∙ answer-is (c .before .before .before .before .before .before .before .before .before .before .before .before .before .args .order .now) (c .before .before .before .before .before .before .before .before .below .given .0 .0 .positions) (c .before .before .before .before .before .before .before .before .below .given .0 .0 .edges) (c .before .before .before .before .before .before .before .before .below .given .0 .0 .racks) (order-gave (c .before .before .before .before .before .before .before .before .before .before .before .before .before .args .order .now) (c .before .before .before .before .before .before .before .before .below .given .0 .0 .positions) (c .before .before .before .before .before .before .before .before .below .given .0 .0 .edges) (c .before .before .before .before .before .before .before .before .below .given .0 .0 .racks) (ap orderAnswerOf (sym (c .before .before .before .before .before .before .before .before .below .given .1)) ∙ c .before .before .before .before .before .before .before .before .before .before .read .ensures)) (c .before .before .before .before .before .before .before .before .before .before .before .before .before .args .plan .now) (c .before .before .before .before .head .given .0 .0) (record-gave (c .before .before .before .before .before .before .before .before .before .before .before .before .before .args .plan .now) (c .before .before .before .before .head .given .0 .0) (ap answerOf (sym (c .before .before .before .before .head .given .1)) ∙ c .before .before .before .before .before .before .read-record .ensures)) (ap orderAnswerOf (sym (c .before .before .before .before .before .before .before .before .below .given .1)) ∙ c .before .before .before .before .before .before .before .before .before .before .read .ensures) (ap answerOf (sym (c .before .before .before .before .head .given .1)) ∙ c .before .before .before .before .before .before .read-record .ensures)
+    c .judge .ensures ∙ answer-is (c .before .before .before .before .before .before .before .before .before .before .before .before .before .args .order .now) (c .before .before .before .before .before .before .before .before .below .given .0 .0 .positions) (c .before .before .before .before .before .before .before .before .below .given .0 .0 .edges) (c .before .before .before .before .before .before .before .before .below .given .0 .0 .racks) (of-order (c .before .before .before)) (c .before .before .before .before .before .before .before .before .before .before .before .before .before .args .plan .now) (c .before .before .before .before .head .given .0 .0) (of-record (c .before .before .before)) (order-accepted (c .before .before .before)) (record-accepted (c .before .before .before))
 
 pub check-spec : {M : Type 1} → statement M
 check-spec =
