@@ -8,9 +8,9 @@
 --     no-racks           so it is where there is no rack
 --     no-moves           and of a plan without moves on any floor
 -- Assumes nothing.
-use Prim.Native.Nat.{ℕ, zero, suc}
+use Prim.Native.Nat.{ℕ}
 use mathlib.Core.Bool.{false}
-use mathlib.Core.List.{List, [], _∷_, nil≢cons}
+use mathlib.Core.List.{List, [], _∷_}
 use mathlib.Core.Logic.{_↔_}
 use mathlib.Core.Path.{_≡_, refl, sym, ap, _∙_}
 use native.Mathlib.Omega.{arith}
@@ -44,25 +44,25 @@ module _ (o p v : List ℕ) where
   pub accepted-leads : (planAnswer o p ≡ accepted v) ↔ LeadingPlan
   accepted-leads = (
     (λ a.
-    let t = plan-solutions o .0 p v .0 a in
-    let solved = pebble-replay (floorOf o) (rackCount o) (startsOf o) (goalsOf o) (well-placed o (t .order-right) .task) .0 (planMoves p) in
-    record {
-      order-right = t .order-right;
-      length-right = t .length-right;
-      padding-clear = t .padding-clear;
-      counted = t .counted;
-      leads = replayMoves-ended (floorOf o) (startsOf o) (planMoves p) (goalsOf o) .0 (solved .1 (rw moves-counted (t .solution)));
-    }),
+        let t = plan-solutions o .0 p v .0 a in
+        let solved = pebble-replay (floorOf o) (rackCount o) (startsOf o) (goalsOf o) (well-placed o (t .order-right) .task) .0 (planMoves p) in
+        record {
+          order-right = t .order-right;
+          length-right = t .length-right;
+          padding-clear = t .padding-clear;
+          counted = t .counted;
+          leads = replayMoves-ended (floorOf o) (startsOf o) (planMoves p) (goalsOf o) .0 (solved .1 (rw moves-counted (t .solution)));
+        }),
     (λ t.
-    let solved = pebble-replay (floorOf o) (rackCount o) (startsOf o) (goalsOf o) (well-placed o (t .order-right) .task) .0 (planMoves p) in
-    plan-solutions o .0 p v .1
-    (record {
-      order-right = t .order-right;
-      length-right = t .length-right;
-      padding-clear = t .padding-clear;
-      counted = t .counted;
-      solution = rw moves-counted at (solved .0 (replayMoves-ended (floorOf o) (startsOf o) (planMoves p) (goalsOf o) .1 (t .leads)));
-    })),
+        let solved = pebble-replay (floorOf o) (rackCount o) (startsOf o) (goalsOf o) (well-placed o (t .order-right) .task) .0 (planMoves p) in
+        plan-solutions o .0 p v .1
+        (record {
+          order-right = t .order-right;
+          length-right = t .length-right;
+          padding-clear = t .padding-clear;
+          counted = t .counted;
+          solution = rw moves-counted at (solved .0 (replayMoves-ended (floorOf o) (startsOf o) (planMoves p) (goalsOf o) .1 (t .leads)));
+        })),
   )
 
   moves-none : moveCount p ≡ 0 → planMoves p ≡ []
@@ -76,26 +76,26 @@ module _ (o p v : List ℕ) where
   still-plans : WellFormed o → (Leads (floorOf o) (startsOf o) (planMoves p) (goalsOf o) → planMoves p ≡ []) → (planAnswer o p ≡ accepted v) ↔ EmptyPlan
   still-plans w stuck = (
     (λ a.
-    let t = accepted-leads .0 a in
-    let none : planMoves p ≡ [] = stuck (t .leads) in
-    let zero-count : moveCount p ≡ 0 = sym (moves-counted p) ∙ ap length none in
-    record {
-      length-right = t .length-right;
-      padding-clear = t .padding-clear;
-      empty = zero-count;
-      none-counted = ap (λ (k : ℕ). k ∷ []) (sym zero-count) ∙ t .counted;
-      settled = lawful-none (rw none at (t .leads));
-    }),
+        let t = accepted-leads .0 a in
+        let none : planMoves p ≡ [] = stuck (t .leads) in
+        let zero-count : moveCount p ≡ 0 = sym (moves-counted p) ∙ ap length none in
+        record {
+          length-right = t .length-right;
+          padding-clear = t .padding-clear;
+          empty = zero-count;
+          none-counted = ap (λ (k : ℕ). k ∷ []) (sym zero-count) ∙ t .counted;
+          settled = lawful-none (rw none at (t .leads));
+        }),
     (λ t.
-    let here : Leads (floorOf o) (startsOf o) [] (goalsOf o) = rw (← t .settled) still in
-    accepted-leads .1
-    (record {
-      order-right = w;
-      length-right = t .length-right;
-      padding-clear = t .padding-clear;
-      counted = ap (λ (k : ℕ). k ∷ []) (t .empty) ∙ t .none-counted;
-      leads = rw (moves-none (t .empty)) here;
-    })),
+        let here : Leads (floorOf o) (startsOf o) [] (goalsOf o) = rw (← t .settled) still in
+        accepted-leads .1
+        (record {
+          order-right = w;
+          length-right = t .length-right;
+          padding-clear = t .padding-clear;
+          counted = ap (λ (k : ℕ). k ∷ []) (t .empty) ∙ t .none-counted;
+          leads = rw (moves-none (t .empty)) here;
+        })),
   )
 
   pub full-floor : WellFormed o → rackCount o ≡ floorOf o .positions → (planAnswer o p ≡ accepted v) ↔ EmptyPlan

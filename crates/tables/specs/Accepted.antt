@@ -2,20 +2,25 @@
 --
 --     places-sound       starts or goals that 14 passes stand at different positions below n
 --     WellPlaced o, well-placed   of a well-formed order: few positions, edges and racks of positions below 64, sound starts and goals
+--     OrderGave o n e m, order-gave   what the order reader's acceptance with n, e and m tells
 -- Assumes nothing.
-use Prim.Native.Nat.{ℕ, _+_, _*_, _≤_}
+use Prim.Native.Nat.{ℕ, _+_, _-_, _*_, _≤_, _<_}
 use mathlib.Core.Path.{_≡_, refl, sym, _∙_}
 use mathlib.Core.Bool.{false, _&&_}
 use mathlib.Core.List.{List, [], _∷_}
 use mathlib.Core.Logic.{⊎-elim, _≢_}
 use native.Mathlib.Omega.{arith}
 use borrow.Author.Tests.{eq-eqb, ne-eqb, leb-false}
-use lib.ListN.{length}
+use lib.ListN.{length, take, drop}
 use lib.Dec.{T, leb, eqb, ltb, lt→ltb}
+use Rattle.answers.specs.Answer.{accepted}
+use Rattle.field.specs.Bits.{field}
+use Rattle.field.specs.BitLaws.{field-lt}
 use Rattle.field.specs.RecordLaws.{BelowPairs, length-positions, pairs-lt}
-use Rattle.field.specs.UnitLaws.{or-left, or-right}
-use Rattle.order.specs.Order.{positionCount, edgeCount, rackCount, floorOf, startsOf, goalsOf, orderOf, some, repeats, wrongPlaces, wrongEdges, wrongRacks, WellFormed}
-use Rattle.order.specs.OrderLaws.{right-head}
+use Rattle.field.specs.UnitLaws.{or-left, or-right, fitting}
+use Rattle.order.specs.Order.{positionCount, edgeCount, rackCount, floorOf, startsOf, goalsOf, orderOf, some, repeats, wrongPlaces, wrongEdges, wrongRacks, wrongLength, unitCount, counts, orderAnswer, WellFormed}
+use Rattle.order.specs.OrderLaws.{right-head, well-formed, accepted-is}
+use Rattle.order.specs.TailLaws.{tail-room}
 use Rattle.motion.specs.Arrangement.{occupied, vacant}
 use Rattle.motion.specs.Sound.{Sound, isSound, isSound-sound, sound-length}
 use Rattle.motion.specs.Problem.{Instance}
@@ -105,3 +110,36 @@ module _ (o : List ℕ) (w : WellFormed o) where
           goal = invertible-sound (floorOf o) (rackCount o) (goalsOf o) .1 (goals-count, goals);
         };
       }
+
+-- what the order reader's acceptance with n, e and m tells
+pub record OrderGave (o : List ℕ) (n e m : ℕ) : Type 0 where
+  pub right : WellFormed o
+  pub placed-well : WellPlaced o
+  pub positions-are : n ≡ floorOf o .positions
+  pub edges-are : e ≡ edgeCount o
+  pub racks-are : m ≡ rackCount o
+  pub few-edges : e < 256
+  pub few-racks : m ≤ 64
+  pub head-there : 3 ≤ length o
+  pub room : 12 * (e + m) ≤ 8 * length (take (length o - 3) (drop 3 o))
+
+pub order-gave : (o : List ℕ) (n e m : ℕ) → accepted (n ∷ e ∷ m ∷ []) ≡ orderAnswer o → OrderGave o n e m
+unfolding counts floorOf edgeCount wrongLength
+order-gave o n e m a =
+    let w = well-formed o (n ∷ e ∷ m ∷ []) (sym a) in
+    let same : accepted (n ∷ e ∷ m ∷ []) ≡ accepted (counts o) = a ∙ accepted-is o w in
+    let es : e ≡ field o 7 8 = cc same in
+    let ms : m ≡ rackCount o = cc same in
+    let g = well-placed o w in
+    let fit = fitting o (unitCount o) (w .length-right) in
+    record {
+      right = w;
+      placed-well = g;
+      positions-are = cc same;
+      edges-are = es;
+      racks-are = ms;
+      few-edges = omega (arith, field-lt o 7 8);
+      few-racks = omega (arith, g .few-racks);
+      head-there = fit .head-there;
+      room = tail-room o e m es ms fit;
+    }

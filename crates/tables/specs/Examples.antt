@@ -5,15 +5,14 @@
 --     lowest-misplaced            with the goals 3 and 1, rack 1 is the lowest that is misplaced, told by the table
 --     four-judged                 four moves on the tables, judged as on arrangements
 -- Assumes nothing.
-use Prim.Native.Nat.{ℕ}
-use mathlib.Core.Path.{_≡_, refl, _∙_}
+use mathlib.Core.Path.{_≡_, refl}
 use mathlib.Core.Bool.{true, false}
-use mathlib.Core.List.{List, [], _∷_}
+use mathlib.Core.List.{[], _∷_}
 use lib.Dec.{lit<, lit≤}
-use lib.ListN.{replicate, set}
+use lib.ListN.{replicate}
 use Rattle.answers.specs.Answer.{accepted}
 use Rattle.field.specs.RecordLaws.{BelowPairs, none₂, more₂}
-use Rattle.order.specs.Floor.{Floor, isPair, among, joined}
+use Rattle.order.specs.Floor.{isPair, among, joined}
 use Rattle.order.specs.Order.{some, badEdge, precedes, ascending, wrongEdges}
 use Rattle.order.specs.Tables.{marked, placed}
 use Rattle.motion.specs.Arrangement.{occupied, vacant}

@@ -5,9 +5,10 @@ use mathlib.Core.List.{[], _∷_}
 use Rattle.answers.specs.Answer.{accepted}
 use Rattle.order.specs.Order.{orderAnswer}
 use Rattle.order.specs.Verdict.{answerOf as orderAnswerOf}
+use Rattle.tables.specs.Accepted.{OrderGave, order-gave}
 use Rattle.plan.specs.Readers.{recordAnswer}
 use Rattle.plan.specs.Verdict.{answerOf}
-use Rattle.plan.proofs.Layers.{order-refused, record-refused, OrderGave, order-gave, RecordGave, record-gave, order-room, plan-room, answer-is}
+use Rattle.plan.proofs.Layers.{order-refused, record-refused, RecordGave, record-gave, plan-room, answer-is}
 use borrow.Author.Needs.{needs}
 use Rattle.plan.proofs.check.Statement.{statement}
 use Rattle.plan.proofs.check.Tie as tie
@@ -55,10 +56,10 @@ returns-2 c =
     record-refused (c .before .before .before .before .before .before .before .before .before .args .order .now) (c .before .before .before .before .before .before .before .before .before .args .plan .now) _ _ _ _ (ap orderAnswerOf (sym (c .before .before .before .before .below .given .1)) ∙ c .before .before .before .before .before .before .read .ensures) (c .before .before .read-record .ensures) (ap answerOf (c .enum-told2 .given .1))
 
 sub-judge : tie.Need-sub-judge
-sub-judge c = of-order c .fit .head-there
+sub-judge c = of-order c .head-there
 
 part-judge-start : tie.Need-part-judge-start
-part-judge-start c = of-order c .fit .head-there
+part-judge-start c = of-order c .head-there
 
 part-judge-end : tie.Need-part-judge-end
 part-judge-end c = search needs
@@ -74,7 +75,7 @@ part-judge-end-2 c = search needs
 
 judge-requires : tie.Need-judge-requires
 judge-requires c κs =
-    (of-order (c .before .before) .edges-below, of-order (c .before .before) .racks-below, order-room (c .before .before .before .before .before .before .before .before .before .before .before .before .args .order .now) (c .before .before .before .before .before .before .before .below .given .0 .0 .positions) (c .before .before .before .before .before .before .before .below .given .0 .0 .edges) (c .before .before .before .before .before .before .before .below .given .0 .0 .racks) (of-order (c .before .before)) (c .before .before .before .before .before .before .before .before .before .before .before .before .args .plan .now) (c .before .before .before .head .given .0 .0) (of-record (c .before .before)), of-record (c .before .before) .count-below, plan-room (c .before .before .before .before .before .before .before .before .before .before .before .before .args .order .now) (c .before .before .before .before .before .before .before .below .given .0 .0 .positions) (c .before .before .before .before .before .before .before .below .given .0 .0 .edges) (c .before .before .before .before .before .before .before .below .given .0 .0 .racks) (of-order (c .before .before)) (c .before .before .before .before .before .before .before .before .before .before .before .before .args .plan .now) (c .before .before .before .head .given .0 .0) (of-record (c .before .before)))
+    (of-order (c .before .before) .few-edges, of-order (c .before .before) .few-racks, of-order (c .before .before) .room, of-record (c .before .before) .count-below, plan-room (c .before .before .before .before .before .before .before .before .before .before .before .before .args .order .now) (c .before .before .before .before .before .before .before .below .given .0 .0 .positions) (c .before .before .before .before .before .before .before .below .given .0 .0 .edges) (c .before .before .before .before .before .before .before .below .given .0 .0 .racks) (of-order (c .before .before)) (c .before .before .before .before .before .before .before .before .before .before .before .before .args .plan .now) (c .before .before .before .head .given .0 .0) (of-record (c .before .before)))
 
 returns-3 : tie.Need-returns-3
 returns-3 c =
