@@ -114,7 +114,7 @@ static inline uint32_t wichteab_place(uint64_t answer)
     return (uint32_t)(answer >> 8);
 }
 
-/* What a refusal's number speaks of: "order", "floor", "plan" or "timetable"; "" for any other number. */
+/* What a refusal's number speaks of: "order", "floor", "plan" or "timetable"; "other" for any other number. */
 static inline const char *wichteab_family(uint32_t number)
 {
     switch (number / 10) {
@@ -122,7 +122,7 @@ static inline const char *wichteab_family(uint32_t number)
     case 2: return "floor";
     case 3: return "plan";
     case 4: return "timetable";
-    default: return "";
+    default: return "other";
     }
 }
 

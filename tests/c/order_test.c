@@ -75,7 +75,7 @@ static void run_families(void)
     expect(strcmp(wichteab_family(WICHTEAB_FLOOR_PLAN_BUFFER), "floor") == 0, "family of 23");
     expect(strcmp(wichteab_family(WICHTEAB_PLAN_MOVE), "plan") == 0, "family of 32");
     expect(strcmp(wichteab_family(WICHTEAB_TIMETABLE_NUMBER), "timetable") == 0, "family of 45");
-    expect(strcmp(wichteab_family(WICHTEAB_ACCEPTED), "") == 0, "family of 0");
+    expect(strcmp(wichteab_family(WICHTEAB_ACCEPTED), "other") == 0, "family of 0");
 }
 
 int main(void)

@@ -2,9 +2,10 @@
 // specs/Bits.antt says what a field is; specs/BitLaws.antt reduces any field to bytes.
 ghost use mathlib.Core.Path.{_≡_};
 ghost use mathlib.Core.Bool.{not, false};
-ghost use Prim.Native.Nat.{_+_, _*_, _^_, _≤_, _<_};
+ghost use Prim.Native.Nat.{_+_, _*_, _/_, _^_, _≤_, _<_};
 ghost use lib.ListN.{length};
 ghost use Rattle.field.specs.Bits.{field, pad, PositionAt, PairAt};
+ghost use Rattle.field.specs.Packing.{putPair};
 ghost use Rattle.field.specs.Units.{misfits, unclean};
 
 // Two positions that stand one after the other: an edge or a move.
@@ -114,4 +115,20 @@ pub fn units_clean(s: &[u8], u: usize) -> bool
         return false;
     }
     true
+}
+
+// Writes the pair a, b after the first j pairs of a byte string, and the pad behind it.
+pub fn put_pair(s: &mut [u8], j: usize, a: usize, b: usize)
+    requires { ⌜ (a < 64) × (b < 64) × ((12 * (j + 1) + 7) / 8 ≤ length (now s)) ⌝ }
+    ensures { λ _. ⌜ now (s .exit) ≡ putPair (now (s .entry)) j a b ⌝ }
+{
+    let at = j / 2 * 3;
+    if j % 2 == 0 {
+        s[at] = (a * 4 + b / 16) as u8;
+        s[at + 1] = (b % 16 * 16) as u8;
+        return;
+    }
+    let begun = wide(s[at + 1]);
+    s[at + 1] = (begun / 16 * 16 + a / 4) as u8;
+    s[at + 2] = (a % 4 * 64 + b) as u8;
 }
