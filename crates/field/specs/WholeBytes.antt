@@ -72,4 +72,3 @@ byte-field {s} b k h =
     ∙ field-in-byte s k 0 8 0 h refl
     ∙ ap (λ (x : ℕ). x % 256) (div-one (getD s k 0))
     ∙ mod-eq-of-lt (below-getD b k h)
-

@@ -5,3 +5,4 @@ pub mod PlanRecord
 pub mod Solutions
 pub mod Limits
 pub mod Examples
+pub mod SizeLaws
