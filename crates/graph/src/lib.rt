@@ -1,0 +1,4 @@
+// The floor as a graph.
+pub fn one() -> usize {
+    1
+}
