@@ -8,13 +8,12 @@
 --     biConnected-without     three positions at least, connected without any one: then bi-connected
 -- Assumes nothing.
 use Prim.Native.Nat.{ℕ, _≤_, _<_}
-use mathlib.Core.Path.{_≡_}
 use mathlib.Core.Logic.{_≢_, by-cases}
 use native.Mathlib.Decide.{ℕ-discrete}
 use native.Mathlib.Omega.{arith}
 use Rattle.graph.specs.Walk.{Way}
 use Rattle.graph.specs.WalkLaws.{way-append, way-inside, way-reverse}
-use Rattle.graph.specs.Connected.{Whole, Except, Below, ConnectedWithout, BiConnected}
+use Rattle.graph.specs.Connected.{Whole, ConnectedWithout, BiConnected}
 
 abbrev pub Symmetric : (ℕ → ℕ → Type 0) → Type 0
 Symmetric E = (p q : ℕ) → E p q → E q p
@@ -59,11 +58,11 @@ third u v =
 -- Connected follows: a third position is taken away, and a walk without it is a walk.
 pub biConnected-without : {n : ℕ} {E : ℕ → ℕ → Type 0} → 3 ≤ n → ((x : ℕ) → x < n → ConnectedWithout n E x) → BiConnected n E
 biConnected-without {n} {E} three without =
-    record
-      { three = three
-      ; connected = λ u v hu hv.
+    record {
+      three = three;
+      connected = λ u v hu hv.
           let x = third u v in
           way-inside (λ p q. q .there)
-          (without (x .at) (omega arith) u v (record { there = hu; other = x .first }) (record { there = hv; other = x .second }))
-      ; without = without
-      }
+          (without (x .at) (omega arith) u v (record { there = hu; other = x .first }) (record { there = hv; other = x .second }));
+      without = without;
+    }

@@ -1,6 +1,7 @@
 -- Laws of walks, over an edge relation E and a set of allowed positions P.
 --
 --     walk-some                  a walk has at least one position
+--     walk-alone                 a walk of one position goes nowhere
 --     walk-first, walk-last      its two ends are allowed
 --     walk-inside                a walk stays a walk where more positions are allowed
 --     walk-snoc                  one more edge at the end
@@ -12,7 +13,7 @@
 --     path-walk                  a path is a walk of as many positions
 -- Assumes nothing.
 use Prim.Native.Nat.{ℕ, zero, suc, _+_, _-_, _<_, _≤_}
-use mathlib.Core.Path.{_≡_, subst, sym}
+use mathlib.Core.Path.{_≡_, refl, subst, sym}
 use native.Mathlib.Nat.{add-zero}
 use native.Mathlib.Omega.{arith}
 use Rattle.graph.specs.Walk.{Walk, Way, Path}
@@ -22,6 +23,13 @@ module _ {E : ℕ → ℕ → Type 0} {P : ℕ → Type 0} where
   pub walk-some : {a b k : ℕ} → Walk E P a b k → 0 < k
   walk-some (alone p) = omega arith
   walk-some (step p e w) = omega arith
+
+  pub walk-alone : {a b k : ℕ} → Walk E P a b k → k ≡ 1 → b ≡ a
+  walk-alone (alone p) one = refl
+  walk-alone (step {k = j} p e w) one = absurd (none (walk-some w) one)
+    where
+      none : 0 < j → suc j ≡ 1 → ⊥
+      none h q = omega arith
 
   pub walk-first : {a b k : ℕ} → Walk E P a b k → P a
   walk-first (alone p) = p
@@ -79,7 +87,7 @@ module _ {E : ℕ → ℕ → Type 0} {P : ℕ → Type 0} where
       none h = omega arith
   path-run (suc m) {a} {b} {f} p =
       let run : Walk E P (f 0) (f (0 + m)) (suc m) =
-              walk-segment f 0 m (λ q l h. p .inside q (omega arith)) (λ q l h. p .joined q (omega arith)) in
+      walk-segment f 0 m (λ q l h. p .inside q (omega arith)) (λ q l h. p .joined q (omega arith)) in
       let same : 0 + m ≡ suc m - 1 = omega arith in
       subst (λ (x : ℕ). Walk E P x b (suc m)) (p .first)
       (subst (λ (x : ℕ). Walk E P (f 0) x (suc m)) (p .last)
