@@ -1,9 +1,6 @@
 -- Laws of the levels of a breadth-first search.
 --
---     zeros-set         a mark where there was none leaves one less to be marked
---     getD-blank, blank   64 zeros are no mark
 --     only-set          one byte set among 64 zeros
---     same-place        two pairs with one place in the matrix are one pair
 --     growing-begin     the marks of level d, before level d + 1 is marked
 --     growing-mark      the pair (w, v) is done by marking v
 --     growing-skip      the pair (w, v) is done with no mark, where v needs none
@@ -13,9 +10,9 @@
 --     levels-descend    a mark above 1 has a neighbour with one less
 --     levels-target     the mark 1 is a target
 -- Assumes nothing.
-use Prim.Native.Nat.{ℕ, zero, suc, _+_, _*_, _-_, _≤_, _<_}
+use Prim.Native.Nat.{ℕ, suc, _+_, _*_, _-_, _≤_, _<_}
 use mathlib.Core.Path.{_≡_, refl, sym, subst, ap, _∙_}
-use mathlib.Core.List.{List, [], _∷_}
+use mathlib.Core.List.{List}
 use mathlib.Core.Logic.{_≢_, by-cases}
 use native.Mathlib.Decide.{ℕ-discrete, decLe, decLt}
 use native.Mathlib.Nat.{add-zero}
@@ -27,24 +24,9 @@ use Rattle.graph.specs.Walk.{Walk}
 use Rattle.graph.specs.Walk.Walk.{alone, step}
 use Rattle.graph.specs.WalkLaws.{walk-some, walk-first, walk-alone}
 use Rattle.graph.specs.Matrix.{Edge, Free, Marked, Only}
-use Rattle.graph.specs.Levels.{Near, Within, Levels, zeros, Blank, Beginning, Begins, Growing, Grows, Spread, Descent, Traced}
-
-pub zeros-set : (m : List ℕ) (i x : ℕ) → i < length m → getD m i 0 ≡ 0 → zeros (set m i (suc x)) + 1 ≡ zeros m
-unfolding zeros
-zeros-set [] i x h e = omega arith
-zeros-set (zero ∷ m) zero x h e = omega arith
-zeros-set (suc y ∷ m) zero x h e = omega arith
-zeros-set (zero ∷ m) (suc i) x h e = let r : zeros (set m i (suc x)) + 1 ≡ zeros m = zeros-set m i x (omega arith) e in omega arith
-zeros-set (suc y ∷ m) (suc i) x h e = zeros-set m i x (omega arith) e
-
-pub getD-blank : (k v : ℕ) → getD {A = ℕ} (replicate k 0) v 0 ≡ 0
-getD-blank zero v = refl
-getD-blank (suc k) zero = refl
-getD-blank (suc k) (suc v) = getD-blank k v
-
-pub blank : Blank (replicate 64 0)
-unfolding zeros
-blank = record { long = refl; count = refl; none = getD-blank 64 }
+use Rattle.graph.specs.MatrixLaws.{same-place}
+use Rattle.graph.specs.Zeros.{zeros, zeros-set, getD-blank, Blank}
+use Rattle.graph.specs.Levels.{Near, Within, Levels, Beginning, Begins, Growing, Grows, Spread, Descent, Traced}
 
 pub only-set : (v : ℕ) → v < 64 → Only v (set (replicate 64 0) v 1)
 only-set v small =
@@ -52,9 +34,6 @@ only-set v small =
       here = getD-set-same (replicate 64 0) v 1 0 small;
       else = λ x e. getD-set-other (replicate 64 0) v x 1 0 e ∙ getD-blank 64 x;
     }
-
-pub same-place : (w v w′ v′ : ℕ) → v < 64 → v′ < 64 → w′ * 64 + v′ ≡ w * 64 + v → (w′ ≡ w) × (v′ ≡ v)
-same-place w v w′ v′ h h′ e = omega arith
 
 module _ {E : ℕ → ℕ → Type 0} {P T : ℕ → Type 0} where
   pub growing-begin : {d : ℕ} {m : List ℕ} → Levels E P T d m → Growing E P T (zeros m) d 0 0 m

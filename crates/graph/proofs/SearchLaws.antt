@@ -2,25 +2,25 @@
 --
 --     nearest-none        where a is not marked, no walk leads from a to a target
 --     nearest-traced      where a is marked, the positions traced down the marks are a shortest way
---     edge-symmetric      the edges of a floor's matrix join both ways
 --     whole-marked        all free positions are marked from one of them exactly where they hang together
 --     free-blank          with nothing held the free positions are those of the floor
---     free-only           with x held they are those without x
 -- Assumes nothing.
 use Prim.Native.Nat.{ℕ, _-_, _<_}
-use mathlib.Core.Path.{_≡_, refl, sym, subst, ap, _∙_}
+use mathlib.Core.Path.{_≡_, refl, subst, ap}
 use mathlib.Core.List.{List}
 use mathlib.Core.Logic.{_↔_, by-cases}
 use native.Mathlib.Decide.{ℕ-discrete, decLe}
 use native.Mathlib.Omega.{arith}
 use lib.ListN.{getD, replicate, List·getD-eq-default}
 use Rattle.graph.specs.Walk.{Walk, Way}
-use Rattle.graph.specs.Connected.{Whole, Except, Below}
-use Rattle.graph.specs.ConnectedLaws.{Symmetric, whole-base}
+use Rattle.graph.specs.Connected.{Whole, Below}
+use Rattle.graph.specs.ConnectedLaws.{whole-base}
 use Rattle.graph.specs.Matrix.{Edge, Free, Marked, Only, Matrix}
+use Rattle.graph.specs.MatrixLaws.{edge-symmetric}
+use Rattle.graph.specs.Zeros.{getD-blank}
 use Rattle.graph.specs.Levels.{Spread, Traced}
 use Rattle.graph.specs.Nearest.{Nearest}
-use Rattle.graph.proofs.LevelLaws.{levels-free, levels-target, getD-blank}
+use Rattle.graph.proofs.LevelLaws.{levels-free, levels-target}
 
 module _ {E : ℕ → ℕ → Type 0} {P T : ℕ → Type 0} where
   pub nearest-none : {a : ℕ} {m : List ℕ} (f : ℕ → ℕ) → Spread E P T a m → getD m a 0 ≡ 0 → Nearest E P T a 0 f
@@ -66,9 +66,6 @@ module _ {E : ℕ → ℕ → Type 0} {P T : ℕ → Type 0} where
       never : getD m a 0 ≡ 0 → ⊥
       never e = omega arith
 
-pub edge-symmetric : {n : ℕ} {g : List ℕ} → Matrix n g → Symmetric (Edge n g)
-edge-symmetric m p q e = record { from = e .to; to = e .from; one = m .symmetric q p (e .to) (e .from) ∙ e .one }
-
 pub whole-marked : {n : ℕ} {g : List ℕ} (h t m : List ℕ) (b : ℕ) → Matrix n g → getD h b 0 ≡ 0 → b < n → Only b t
     → Spread (Edge n g) (Free n h) (Marked t) 64 m → ((v : ℕ) → Free n h v → Marked m v) ↔ Whole (Edge n g) (Free n h)
 whole-marked {n} {g} h t m b matrix free below only s = (
@@ -93,12 +90,3 @@ whole-marked {n} {g} h t m b matrix free below only s = (
 
 pub free-blank : (n p : ℕ) → Free n (replicate 64 0) p ↔ Below n p
 free-blank n p = (λ f. f .below, λ l. record { below = l; free = getD-blank 64 p })
-
-pub free-only : (n x : ℕ) (h : List ℕ) (p : ℕ) → Only x h → Free n h p ↔ Except (Below n) x p
-free-only n x h p only = (
-  λ f. record { there = f .below; other = λ e. clash (sym (ap (λ (y : ℕ). getD h y 0) e) ∙ f .free) },
-  λ e. record { below = e .there; free = only .else p (e .other) },
-)
-  where
-    clash : getD h x 0 ≡ 0 → ⊥
-    clash e = let o = only .here in omega arith

@@ -5,8 +5,6 @@
 --     Near E P T v k             a walk of k positions leads from v to a target
 --     Within x k                 the mark x is there and is at most k
 --     Levels E P T d m           the marks m are right for all walks of at most d positions
---     zeros m                    how many positions are not marked
---     Blank m                    none of 64 positions is marked
 --     Beginning n h t i s m      the free targets below i are marked 1, s of them, and nothing else
 --     Begins h t i j r m l       from the marks m to the marks l the positions from i up to j are looked at, with r marks made
 --     Growing E P T z d p s m    level d + 1 is being marked: for the pairs (w, v) with w * 64 + v below p it is done; of z positions that
@@ -16,11 +14,12 @@
 --     Descent E m v              from v an edge leads to a mark one less
 --     Traced E m a f             the positions f go down the marks from a to the mark 1
 -- Assumes nothing.
-use Prim.Native.Nat.{ℕ, zero, suc, _+_, _*_, _≤_, _<_}
+use Prim.Native.Nat.{ℕ, _+_, _*_, _≤_, _<_}
 use mathlib.Core.Path.{_≡_}
-use mathlib.Core.List.{List, [], _∷_}
+use mathlib.Core.List.{List}
 use lib.ListN.{getD, length}
 use Rattle.graph.specs.Walk.{Walk}
+use Rattle.graph.specs.Zeros.{zeros}
 use Rattle.graph.specs.Matrix.{Edge, Free, Marked}
 
 pub record Near (E : ℕ → ℕ → Type 0) (P T : ℕ → Type 0) (v k : ℕ) : Type 0 where
@@ -37,16 +36,6 @@ pub record Levels (E : ℕ → ℕ → Type 0) (P T : ℕ → Type 0) (d : ℕ) 
   pub low : (v : ℕ) → getD m v 0 ≤ d
   pub sound : (v : ℕ) → 0 < getD m v 0 → Near E P T v (getD m v 0)
   pub full : (v t k : ℕ) → Walk E P v t k → T t → k ≤ d → Within (getD m v 0) k
-
-unfoldable pub zeros : List ℕ → ℕ
-zeros [] = 0
-zeros (zero ∷ l) = suc (zeros l)
-zeros (suc x ∷ l) = zeros l
-
-pub record Blank (m : List ℕ) : Type 0 where
-  pub long : length m ≡ 64
-  pub count : zeros m ≡ 64
-  pub none : (v : ℕ) → getD m v 0 ≡ 0
 
 pub record Beginning (n : ℕ) (h t : List ℕ) (i s : ℕ) (m : List ℕ) : Type 0 where
   pub long : length m ≡ 64

@@ -7,7 +7,8 @@ ghost use Prim.Native.Nat.{ℕ, _+_, _*_, _≤_, _<_};
 ghost use lib.ListN.{getD};
 ghost use Rattle.graph.specs.Connected.{Whole, Connected, ConnectedWithout, BiConnected, Ring};
 ghost use Rattle.graph.specs.Matrix.{Edge, Free, Marked, Only, Matrix};
-ghost use Rattle.graph.specs.Levels.{Blank, Beginning, Begins, Grows, Spread, Descent, Traced};
+ghost use Rattle.graph.specs.Zeros.{Blank};
+ghost use Rattle.graph.specs.Levels.{Beginning, Begins, Grows, Spread, Descent, Traced};
 ghost use Rattle.graph.specs.Nearest.{Nearest};
 
 // Marks v with 1 where it is free and a target. Yields how many it marked.

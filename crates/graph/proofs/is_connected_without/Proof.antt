@@ -6,7 +6,7 @@ use borrow.Author.Needs.{needs}
 use Rattle.graph.specs.Connected.{Except, Below}
 use Rattle.graph.specs.Matrix.{Free}
 use Rattle.graph.specs.ConnectedLaws.{whole-same}
-use Rattle.graph.proofs.SearchLaws.{free-only}
+use Rattle.graph.specs.MatrixLaws.{free-only}
 use Rattle.graph.specs.Decision.{says-same}
 use Rattle.graph.proofs.is_connected_without.Statement.{statement}
 use Rattle.graph.proofs.is_connected_without.Tie as tie

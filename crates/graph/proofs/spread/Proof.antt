@@ -2,8 +2,8 @@
 -- Assumes nothing.
 use Prim.Native.Nat.{_+_}
 use native.Mathlib.Omega.{arith}
-use Rattle.graph.proofs.LevelLaws.{blank, Spreading, spreading-begin, spreading-level, spreading-stop, spreading-reached}
-use Rattle.graph.specs.Levels.{zeros}
+use Rattle.graph.proofs.LevelLaws.{Spreading, spreading-begin, spreading-level, spreading-stop, spreading-reached}
+use Rattle.graph.specs.Zeros.{zeros, blank}
 use Rattle.graph.specs.Matrix.{Edge, Free, Marked}
 use Rattle.graph.proofs.spread.Statement.{statement}
 use Rattle.graph.proofs.spread.Tie as tie

@@ -1,0 +1,5 @@
+pub mod ChoiceLaws
+pub mod BuildingLaws
+pub mod LayLaws
+pub mod ExistLaws
+pub mod RingLaws

@@ -1,0 +1,5 @@
+pub mod Breakdown
+pub mod StageLaws
+pub mod Choice
+pub mod Building
+pub mod Answer
