@@ -2,12 +2,11 @@
 --
 --     all-or-one         every byte below n is set, or one of them is not
 --     walk-leaves        a walk from a settled position to one that is not leaves the settled ones by an edge
---     walk-starts        a walk to another position starts with an edge
 --     handle-exists      where a position is left out, some handle can be chosen
 --     ring-exists        some ring can be chosen
 -- Assumes nothing.
 use Prim.Native.Nat.{ℕ, zero, suc, _*_, _≤_, _<_}
-use mathlib.Core.Path.{_≡_, refl, sym, ap, _∙_}
+use mathlib.Core.Path.{_≡_, sym, ap, _∙_}
 use mathlib.Core.List.{List}
 use mathlib.Core.Logic.{_≢_, by-cases, _⊎_, inl, inr, ⊎-elim}
 use native.Mathlib.Decide.{ℕ-discrete}
@@ -15,11 +14,10 @@ use native.Mathlib.Omega.{arith}
 use lib.ListN.{getD}
 use Rattle.graph.specs.Walk.{Walk}
 use Rattle.graph.specs.Walk.Walk.{alone, step}
-use Rattle.graph.specs.WalkLaws.{walk-first}
 use Rattle.graph.specs.Connected.{BiConnected}
-use Rattle.graph.specs.ConnectedLaws.{third}
 use Rattle.graph.specs.Matrix.{Edge, Marked, Matrix}
 use Rattle.graph.specs.MatrixLaws.{edge-other}
+use Rattle.graph.specs.EdgeCountLaws.{biConnected-neighbours}
 use Rattle.graph.specs.Zeros.{zeros-most}
 use Rattle.breakdown.specs.Choice.{Leaves, RingChoice, HandleChoice}
 use Rattle.breakdown.specs.Building.{row, Building}
@@ -58,15 +56,6 @@ walk-leaves s (step {a} {b = m} p e w) on off =
     by-cases (ℕ-discrete (getD s m 0) 0)
     (λ q. record { from = a; to = m; leaves = record { edge = e; settled = on; new = q } })
     (λ q. walk-leaves s w (omega arith) off)
-
-record Start (E : ℕ → ℕ → Type 0) (P : ℕ → Type 0) (a : ℕ) : Type 0 where
-  to : ℕ
-  edge : E a to
-  there : P to
-
-walk-starts : {E : ℕ → ℕ → Type 0} {P : ℕ → Type 0} {a b k : ℕ} → Walk E P a b k → a ≢ b → Start E P a
-walk-starts (alone p) other = absurd (other refl)
-walk-starts (step {b = m} p e w) other = record { to = m; edge = e; there = walk-first w }
 
 module _ {n : ℕ} {g : List ℕ} (matrix : Matrix n g) (bi : BiConnected n (Edge n g)) where
   pub handle-exists : {r c : ℕ} (o start left right s : List ℕ) (u w k : ℕ) → Building n (Edge n g) r c o start left right s → row start c < n
@@ -116,19 +105,12 @@ module _ {n : ℕ} {g : List ℕ} (matrix : Matrix n g) (bi : BiConnected n (Edg
   ring-exists u w k choice none =
       let three = bi .three in
       let small = matrix .small in
-      let way = bi .connected 0 1 (omega arith) (omega arith) in
-      let one = walk-starts (way .walk) (omega arith) in
-      let b = one .to in
-      let other : 0 ≢ b = edge-other matrix 0 b (one .edge) in
-      let x = third 0 b in
-      let in-floor = x .small in
-      let round = bi .without b (one .edge .to) 0 (x .at) (record { there = omega arith; other = other }) (record { there = omega arith; other = λ e. x .second (sym e) }) in
-      let two = walk-starts (round .walk) (x .first) in
-      let differ : 0 ≢ two .to = edge-other matrix 0 (two .to) (two .edge) in
-      let back = bi .without 0 (omega arith) b (two .to) (record { there = one .edge .to; other = λ e. other (sym e) })
-      (record { there = two .edge .to; other = λ e. differ (sym e) }) in
-      let below = one .edge .to in
-      let within = choice .least 0 b (two .to) (back .size) (omega arith) (one .edge) (back .walk)
-      (record { edge = two .edge; other = two .there .other }) in
+      let t = biConnected-neighbours matrix bi 0 (omega arith) in
+      let below = t .first .to in
+      let away : (p : ℕ) → Edge n g 0 p → p ≢ 0 = λ p e q. edge-other matrix 0 p e (sym q) in
+      let back = bi .without 0 (omega arith) (t .one) (t .two) (record { there = below; other = away (t .one) (t .first) })
+      (record { there = t .second .to; other = away (t .two) (t .second) }) in
+      let within = choice .least 0 (t .one) (t .two) (back .size) (omega arith) (t .first) (back .walk)
+      (record { edge = t .second; other = λ e. t .differ (sym e) }) in
       let found = within .some in
       omega arith

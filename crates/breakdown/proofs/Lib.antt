@@ -3,3 +3,4 @@ pub mod BuildingLaws
 pub mod LayLaws
 pub mod ExistLaws
 pub mod RingLaws
+pub mod AnswerLaws

@@ -16,7 +16,8 @@ use Rattle.graph.specs.WalkLaws.{walk-segment}
 use Rattle.graph.specs.Connected.{Except, Below}
 use Rattle.graph.specs.Matrix.{Edge, Matrix}
 use Rattle.graph.specs.MatrixLaws.{edge-symmetric}
-use Rattle.graph.specs.EdgeCount.{rowSum, edgeCount, handshake, rowSum-two, rowsSum-two}
+use Rattle.graph.specs.EdgeCount.{rowSum, edgeCount}
+use Rattle.graph.specs.EdgeCountLaws.{handshake, rowSum-two, rowsSum-two}
 use Rattle.breakdown.specs.Choice.{RingChoice}
 use Rattle.breakdown.specs.Building.{row, Building}
 use Rattle.breakdown.proofs.BuildingLaws.{building-all, building-every}

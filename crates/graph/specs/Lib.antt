@@ -10,3 +10,4 @@ pub mod Nearest
 pub mod NearestLaws
 pub mod Decision
 pub mod EdgeCount
+pub mod EdgeCountLaws

@@ -7,6 +7,7 @@
 --     walk-snoc                  one more edge at the end
 --     walk-reverse               where each edge is joined both ways, a walk can be gone backwards
 --     walk-segment               positions f i, .., f (i + m), each joined to the next, are a walk
+--     Start, walk-starts         a walk to another position starts with an edge
 --     way-stay, way-step         a position alone is a way; one more edge at the front
 --     way-append                 a way from a to b and one from b to c are a way from a to c
 --     way-inside, way-reverse    as for walks
@@ -14,10 +15,16 @@
 -- Assumes nothing.
 use Prim.Native.Nat.{ℕ, zero, suc, _+_, _-_, _<_, _≤_}
 use mathlib.Core.Path.{_≡_, refl, subst, sym}
+use mathlib.Core.Logic.{_≢_}
 use native.Mathlib.Nat.{add-zero}
 use native.Mathlib.Omega.{arith}
 use Rattle.graph.specs.Walk.{Walk, Way, Path}
 use Rattle.graph.specs.Walk.Walk.{alone, step}
+
+pub record Start (E : ℕ → ℕ → Type 0) (P : ℕ → Type 0) (a : ℕ) : Type 0 where
+  pub to : ℕ
+  pub edge : E a to
+  pub there : P to
 
 module _ {E : ℕ → ℕ → Type 0} {P : ℕ → Type 0} where
   pub walk-some : {a b k : ℕ} → Walk E P a b k → 0 < k
@@ -34,6 +41,10 @@ module _ {E : ℕ → ℕ → Type 0} {P : ℕ → Type 0} where
   pub walk-first : {a b k : ℕ} → Walk E P a b k → P a
   walk-first (alone p) = p
   walk-first (step p e w) = p
+
+  pub walk-starts : {a b k : ℕ} → Walk E P a b k → a ≢ b → Start E P a
+  walk-starts (alone p) other = absurd (other refl)
+  walk-starts (step {b = m} p e w) other = record { to = m; edge = e; there = walk-first w }
 
   pub walk-last : {a b k : ℕ} → Walk E P a b k → P b
   walk-last (alone p) = p

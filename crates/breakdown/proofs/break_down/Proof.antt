@@ -1,9 +1,9 @@
 -- `breakdown::break_down` meets its contract. On a bi-connected floor there is a ring to choose (`ExistLaws`), and one through every position is the whole floor (`RingLaws`).
 -- Assumes nothing.
-use Prim.Native.Nat.{_<_}
 use native.Mathlib.Omega.{arith}
 use borrow.Author.Needs.{needs}
 use Rattle.graph.specs.Zeros.{blank}
+use Rattle.breakdown.proofs.AnswerLaws.{answer-found, answer-none}
 use Rattle.breakdown.proofs.RingLaws.{ring-counts}
 use Rattle.breakdown.proofs.ExistLaws.{ring-exists}
 use Rattle.breakdown.proofs.break_down.Statement.{statement}
@@ -17,8 +17,7 @@ nothing-requires c κs = search needs
 
 returns : tie.Need-returns
 returns c =
-    let none : 0 < c .nothing .result .ring → ⊥ = λ h. let z = c .nothing .ensures in omega arith in
-    record { found = λ h. absurd (none h); none = λ e bi. absurd (ring-exists (c .before .before .before .before .pre) bi _ _ _ (c .before .before .before .choose-ring .ensures) (c .before .if1 .taken)) }
+    answer-none (c .nothing .ensures) (λ bi ring. ring-exists (c .before .before .before .before .pre) bi _ _ _ (c .before .before .before .choose-ring .ensures) (c .before .if1 .taken))
 
 lay-ring-requires : tie.Need-lay-ring-requires
 lay-ring-requires c κs = (c .before .before .before .before .pre, (omega arith, (c .before .before .before .choose-ring .ensures, blank)))
@@ -28,15 +27,15 @@ nothing-requires-2 c κs = search needs
 
 returns-2 : tie.Need-returns-2
 returns-2 c =
-    let none : 0 < c .nothing2 .result .ring → ⊥ = λ h. let z = c .nothing2 .ensures in omega arith in
     let l = c .before .before .before .lay-ring in
-    record { found = λ h. absurd (none h); none = λ e bi. record { biConnected = bi; count = ring-counts _ _ _ _ _ _ (c .before .before .before .before .before .before .before .before .pre) (l .ensures .0) (c .before .before .before .before .before .before .before .choose-ring .ensures) (l .ensures .1) (c .before .if2 .taken) } }
+    answer-none (c .nothing2 .ensures) (λ bi ring. ring (record { biConnected = bi; count = ring-counts _ _ _ _ _ _ (c .before .before .before .before .before .before .before .before .pre) (l .ensures .0) (c .before .before .before .before .before .before .before .choose-ring .ensures) (l .ensures .1) (c .before .if2 .taken) }))
 
 add-handles-requires : tie.Need-add-handles-requires
 add-handles-requires c κs = search needs
 
 returns-3 : tie.Need-returns-3
-returns-3 c = record { found = c .add-handles .ensures .found; none = λ e bi. absurd (c .add-handles .ensures .none e bi) }
+returns-3 c =
+    answer-found (c .before .before .before .before .before .before .before .before .before .pre) (c .add-handles .ensures)
 
 pub break-down-spec : {M : Type 1} → statement M
 break-down-spec =
