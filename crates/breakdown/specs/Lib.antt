@@ -4,3 +4,4 @@ pub mod Choice
 pub mod Building
 pub mod CountLaws
 pub mod Answer
+pub mod Examples

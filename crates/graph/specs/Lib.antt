@@ -11,3 +11,4 @@ pub mod NearestLaws
 pub mod Decision
 pub mod EdgeCount
 pub mod EdgeCountLaws
+pub mod Examples

@@ -28,7 +28,7 @@ nothing-requires-2 c κs = search needs
 returns-2 : tie.Need-returns-2
 returns-2 c =
     let l = c .before .before .before .lay-ring in
-    answer-none (c .nothing2 .ensures) (λ bi ring. ring (record { biConnected = bi; count = ring-counts _ _ _ _ _ _ (c .before .before .before .before .before .before .before .before .pre) (l .ensures .0) (c .before .before .before .before .before .before .before .choose-ring .ensures) (l .ensures .1) (c .before .if2 .taken) }))
+    answer-none (c .nothing2 .ensures) (λ bi ring. ring (record { biConnected = bi; count = ring-counts _ _ _ _ _ _ (c .before .before .before .before .before .before .before .before .pre) (l .ensures .0) (c .before .before .before .before .before .before .before .choose-ring .ensures) (l .ensures .1) (omega arith) }))
 
 add-handles-requires : tie.Need-add-handles-requires
 add-handles-requires c κs = search needs

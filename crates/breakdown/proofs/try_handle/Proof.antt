@@ -41,7 +41,7 @@ element-copy-out-if4 c = search needs
 returns-4 : tie.Need-returns-4
 returns-4 c =
     let a = c .before .before .before .before .before .before .before .args in
-    handle-skip (a .n) (a .edges .now) (omega arith) (a .settled .now) (a .u) (a .w) _ _ _ (omega arith) (λ l. c .if4 .taken (l .new)) (c .before .before .before .before .before .before .before .pre .1)
+    handle-skip (a .n) (a .edges .now) (omega arith) (a .settled .now) (a .u) (a .w) _ _ _ (omega arith) (λ l. let e = l .new in omega arith) (c .before .before .before .before .before .before .before .pre .1)
 
 way-round-requires : tie.Need-way-round-requires
 way-round-requires c κs = search needs
