@@ -3,7 +3,8 @@
 --     choice-none       before the first pair nothing is chosen
 --     choice-skip       a pair that is not allowed changes nothing
 --     choice-better     the better one of the choice and the next pair
---     ring-skip, ring-better, handle-skip, handle-better    these laws at the choice of a base ring, and at that of a handle
+--     choice-stop       a choice as short as any can be is kept
+--     ring-skip, ring-better, handle-skip, handle-stop, handle-better    these laws at the choice of a base ring, and at that of a handle
 --     BesideUpto         the marks of the positions beside a, without b, as far as place v
 --     beside-none, beside-push, beside-done    none, one more, all
 -- Assumes nothing.
@@ -16,7 +17,7 @@ use native.Mathlib.Omega.{arith}
 use lib.ListN.{getD, length, length-set, set, replicate}
 use lib.Seq.{getD-set-same, getD-set-other}
 use Rattle.graph.specs.Walk.{Walk}
-use Rattle.graph.specs.WalkLaws.{path-walk}
+use Rattle.graph.specs.WalkLaws.{path-walk, walk-some, walk-alone}
 use Rattle.graph.specs.Connected.{Except, Below}
 use Rattle.graph.specs.Matrix.{Edge, Marked}
 use Rattle.graph.specs.Zeros.{getD-blank}
@@ -39,11 +40,11 @@ module _ {n : ℕ} {E : ℕ → ℕ → Type 0} (C : ℕ → ℕ → Type 0) (T 
       none h = omega arith
 
   -- The pairs before place p + 1 are those before p and the one at p.
-  next-least : (a b k k′ : ℕ) → b < 64
+  next-least : (a b k : ℕ) → b < 64
       → ((x y t j : ℕ) → x * 64 + y < a * 64 + b → C x y → Walk E (Except (Below n) x) y t j → T x y t → Within k j)
       → ((t j : ℕ) → C a b → Walk E (Except (Below n) a) b t j → T a b t → Within k j)
       → (x y t j : ℕ) → x * 64 + y < a * 64 + b + 1 → C x y → Walk E (Except (Below n) x) y t j → T x y t → Within k j
-  next-least a b k k′ hb old this x y t j l c walk is =
+  next-least a b k hb old this x y t j l c walk is =
       by-cases (decLt (x * 64 + y) (a * 64 + b))
       (λ h. old x y t j h c walk is)
       (λ h.
@@ -55,13 +56,23 @@ module _ {n : ℕ} {E : ℕ → ℕ → Type 0} (C : ℕ → ℕ → Type 0) (T 
 
   pub choice-skip : (a b u w k : ℕ) → b < 64 → (C a b → ⊥) → Choice n E C T (a * 64 + b) u w k → Choice n E C T (a * 64 + b + 1) u w k
   choice-skip a b u w k hb not c =
-      record { least = next-least a b k k hb (c .least) (λ t j x. absurd (not x)); pair = c .pair; way = c .way }
+      record { least = next-least a b k hb (c .least) (λ t j x. absurd (not x)); pair = c .pair; way = c .way }
+
+  -- with a choice as short as any way can be, the next pair changes nothing
+  pub choice-stop : (a b u w k : ℕ) → b < 64 → 0 < k → ((t j : ℕ) → C a b → Walk E (Except (Below n) a) b t j → T a b t → k ≤ j)
+      → Choice n E C T (a * 64 + b) u w k → Choice n E C T (a * 64 + b + 1) u w k
+  choice-stop a b u w k hb some short c =
+      record {
+        least = next-least a b k hb (c .least) (λ t j x walk is. record { some = some; most = short t j x walk is });
+        pair = c .pair;
+        way = c .way;
+      }
 
   pub choice-better : (u w f t k j x y z : ℕ) (g : ℕ → ℕ) → w < 64 → C u w → Nearest E (Except (Below n) u) (T u w) w j g
       → Better f t k u w j x y z → Choice n E C T (u * 64 + w) f t k → Choice n E C T (u * 64 + w + 1) x y z
   choice-better u w f t k j x y z g hw allowed nearest better c =
       record {
-        least = next-least u w z z hw
+        least = next-least u w z hw
             (λ a b e i l q walk is. let r = c .least a b e i l q walk is in lower r)
             (λ e i q walk is.
             let some = nearest-found nearest e i walk is in
@@ -120,6 +131,18 @@ module _ (n : ℕ) (g : List ℕ) (small : n ≤ 64) where
     pub handle-skip : (a b u w k : ℕ) → b < 64 → (Leaves (Edge n g) s a b → ⊥) → HandleChoice n g s (a * 64 + b) u w k
         → HandleChoice n g s (a * 64 + b + 1) u w k
     handle-skip = choice-skip (Leaves (Edge n g) s) (λ a b. Marked s) leaves-small
+
+    -- no handle is shorter than one inner position and an end
+    pub handle-stop : (a b u w k : ℕ) → b < 64 → k ≡ 2 → HandleChoice n g s (a * 64 + b) u w k → HandleChoice n g s (a * 64 + b + 1) u w k
+    handle-stop a b u w k hb two =
+        choice-stop (Leaves (Edge n g) s) (λ x y. Marked s) leaves-small a b u w k hb (omega arith) (λ t j l walk is.
+        let some = walk-some walk in
+        by-cases (ℕ-discrete j 1)
+        (λ e. absurd (clash (subst (Marked s) (walk-alone walk e) is) (l .new)))
+        (λ e. omega arith))
+      where
+        clash : {x : ℕ} → 0 < x → x ≡ 0 → ⊥
+        clash h e = omega arith
 
     pub handle-better : (u w f t k j x y z : ℕ) (r : ℕ → ℕ) → w < 64 → Leaves (Edge n g) s u w
         → Nearest (Edge n g) (Except (Below n) u) (Marked s) w j r → Better f t k u w j x y z

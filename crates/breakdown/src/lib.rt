@@ -33,7 +33,7 @@ pub struct Breakdown {
 
 // A shortest way to a target that avoids x.
 fn way_round(edges: &[u8; 4096], n: usize, x: usize, targets: &[u8; 64], from: usize) -> Route
-    requires { ⌜ (n ≤ 64) × (x < n) × (from < n) ⌝ }
+    requires { ⌜ Matrix n (now edges) ⌝ ∗ ⌜ (x < n) × (from < n) ⌝ }
     ensures { λ r. ⌜ Nearest (Edge n (now (edges .entry))) (Except (Below n) x) (Marked (now (targets .entry))) from (r .size) (row (r .at)) ⌝ }
 {
     let held = graph::only(x);
@@ -90,7 +90,7 @@ fn better(best: Pair, u: usize, w: usize, size: usize) -> Pair
 
 // The cycle through the edge from a to b: on from b to another neighbour of a, avoiding a.
 fn try_ring(edges: &[u8; 4096], n: usize, a: usize, b: usize, best: Pair) -> Pair
-    requires { ⌜ (n ≤ 64) × (a < n) × (b < 64) ⌝ ∗ ⌜ RingChoice n (now edges) (a * 64 + b) (best .from) (best .to) (best .size) ⌝ }
+    requires { ⌜ Matrix n (now edges) ⌝ ∗ ⌜ (a < n) × (b < 64) ⌝ ∗ ⌜ RingChoice n (now edges) (a * 64 + b) (best .from) (best .to) (best .size) ⌝ }
     ensures { λ r. ⌜ RingChoice n (now (edges .entry)) (a * 64 + b + 1) (r .from) (r .to) (r .size) ⌝ }
 {
     if n <= b {
@@ -106,7 +106,7 @@ fn try_ring(edges: &[u8; 4096], n: usize, a: usize, b: usize, best: Pair) -> Pai
 
 // An edge on a shortest cycle.
 fn choose_ring(edges: &[u8; 4096], n: usize) -> Pair
-    requires { ⌜ n ≤ 64 ⌝ }
+    requires { ⌜ Matrix n (now edges) ⌝ }
     ensures { λ r. ⌜ RingChoice n (now (edges .entry)) (n * 64) (r .from) (r .to) (r .size) ⌝ }
 {
     let mut best = Pair {
@@ -122,7 +122,8 @@ fn choose_ring(edges: &[u8; 4096], n: usize) -> Pair
     best
 }
 
-// The handle that leaves the settled positions from u to w: on from w to a settled position, avoiding u.
+// The handle that leaves the settled positions from u to w: on from w to a settled position, avoiding u. None is shorter than one inner position
+// and an end.
 fn try_handle(
     edges: &[u8; 4096],
     n: usize,
@@ -131,9 +132,12 @@ fn try_handle(
     w: usize,
     best: Pair,
 ) -> Pair
-    requires { ⌜ (n ≤ 64) × (u < n) × (w < 64) ⌝ ∗ ⌜ HandleChoice n (now edges) (now settled) (u * 64 + w) (best .from) (best .to) (best .size) ⌝ }
+    requires { ⌜ Matrix n (now edges) ⌝ ∗ ⌜ (u < n) × (w < 64) ⌝ ∗ ⌜ HandleChoice n (now edges) (now settled) (u * 64 + w) (best .from) (best .to) (best .size) ⌝ }
     ensures { λ r. ⌜ HandleChoice n (now (edges .entry)) (now (settled .entry)) (u * 64 + w + 1) (r .from) (r .to) (r .size) ⌝ }
 {
+    if best.size == 2 {
+        return best;
+    }
     if n <= w {
         return best;
     }
@@ -152,7 +156,7 @@ fn try_handle(
 
 // The edge by which a shortest handle leaves the settled positions.
 fn choose_handle(edges: &[u8; 4096], n: usize, settled: &[u8; 64]) -> Pair
-    requires { ⌜ n ≤ 64 ⌝ }
+    requires { ⌜ Matrix n (now edges) ⌝ }
     ensures { λ r. ⌜ HandleChoice n (now (edges .entry)) (now (settled .entry)) (n * 64) (r .from) (r .to) (r .size) ⌝ }
 {
     let mut best = Pair {

@@ -40,7 +40,8 @@ fn begin(n: usize, held: &[u8; 64], targets: &[u8; 64], marks: &mut [u8; 64]) ->
     made
 }
 
-// Marks v with d + 1 where it is free, unmarked and joined to w. Yields how many it marked.
+// Marks v with d + 1 where it is free, unmarked and joined to w. Yields how many it marked. The edge is looked at first, and in the row of w: few
+// positions are joined to w, and an edge joins both ways.
 fn visit(
     edges: &[u8; 4096],
     held: &[u8; 64],
@@ -50,15 +51,15 @@ fn visit(
     marks: &mut [u8; 64],
 ) -> usize
     requires { ⌜ (w < 64) × (v < 64) × (0 < d) × (d < 255) ⌝ ∗ ⌜ getD (now marks) w 0 ≡ d ⌝ }
-    ensures { λ r. ⌜ ((n : ℕ) → n ≤ 64 → w < n → v < n → Grows (now (edges .entry)) (now (held .entry)) n d (w * 64 + v) (w * 64 + v + 1) r (now (marks .entry)) (now (marks .exit))) ⌝ ∗ ⌜ r ≤ 1 ⌝ }
+    ensures { λ r. ⌜ ((n : ℕ) → Matrix n (now (edges .entry)) → w < n → v < n → Grows (now (edges .entry)) (now (held .entry)) n d (w * 64 + v) (w * 64 + v + 1) r (now (marks .entry)) (now (marks .exit))) ⌝ ∗ ⌜ r ≤ 1 ⌝ }
 {
+    if edges[w * 64 + v] != 1 {
+        return 0;
+    }
     if marks[v] != 0 {
         return 0;
     }
     if held[v] != 0 {
-        return 0;
-    }
-    if edges[v * 64 + w] != 1 {
         return 0;
     }
     marks[v] = d + 1;
@@ -74,7 +75,7 @@ fn expand(
     w: usize,
     marks: &mut [u8; 64],
 ) -> usize
-    requires { ⌜ (n ≤ 64) × (w < n) × (0 < d) × (d < 255) ⌝ ∗ ⌜ getD (now marks) w 0 ≡ d ⌝ }
+    requires { ⌜ Matrix n (now edges) ⌝ ∗ ⌜ (w < n) × (0 < d) × (d < 255) ⌝ ∗ ⌜ getD (now marks) w 0 ≡ d ⌝ }
     ensures { λ r. ⌜ Grows (now (edges .entry)) (now (held .entry)) n d (w * 64) ((w + 1) * 64) r (now (marks .entry)) (now (marks .exit)) ⌝ ∗ ⌜ r ≤ 64 ⌝ }
 {
     let mut made: usize = 0;
@@ -95,7 +96,7 @@ fn expand_at(
     w: usize,
     marks: &mut [u8; 64],
 ) -> usize
-    requires { ⌜ (n ≤ 64) × (w < n) × (0 < d) × (d < 255) ⌝ }
+    requires { ⌜ Matrix n (now edges) ⌝ ∗ ⌜ (w < n) × (0 < d) × (d < 255) ⌝ }
     ensures { λ r. ⌜ Grows (now (edges .entry)) (now (held .entry)) n d (w * 64) ((w + 1) * 64) r (now (marks .entry)) (now (marks .exit)) ⌝ ∗ ⌜ r ≤ 64 ⌝ }
 {
     if marks[w] != d {
@@ -106,7 +107,7 @@ fn expand_at(
 
 // One level: the positions marked d are expanded. Yields how many marks were made.
 fn level(edges: &[u8; 4096], n: usize, held: &[u8; 64], d: u8, marks: &mut [u8; 64]) -> usize
-    requires { ⌜ (n ≤ 64) × (0 < d) × (d < 255) ⌝ }
+    requires { ⌜ Matrix n (now edges) ⌝ ∗ ⌜ (0 < d) × (d < 255) ⌝ }
     ensures { λ r. ⌜ Grows (now (edges .entry)) (now (held .entry)) n d 0 (n * 64) r (now (marks .entry)) (now (marks .exit)) ⌝ }
 {
     let mut made: usize = 0;
@@ -140,7 +141,7 @@ pub fn spread(
     targets: &[u8; 64],
     from: usize,
 ) -> [u8; 64]
-    requires { ⌜ n ≤ 64 ⌝ }
+    requires { ⌜ Matrix n (now edges) ⌝ }
     ensures { λ r. ⌜ Spread (Edge n (now (edges .entry))) (Free n (now (held .entry))) (Marked (now (targets .entry))) from r ⌝ }
 {
     let mut marks = [0u8; 64];
@@ -220,7 +221,7 @@ pub fn search(
     targets: &[u8; 64],
     from: usize,
 ) -> Route
-    requires { ⌜ (n ≤ 64) × (from < n) ⌝ }
+    requires { ⌜ Matrix n (now edges) ⌝ ∗ ⌜ from < n ⌝ }
     ensures { λ r. ⌜ Nearest (Edge n (now (edges .entry))) (Free n (now (held .entry))) (Marked (now (targets .entry))) from (r .size) (λ i. getD (r .at) i 0) ⌝ }
 {
     let marks = spread(edges, n, held, targets, from);

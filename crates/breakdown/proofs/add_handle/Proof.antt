@@ -17,9 +17,8 @@ cast-m c = search needs
 way-round-requires : tie.Need-way-round-requires
 way-round-requires c κs =
     let s = c .before .before .before .before .before in
-    let m = s .pre .0 .small in
     let e = s .pre .1 .1 .0 .pair (s .pre .1 .0) .edge in
-    (m, e .from, e .to)
+    (s .pre .0, (e .from, e .to))
 
 sub-inner : tie.Need-sub-inner
 sub-inner c =

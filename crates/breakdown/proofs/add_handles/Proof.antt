@@ -41,7 +41,7 @@ returns c =
     record { found = λ h. building-done (l .inv .0) (s .pre .0 .small) (c .if1 .taken) (l .inv .1); none = λ e bi. let t = l .inv .0 .ring-three in omega arith }
 
 choose-handle-requires : tie.Need-choose-handle-requires Inv-loop μ-loop
-choose-handle-requires c κs = c .before .before .before .before .pre .0 .small
+choose-handle-requires c κs = c .before .before .before .before .pre .0
 
 nothing-requires : tie.Need-nothing-requires Inv-loop μ-loop
 nothing-requires c κs = tt

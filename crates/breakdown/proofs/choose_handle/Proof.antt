@@ -25,7 +25,7 @@ try-handle-requires c κs =
     let a = c .before .before .args in
     let l = c .before .loop in
     let same : l .p ≡ l .p / 64 * 64 + l .p % 64 = omega arith in
-    ((omega arith, omega arith, omega arith), subst (λ (p : ℕ). HandleChoice (a .n) (a .edges .now) (a .settled .now) p (l .best .from) (l .best .to) (l .best .size)) same (l .inv .1))
+    (c .before .before .pre, ((omega arith, omega arith), subst (λ (p : ℕ). HandleChoice (a .n) (a .edges .now) (a .settled .now) p (l .best .from) (l .best .to) (l .best .size)) same (l .inv .1)))
 
 add-p : tie.Need-add-p Inv-loop μ-loop
 add-p c = omega arith

@@ -17,9 +17,8 @@ beside-requires c κs =
 
 way-round-requires : tie.Need-way-round-requires
 way-round-requires c κs =
-    let m = c .before .before .pre .0 .small in
     let e = c .before .before .pre .1 .1 .0 .pair (c .before .before .pre .1 .0) in
-    (m, e .from, e .to)
+    (c .before .before .pre .0, (e .from, e .to))
 
 extend-requires : tie.Need-extend-requires
 extend-requires c κs =

@@ -14,7 +14,7 @@ use Rattle.breakdown.proofs.try_ring.Tie as tie
 returns : tie.Need-returns
 returns c =
     let a = c .before .args in
-    ring-skip (a .n) (a .edges .now) (omega arith) (a .a) (a .b) _ _ _ (omega arith) (λ e. let t = e .to in omega arith) (c .before .pre .1)
+    ring-skip (a .n) (a .edges .now) (omega arith) (a .a) (a .b) _ _ _ (omega arith) (λ e. let t = e .to in omega arith) (c .before .pre .1 .1)
 
 mul-if2 : tie.Need-mul-if2
 mul-if2 c = search needs
@@ -28,7 +28,7 @@ element-copy-out-if2 c = search needs
 returns-2 : tie.Need-returns-2
 returns-2 c =
     let a = c .before .before .before .args in
-    ring-skip (a .n) (a .edges .now) (omega arith) (a .a) (a .b) _ _ _ (omega arith) (λ e. c .if2 .taken (e .one)) (c .before .before .before .pre .1)
+    ring-skip (a .n) (a .edges .now) (omega arith) (a .a) (a .b) _ _ _ (omega arith) (λ e. c .if2 .taken (e .one)) (c .before .before .before .pre .1 .1)
 
 beside-requires : tie.Need-beside-requires
 beside-requires c κs = search needs
@@ -45,7 +45,7 @@ returns-3 c =
     let edge : Edge (a .n) (a .edges .now) (a .a) (a .b) = record { from = omega arith; to = omega arith; one = c .before .before .before .before .if2 .left } in
     let beside : (v : ℕ) → Marked (c .before .before .before .beside .result) v ↔ Beside (Edge (a .n) (a .edges .now)) (a .a) (a .b) v = c .before .before .before .beside .ensures in
     ring-better (a .n) (a .edges .now) (omega arith) (a .a) (a .b) _ _ _ _ _ _ _ _ (omega arith) edge
-    (nearest-targets (Beside (Edge (a .n) (a .edges .now)) (a .a) (a .b)) (λ v. beside v .0) (λ v. beside v .1) (c .before .way-round .ensures)) (c .better .ensures) (c .before .before .before .before .before .before .before .pre .1)
+    (nearest-targets (Beside (Edge (a .n) (a .edges .now)) (a .a) (a .b)) (λ v. beside v .0) (λ v. beside v .1) (c .before .way-round .ensures)) (c .better .ensures) (c .before .before .before .before .before .before .before .pre .1 .1)
 
 pub try-ring-spec : {M : Type 1} → statement M
 try-ring-spec =

@@ -17,7 +17,7 @@ abbrev μ-loop : tie.MeasureT-loop
 μ-loop edges n held d w marks₀ made₀ v₀ marks made v = n - v
 
 loop-holds : tie.Need-loop-holds Inv-loop μ-loop
-loop-holds c = (omega arith, omega arith, grows-none _ _ _ _ _ _ _ (omega arith), c .pre .1)
+loop-holds c = (omega arith, omega arith, grows-none _ _ _ _ _ _ _ (omega arith), c .pre .1 .1)
 
 visit-requires : tie.Need-visit-requires Inv-loop μ-loop
 visit-requires c κs = (omega arith, search needs)
@@ -34,7 +34,7 @@ loop-less c = omega arith
 loop-again : tie.Need-loop-again Inv-loop μ-loop
 loop-again c =
     let i = c .before .before .before .loop .inv in
-    let step = c .visit .ensures .0 (c .before .before .before .before .args .n) (omega arith) (omega arith) (omega arith) in
+    let step = c .visit .ensures .0 (c .before .before .before .before .args .n) (c .before .before .before .before .pre .0) (omega arith) (omega arith) in
     (omega arith, omega arith, grows-append _ _ _ _ _ (i .2) step (omega arith), step .kept _ (i .3))
 
 returns : tie.Need-returns Inv-loop μ-loop

@@ -18,7 +18,7 @@ loop-holds : tie.Need-loop-holds Inv-loop μ-loop
 loop-holds c = (omega arith, omega arith, grows-none _ _ _ _ _ _ _ (omega arith))
 
 expand-at-requires : tie.Need-expand-at-requires Inv-loop μ-loop
-expand-at-requires c κs = omega arith
+expand-at-requires c κs = (c .before .before .before .pre .0, omega arith)
 
 add-made : tie.Need-add-made Inv-loop μ-loop
 add-made c = omega arith

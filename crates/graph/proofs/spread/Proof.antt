@@ -35,7 +35,7 @@ returns-2 c =
     spreading-reached (a .edges .now) (a .held .now) (a .targets .now) (a .n) (l .d) (l .made) _ _ (c .before .before .before .if1 .left) (c .before .reached .ensures .0 (c .if2 .taken)) (l .inv)
 
 level-requires : tie.Need-level-requires Inv-loop μ-loop
-level-requires c κs = omega arith
+level-requires c κs = (c .before .before .before .before .before .before .before .before .pre, omega arith)
 
 add-d : tie.Need-add-d Inv-loop μ-loop
 add-d c = omega arith
