@@ -13,10 +13,10 @@ ghost use Rattle.breakdown.specs.Building.{row, Settled, Fresh, Extended
 ghost use Rattle.breakdown.specs.Answer.{Answer, Handled};
 
 // Two joined positions, and how many positions the way has that leads on from the second. A size of 0 is no pair.
-pub struct Pair {
-    pub from: usize,
-    pub to: usize,
-    pub size: usize,
+struct Pair {
+    from: usize,
+    to: usize,
+    size: usize,
 }
 
 // The base ring and the handles. `order` has every position once: first the ring's, in their order round it, then those inside handle 0, inside

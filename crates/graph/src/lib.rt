@@ -134,7 +134,7 @@ fn reached(n: usize, marks: &[u8; 64], from: usize) -> bool
 }
 
 // Breadth-first from the targets, level by level, until `from` is marked or nothing more can be. A `from` past the floor is never marked.
-pub fn spread(
+fn spread(
     edges: &[u8; 4096],
     n: usize,
     held: &[u8; 64],
@@ -293,7 +293,7 @@ fn all_marked(n: usize, held: &[u8; 64], marks: &[u8; 64]) -> bool
 }
 
 // Do the positions that are not held hang together?
-pub fn is_whole(edges: &[u8; 4096], n: usize, held: &[u8; 64]) -> bool
+fn is_whole(edges: &[u8; 4096], n: usize, held: &[u8; 64]) -> bool
     requires { ⌜ Matrix n (now edges) ⌝ }
     ensures { λ r. ⌜ (r ≡ true) ↔ Whole (Edge n (now (edges .entry))) (Free n (now (held .entry))) ⌝ }
 {
