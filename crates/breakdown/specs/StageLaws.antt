@@ -7,6 +7,10 @@
 --     whole-left, whole-right  a whole set with part of a handle hanging on the left end, or on the right end, is whole. The set may be a stage, a
 --                              stage without a position that is not that end, or either of them with a part hanging on the other end
 --     stage-robust             each stage of a breakdown is whole, and stays so without any one position
+--     stage-right              stage i with the places from j on of handle i, which hang on its right end, is whole
+--     stage-right-without      and without a position y of the stage that is not that end
+--     stage-split-without      stage i with all of handle i but one place j, without a position y of the stage that is neither end
+--     robust-neighbours        a position of a set that stays whole has two neighbours in the set
 --     breakdown-biConnected    a floor that has a breakdown is bi-connected
 -- Assumes nothing.
 use Prim.Native.Nat.{ℕ, zero, suc, _+_, _-_, _≤_, _<_}
@@ -16,7 +20,7 @@ use native.Mathlib.Decide.{ℕ-discrete, decLt}
 use native.Mathlib.Numerals.{add-one}
 use native.Mathlib.Omega.{arith}
 use Rattle.graph.specs.Walk.{Way}
-use Rattle.graph.specs.WalkLaws.{walk-segment, way-stay, way-step, way-append, way-reverse}
+use Rattle.graph.specs.WalkLaws.{Start, walk-starts, walk-segment, way-stay, way-step, way-append, way-reverse}
 use Rattle.graph.specs.Connected.{Whole, Except, BiConnected, Robust}
 use Rattle.graph.specs.ConnectedLaws.{Symmetric, Hangs, whole-hung, whole-same, whole-base}
 use Rattle.breakdown.specs.Breakdown.{Among, Between, Handle, Breakdown}
@@ -212,6 +216,28 @@ module _ {E : ℕ → ℕ → Type 0} (at : ℕ → ℕ) where
       }))
       x)
 
+pub record Two (E : ℕ → ℕ → Type 0) (P : ℕ → Type 0) (a : ℕ) : Type 0 where
+  pub one : Start E P a
+  pub two : Start E P a
+  pub differ : two .to ≢ one .to
+
+-- x and y are positions of the set, so that a is not alone in it with any one of its neighbours
+pub robust-neighbours : {E : ℕ → ℕ → Type 0} {P : ℕ → Type 0} (a x y : ℕ) → Robust E P → ((p : ℕ) → E p p → ⊥) → P a → P x → P y
+    → a ≢ x → a ≢ y → x ≢ y → Two E P a
+robust-neighbours {E} {P} a x y robust loopless pa px py ax ay xy =
+    let one = walk-starts (robust .whole a x pa px .walk) ax in
+    by-cases (ℕ-discrete x (one .to))
+    (λ e. second one y py ay (λ q. xy (e ∙ sym q)))
+    (λ e. second one x px ax e)
+  where
+    -- a walk that avoids the first neighbour starts at another one
+    second : (s : Start E P a) (z : ℕ) → P z → a ≢ z → z ≢ s .to → Two E P a
+    second s z pz az other =
+        let self : a ≢ s .to = λ e. loopless a (subst (E a) (sym e) (s .edge)) in
+        let way = robust .without (s .to) (s .there) a z (record { there = pa; other = self }) (record { there = pz; other = other }) in
+        let t = walk-starts (way .walk) az in
+        record { one = s; two = record { to = t .to; edge = t .edge; there = t .there .there }; differ = t .there .other }
+
 module _ {n : ℕ} {E : ℕ → ℕ → Type 0} {r c : ℕ} {at start left right : ℕ → ℕ} (sy : Symmetric E) (b : Breakdown n E r c at start left right) where
   stage-within : (d i : ℕ) → i + d ≡ c → start i ≤ n
   stage-within zero i e = let same : start i ≡ start c = ap start (omega arith) in let stops = b .stops in omega arith
@@ -230,6 +256,28 @@ module _ {n : ℕ} {E : ℕ → ℕ → Type 0} {r c : ℕ} {at start left right
       subst (λ (m : ℕ). Robust E (Among at (start m))) (add-one i)
       (handle-robust at (start i) (start (i + 1)) (left i) (right i) sy (b .handle i l) (λ x y h k. b .distinct x y h (omega arith))
       (stage-robust i (omega arith)))
+
+  -- what hangs on the right end of handle i, on the stage or on the stage without y
+  pub stage-right : (i j : ℕ) → i < c → start i ≤ j → Whole E (Both (Among at (start i)) (Between at j (start (i + 1))))
+  stage-right i j l h =
+      let handle = b .handle i l in
+      whole-right at (start i) (start (i + 1)) (left i) (right i) j sy handle h (stage-robust i (omega arith) .whole) (handle .right)
+
+  pub stage-right-without : (i j y : ℕ) → i < c → start i ≤ j → Among at (start i) y → right i ≢ y
+      → Whole E (Both (Except (Among at (start i)) y) (Between at j (start (i + 1))))
+  stage-right-without i j y l h in-stage other =
+      let handle = b .handle i l in
+      whole-right at (start i) (start (i + 1)) (left i) (right i) j sy handle h (stage-robust i (omega arith) .without y in-stage)
+      (record { there = handle .right; other = other })
+
+  pub stage-split-without : (i j y : ℕ) → i < c → start i ≤ j → j < start (i + 1) → Among at (start i) y → left i ≢ y → right i ≢ y
+      → Whole E (Both (Both (Except (Among at (start i)) y) (Between at (start i) j)) (Between at (j + 1) (start (i + 1))))
+  stage-split-without i j y l h k in-stage not-left not-right =
+      let handle = b .handle i l in
+      whole-right at (start i) (start (i + 1)) (left i) (right i) (j + 1) sy handle (omega arith)
+      (whole-left at (start i) (start (i + 1)) (left i) (right i) j sy handle (omega arith) (stage-robust i (omega arith) .without y in-stage)
+      (record { there = handle .left; other = not-left }))
+      (inl (record { there = handle .right; other = not-right }))
 
   pub breakdown-biConnected : BiConnected n E
   breakdown-biConnected =

@@ -13,10 +13,10 @@ ghost use Rattle.breakdown.specs.Building.{row, Settled, Fresh, Extended
 ghost use Rattle.breakdown.specs.Answer.{Answer, Handled};
 
 // Two joined positions, and how many positions the way has that leads on from the second. A size of 0 is no pair.
-pub struct Pair {
-    pub from: usize,
-    pub to: usize,
-    pub size: usize,
+struct Pair {
+    from: usize,
+    to: usize,
+    size: usize,
 }
 
 // The base ring and the handles. `order` has every position once: first the ring's, in their order round it, then those inside handle 0, inside
@@ -248,6 +248,7 @@ fn add_handle(
     }
 }
 
+// No breakdown.
 fn nothing() -> Breakdown
     ensures { λ r. ⌜ r .ring ≡ 0 ⌝ }
 {
@@ -281,6 +282,8 @@ fn add_handles(edges: &[u8; 4096], n: usize, settled: &mut [u8; 64], b: Breakdow
     }
 }
 
+// The breakdown of a floor, for every floor that is bi-connected and no ring; for any other a ring of 0. A base ring through every position leaves
+// nowhere to exchange racks: a shortest ring that long is the whole floor.
 pub fn break_down(edges: &[u8; 4096], n: usize) -> Breakdown
     requires { ⌜ Matrix n (now edges) ⌝ }
     ensures { λ r. ⌜ Answer n (now (edges .entry)) (r .ring) (r .handles) (r .order) (r .start) (r .left) (r .right) ⌝ }

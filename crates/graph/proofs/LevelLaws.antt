@@ -1,14 +1,18 @@
--- Laws of the levels of a breadth-first search.
+-- Laws of the levels of a breadth-first search: the states of `Levels` from one call to the next.
 --
---     only-set          one byte set among 64 zeros
---     growing-begin     the marks of level d, before level d + 1 is marked
---     growing-mark      the pair (w, v) is done by marking v
---     growing-skip      the pair (w, v) is done with no mark, where v needs none
---     growing-row       the pairs of w are done where w is not on level d, or where those with v below n are
---     growing-end       all pairs are done: the marks are right for one position more
---     levels-rest       where no mark was made on a level, the marks are right for all walks
---     levels-descend    a mark above 1 has a neighbour with one less
---     levels-target     the mark 1 is a target
+--     only-set                          one byte set among 64 zeros
+--     growing-begin                     the marks of level d, before level d + 1 is marked
+--     growing-skip, growing-mark        the pair (w, v) is done: with no mark, where v needs none; by marking v
+--     growing-row, growing-rest         all pairs of w are done: where w is not on level d; where those with positions of the floor are
+--     growing-end                       all pairs are done: the marks are right for one position more
+--     near-step                         one more edge in front of a walk to a target
+--     levels-rest                       where no mark was made on a level, the marks are right for all walks
+--     levels-descend                    a mark above 1 has a neighbour with one less
+--     levels-target, levels-free        the mark 1 is a target; a marked position is free
+--     grows-skip, grows-mark, grows-none, grows-append, grows-row, grows-rest    the same from marks to marks
+--     begins-skip, begins-mark, blank-begins, beginning-levels    the first level: looked past, marked, not begun, done
+--     Spreading, spreading-begin, spreading-level, spreading-stop, spreading-reached    the state of `spread`, from its first level to its answer
+--     Tracing, tracing-begin, tracing-step, tracing-end    the state of `trace`, from its first position to its last
 -- Assumes nothing.
 use Prim.Native.Nat.{ℕ, suc, _+_, _*_, _-_, _≤_, _<_}
 use mathlib.Core.Path.{_≡_, refl, sym, subst, ap, _∙_}

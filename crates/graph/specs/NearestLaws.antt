@@ -3,6 +3,7 @@
 --     nearest-same      the same positions allowed: the same answer
 --     nearest-targets   the same targets: the same answer
 --     nearest-found     where a walk leads to a target, there is a path
+--     nearest-short     the path has at most n positions, where the allowed ones are below n
 --     nearest-inner     no position of the path but its last is a target
 -- Assumes nothing.
 use Prim.Native.Nat.{ℕ, suc, _+_, _≤_, _<_}
@@ -12,6 +13,7 @@ use native.Mathlib.Decide.{ℕ-discrete}
 use native.Mathlib.Omega.{arith}
 use Rattle.graph.specs.Walk.{Walk}
 use Rattle.graph.specs.WalkLaws.{walk-inside, walk-segment}
+use Rattle.graph.specs.Zeros.{pigeonhole}
 use Rattle.graph.specs.Nearest.{Nearest}
 
 pub nearest-same : {E : ℕ → ℕ → Type 0} {P Q T : ℕ → Type 0} {a k : ℕ} {f : ℕ → ℕ} → ((p : ℕ) → P p → Q p) → ((p : ℕ) → Q p → P p)
@@ -47,6 +49,14 @@ module _ {E : ℕ → ℕ → Type 0} {P T : ℕ → Type 0} {a k : ℕ} {f : �
   pub nearest-found : (t j : ℕ) → Walk E P a t j → T t → 0 < k
   nearest-found t j walk is =
       by-cases (ℕ-discrete k 0) (λ e. absurd (r .none e t j walk is)) (λ e. omega arith)
+
+  pub nearest-short : (n : ℕ) → ((p : ℕ) → P p → p < n) → k ≤ n
+  nearest-short n below =
+      by-cases (ℕ-discrete k 0)
+      (λ e. omega arith)
+      (λ e.
+      let p = r .path (omega arith) in
+      pigeonhole n f k (λ i l. below (f i) (p .inside i l)) p.distinct)
 
   pub nearest-inner : (i : ℕ) → i + 1 < k → T (f i) → ⊥
   nearest-inner i l is =

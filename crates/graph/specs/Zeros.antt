@@ -6,17 +6,19 @@
 --     zeros-least     with no byte set from place n on, at most n are set
 --     zeros-more      and at most n − 1, where one below n is not set
 --     zeros-all       with n set, every byte below n is
+--     pigeonhole      k different numbers below n: k is at most n
 --     getD-blank      every byte of a row of zeros is 0
 --     Blank m         none of 64 bytes is set
 --     blank           64 zeros
 -- Assumes nothing.
 use Prim.Native.Nat.{ℕ, zero, suc, _+_, _≤_, _<_}
-use mathlib.Core.Path.{_≡_, refl}
+use mathlib.Core.Path.{_≡_, refl, sym, ap, _∙_}
 use mathlib.Core.List.{List, [], _∷_}
-use mathlib.Core.Logic.{by-cases}
+use mathlib.Core.Logic.{by-cases, _≢_}
 use native.Mathlib.Decide.{ℕ-discrete}
 use native.Mathlib.Omega.{arith}
-use lib.ListN.{getD, set, length, replicate}
+use lib.ListN.{getD, set, length, length-set, length-replicate, replicate}
+use lib.Seq.{getD-set-other}
 
 unfoldable pub zeros : List ℕ → ℕ
 zeros [] = 0
@@ -68,6 +70,11 @@ getD-blank zero v = refl
 getD-blank (suc k) zero = refl
 getD-blank (suc k) (suc v) = getD-blank k v
 
+zeros-blank : (n : ℕ) → zeros (replicate n 0) ≡ n
+unfolding zeros
+zeros-blank zero = refl
+zeros-blank (suc n) = ap suc (zeros-blank n)
+
 pub record Blank (m : List ℕ) : Type 0 where
   pub long : length m ≡ 64
   pub count : zeros m ≡ 64
@@ -76,3 +83,52 @@ pub record Blank (m : List ℕ) : Type 0 where
 pub blank : Blank (replicate 64 0)
 unfolding zeros
 blank = record { long = refl; count = refl; none = getD-blank 64 }
+
+-- The bytes of the first i numbers f 0, f 1, .. set among n.
+record Placed (n : ℕ) (f : ℕ → ℕ) (i : ℕ) : Type 0 where
+  marks : List ℕ
+  long : length marks ≡ n
+  count : zeros marks + i ≡ n
+  among : (p : ℕ) → 0 < getD marks p 0 → (j : ℕ) × (j < i) × (f j ≡ p)
+
+module _ (n : ℕ) (f : ℕ → ℕ) (k : ℕ) (below : (i : ℕ) → i < k → f i < n) (distinct : (i j : ℕ) → i < j → j < k → f i ≢ f j) where
+  placed : (i : ℕ) → i ≤ k → Placed n f i
+  placed zero l =
+      record {
+        marks = replicate n 0;
+        long = length-replicate n 0;
+        count = let z = zeros-blank n in omega arith;
+        among = λ p h. absurd (none p h);
+      }
+    where
+      none : (p : ℕ) → 0 < getD (replicate n 0) p 0 → ⊥
+      none p h = let e = getD-blank n p in omega arith
+  placed (suc i) l = next i l (placed i (omega arith))
+    where
+      next : (i : ℕ) → suc i ≤ k → Placed n f i → Placed n f (suc i)
+      next i l r =
+          let fits = below i l in
+          let long = r .long in
+          let count = r .count in
+          let fewer : zeros (set (r .marks) (f i) 1) + 1 ≡ zeros (r .marks) = zeros-set (r .marks) (f i) 0 (omega arith) new in
+          record {
+            marks = set (r .marks) (f i) 1;
+            long = length-set (r .marks) (f i) 1 ∙ r .long;
+            count = omega arith;
+            among = λ p h.
+                by-cases (ℕ-discrete p (f i))
+                (λ e. (i, omega arith, sym e))
+                (λ e.
+                let q = getD-set-other (r .marks) (f i) p 1 0 e in
+                let a = r .among p (omega arith) in
+                let b = a .1 in
+                (a .0, omega arith, a .2));
+          }
+        where
+          new : getD (r .marks) (f i) 0 ≡ 0
+          new =
+              by-cases (ℕ-discrete (getD (r .marks) (f i) 0) 0) (λ e. e)
+              (λ e. let a = r .among (f i) (omega arith) in absurd (distinct (a .0) i (a .1) l (a .2)))
+
+  pub pigeonhole : k ≤ n
+  pigeonhole = let r = placed k (omega arith) in let c = r .count in omega arith

@@ -134,7 +134,7 @@ fn reached(n: usize, marks: &[u8; 64], from: usize) -> bool
 }
 
 // Breadth-first from the targets, level by level, until `from` is marked or nothing more can be. A `from` past the floor is never marked.
-pub fn spread(
+fn spread(
     edges: &[u8; 4096],
     n: usize,
     held: &[u8; 64],
@@ -264,6 +264,7 @@ pub fn only(v: usize) -> [u8; 64]
     a
 }
 
+// Is v neither held nor marked?
 fn is_missed(held: &[u8; 64], marks: &[u8; 64], v: usize) -> bool
     requires { ⌜ v < 64 ⌝ }
     ensures { λ r. ⌜ (r ≡ true) ↔ ((getD (now (held .entry)) v 0 ≡ 0) × (getD (now (marks .entry)) v 0 ≡ 0)) ⌝ }
@@ -293,7 +294,7 @@ fn all_marked(n: usize, held: &[u8; 64], marks: &[u8; 64]) -> bool
 }
 
 // Do the positions that are not held hang together?
-pub fn is_whole(edges: &[u8; 4096], n: usize, held: &[u8; 64]) -> bool
+fn is_whole(edges: &[u8; 4096], n: usize, held: &[u8; 64]) -> bool
     requires { ⌜ Matrix n (now edges) ⌝ }
     ensures { λ r. ⌜ (r ≡ true) ↔ Whole (Edge n (now (edges .entry))) (Free n (now (held .entry))) ⌝ }
 {
@@ -306,6 +307,7 @@ pub fn is_whole(edges: &[u8; 4096], n: usize, held: &[u8; 64]) -> bool
     all_marked(n, held, &marks)
 }
 
+// Is the floor connected? One position alone is.
 pub fn is_connected(edges: &[u8; 4096], n: usize) -> bool
     requires { ⌜ Matrix n (now edges) ⌝ }
     ensures { λ r. ⌜ (r ≡ true) ↔ Connected n (Edge n (now (edges .entry))) ⌝ }
@@ -314,6 +316,7 @@ pub fn is_connected(edges: &[u8; 4096], n: usize) -> bool
     is_whole(edges, n, &held)
 }
 
+// Is the floor connected when x is taken away?
 pub fn is_connected_without(edges: &[u8; 4096], n: usize, x: usize) -> bool
     requires { ⌜ Matrix n (now edges) ⌝ ∗ ⌜ x < n ⌝ }
     ensures { λ r. ⌜ (r ≡ true) ↔ ConnectedWithout n (Edge n (now (edges .entry))) x ⌝ }
@@ -322,7 +325,7 @@ pub fn is_connected_without(edges: &[u8; 4096], n: usize, x: usize) -> bool
     is_whole(edges, n, &held)
 }
 
-// With three positions or more, connected without any one is connected too: n searches are enough.
+// Is the floor bi-connected? With three positions or more, connected without any one is connected too: n searches are enough.
 pub fn is_biconnected(edges: &[u8; 4096], n: usize) -> bool
     requires { ⌜ Matrix n (now edges) ⌝ }
     ensures { λ r. ⌜ (r ≡ true) ↔ BiConnected n (Edge n (now (edges .entry))) ⌝ }
@@ -340,7 +343,7 @@ pub fn is_biconnected(edges: &[u8; 4096], n: usize) -> bool
     true
 }
 
-// `e` is the number of the floor's edges.
+// Is the floor a ring? `e` is the number of its edges.
 pub fn is_ring(edges: &[u8; 4096], n: usize, e: usize) -> bool
     requires { ⌜ Matrix n (now edges) ⌝ }
     ensures { λ r. ⌜ (r ≡ true) ↔ Ring n (Edge n (now (edges .entry))) e ⌝ }
