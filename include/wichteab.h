@@ -138,6 +138,18 @@ static inline uint32_t wichteab_plan_moves(uint64_t answer)
     return (uint32_t)(answer >> 8);
 }
 
+/* Of wichteab_timetable_check or wichteab_timetable_make, accepted: the timetable's steps. */
+static inline uint32_t wichteab_timetable_steps(uint64_t answer)
+{
+    return (uint32_t)(answer >> 8 & 0x3FFFFF);
+}
+
+/* Of wichteab_timetable_check, accepted: the moves of all steps. */
+static inline uint32_t wichteab_timetable_moves(uint64_t answer)
+{
+    return (uint32_t)(answer >> 30);
+}
+
 /* Of wichteab_timetable_step, accepted: the step's first byte, as an offset in the timetable. */
 static inline size_t wichteab_step_offset(uint64_t answer)
 {
@@ -172,6 +184,20 @@ uint64_t wichteab_order_check(const uint8_t *order, size_t order_length);
  */
 uint64_t wichteab_plan_check(const uint8_t *order, size_t order_length, const uint8_t *plan,
                              size_t plan_length);
+
+/*
+ * wichteab_timetable_check: does this timetable bring every rack of the order to its goal?
+ *
+ * Takes an order, on a floor of any shape, and a timetable; both are only read. A step is legal if its moves
+ * ascend strictly by position left; both positions of each are below n and joined by an edge; each position
+ * left holds a rack; no position is entered twice; and each move belongs to a train with a leader: followed
+ * from rack to rack, its chain ends at a move into a position that was vacant before the step. Accepted:
+ * every step is legal at its turn, after the last one every rack stands at its goal, and
+ * wichteab_timetable_steps and wichteab_timetable_moves give the counts. Refused: 10 to 14 and 40 to 43; the
+ * place of 42 is the step, that of 43 the rack.
+ */
+uint64_t wichteab_timetable_check(const uint8_t *order, size_t order_length, const uint8_t *timetable,
+                                  size_t timetable_length);
 
 /*
  * wichteab_timetable_step: finds one step of a timetable.

@@ -4,12 +4,13 @@ use answers::Fault;
 use order::OrderVerdict;
 use plan::PlanVerdict;
 use timetable::StepVerdict;
+use timetable::TimetableVerdict;
 ghost use mathlib.Core.Path.{_≡_};
 ghost use Rattle.answers.specs.Answer.{refusedBy};
 ghost use Rattle.order.specs.Order.{orderAnswer};
 ghost use Rattle.plan.specs.Plan.{planAnswer};
-ghost use Rattle.timetable.specs.Timetable.{stepAnswer};
-ghost use Rattle.controller.specs.Packed.{packed, nothing, oneCount, lengthAndOffset};
+ghost use Rattle.timetable.specs.Timetable.{timetableAnswer, stepAnswer};
+ghost use Rattle.controller.specs.Packed.{packed, nothing, oneCount, stepsAndMoves, lengthAndOffset};
 
 // A refusal as one number.
 fn refusal(fault: Fault, place: u32) -> u64
@@ -37,6 +38,18 @@ pub extern "C" fn wichteab_plan_check(order: &[u8], plan: &[u8]) -> u64
     match plan::check(order, plan) {
         PlanVerdict::Accepted(moves) => (moves as u64) * 256,
         PlanVerdict::Refused(fault, place) => refusal(fault, place),
+    }
+}
+
+// Judges a timetable for an order by 10 to 14 and 40 to 43. Accepted, it gives the timetable's steps and moves.
+#[no_mangle]
+pub extern "C" fn wichteab_timetable_check(order: &[u8], timetable: &[u8]) -> u64
+    ensures { λ r. ⌜ r ≡ packed stepsAndMoves (timetableAnswer (now (order .entry)) (now (timetable .entry))) ⌝ }
+{
+    match timetable::check(order, timetable) {
+        TimetableVerdict::Accepted { steps, moves } => ((steps as u64) + (moves as u64) * 4194304)
+            * 256,
+        TimetableVerdict::Refused(fault, place) => refusal(fault, place),
     }
 }
 

@@ -3,6 +3,7 @@
 --     plan-is           the table of document 01 as these layers
 --     RecordGave, record-gave  what an accepted record tells
 --     judgement-is      the judgement on tables is document 01's
+--     order-turned-down, record-turned-down, answer-is   the checker's answer at each return
 -- Assumes nothing.
 use Prim.Native.Nat.{ℕ, _-_, _*_, _^_, _≤_, _<_}
 use mathlib.Core.Path.{_≡_, refl, sym, ap, _∙_}
@@ -11,7 +12,7 @@ use mathlib.Core.List.{List, [], _∷_}
 use native.Mathlib.Omega.{arith}
 use lib.ListN.{length, take, drop}
 use Rattle.answers.specs.Answer.{Answer, accepted, refused, refuse, passUp}
-use Rattle.answers.specs.AnswerLaws.{refuse-not, refuse-else, passUp-accepted, passUp-refused}
+use Rattle.answers.specs.AnswerLaws.{refuse-not, refuse-else, passUp-refused}
 use Rattle.field.specs.Bits.{field, pairs}
 use Rattle.field.specs.BitLaws.{field-lt}
 use Rattle.field.specs.UnitLaws.{Fitting, fitting, tail-units}
@@ -21,6 +22,7 @@ use Rattle.order.specs.TailLaws.{tail-edges, tail-starts, tail-goals}
 use Rattle.motion.specs.Replay.{replayMoves}
 use Rattle.motion.specs.Judgement.{judged}
 use Rattle.tables.specs.Accepted.{OrderGave}
+use Rattle.tables.specs.Layers.{order-refused, record-refused, all-accepted}
 use Rattle.tables.specs.MovesOn.{matrixOf, tableOf, moves-judged}
 use Rattle.plan.specs.Plan.{moveCount, planMoves, wrongPlanLength, planPaddingSet, planAnswer}
 use Rattle.plan.specs.Readers.{recordAnswer, tableAnswer}
@@ -79,21 +81,12 @@ module _ (o : List ℕ) (n e m : ℕ) (gave : OrderGave o n e m) (p : List ℕ) 
       moves-judged (floorOf o) (gave .placed-well .few-positions) (gave .placed-well .edges-below) (gave .placed-well .edges-right) (startsOf o) (gave .placed-well .starts-sound) (pairs-lt p 24 (moveCount p)) 32 33 (goalsOf o) (moveCount p ∷ []) (gave .placed-well .goals-length ∙ sym (gave .placed-well .starts-length)))
 
   pub answer-is : accepted (n ∷ e ∷ m ∷ []) ≡ orderAnswer o → accepted (k ∷ []) ≡ recordAnswer p → tableAnswer (take (length o - 3) (drop 3 o)) e m (take (length p - 3) (drop 3 p)) k ≡ planAnswer o p
-  answer-is a b =
-      judgement-is
-      ∙ sym (plan-is o p ∙ passUp-accepted (orderAnswer o) (passUp (recordAnswer p) (judgement o p)) (n ∷ e ∷ m ∷ []) (sym a) ∙ passUp-accepted (recordAnswer p) (judgement o p) (k ∷ []) (sym b))
+  answer-is a b = judgement-is ∙ all-accepted (planAnswer o p) (orderAnswer o) (recordAnswer p) (judgement o p) (plan-is o p) (n ∷ e ∷ m ∷ []) a (k ∷ []) b
 
 -- a refusal below is the answer above
-pub order-refused : (o p : List ℕ) (below r : Answer) (number place : ℕ) → below ≡ orderAnswer o → below ≡ refused number place → r ≡ passUp below (accepted (0 ∷ [])) → r ≡ planAnswer o p
-order-refused o p below r number place is f e =
-    e
-    ∙ sym (passUp-refused below (accepted (0 ∷ [])) number place f)
-    ∙ passUp-refused below (passUp (recordAnswer p) (judgement o p)) number place f
-    ∙ ap (λ (b : Answer). passUp b (passUp (recordAnswer p) (judgement o p))) is
-    ∙ sym (plan-is o p)
+pub order-turned-down : (o p : List ℕ) (below r : Answer) (number place : ℕ) → below ≡ orderAnswer o → below ≡ refused number place → r ≡ passUp below (accepted (0 ∷ [])) → r ≡ planAnswer o p
+order-turned-down o p below r = order-refused (planAnswer o p) (orderAnswer o) (recordAnswer p) (judgement o p) (plan-is o p) below r (accepted (0 ∷ []))
 
-pub record-refused : (o p counted : List ℕ) (head : Answer) (number place : ℕ) → accepted counted ≡ orderAnswer o → head ≡ recordAnswer p → head ≡ refused number place → head ≡ planAnswer o p
-record-refused o p counted head number place a is f =
-    passUp-refused head (judgement o p) number place f
-    ∙ ap (λ (b : Answer). passUp b (judgement o p)) is
-    ∙ sym (plan-is o p ∙ passUp-accepted (orderAnswer o) (passUp (recordAnswer p) (judgement o p)) counted (sym a))
+pub record-turned-down : (o p counted : List ℕ) (head : Answer) (number place : ℕ) → accepted counted ≡ orderAnswer o → head ≡ recordAnswer p → head ≡ refused number place → head ≡ planAnswer o p
+record-turned-down o p counted head number place a is f =
+    record-refused (planAnswer o p) (orderAnswer o) (recordAnswer p) (judgement o p) (plan-is o p) counted a head head (accepted []) number place is f (passUp-refused head (accepted []) number place f)

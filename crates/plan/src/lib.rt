@@ -10,8 +10,10 @@ ghost use Rattle.answers.specs.Answer.{accepted, passUp};
 ghost use Rattle.field.specs.Bits.{pairs};
 ghost use Rattle.order.specs.Verdict.{answerOf as orderAnswerOf};
 ghost use Rattle.tables.specs.Tables.{legalEntries};
+ghost use Rattle.tables.specs.MovesOn.{replayOn};
+ghost use Rattle.tables.specs.Ending.{Ends};
 ghost use Rattle.plan.specs.Plan.{planAnswer};
-ghost use Rattle.plan.specs.Readers.{recordAnswer, Replays, tableAnswer};
+ghost use Rattle.plan.specs.Readers.{recordAnswer, tableAnswer};
 ghost use Rattle.plan.specs.Verdict.{answerOf};
 
 // The verdict on a plan: specs/Verdict.antt gives it document 01's number and values.
@@ -67,7 +69,7 @@ fn legal(edge: u8, left: u8, entered: u8) -> bool
 // Replays the k moves of a plan's tail on the table of racks: the number of the first that is not legal, or 0.
 fn replay(tail: &[u8], k: usize, matrix: &[u8; 4096], racks: &mut [u8; 64]) -> usize
     requires { ⌜ 12 * k ≤ 8 * length (now tail) ⌝ }
-    ensures { λ r. ⌜ Replays (now (matrix .entry)) (now (racks .entry)) (pairs (now (tail .entry)) 0 k) k r (now (racks .exit)) ⌝ }
+    ensures { λ r. ⌜ Ends (replayOn (now (matrix .entry)) (now (racks .entry)) (pairs (now (tail .entry)) 0 k)) k r (now (racks .exit)) ⌝ }
 {
     let mut j = 0;
     while j < k {

@@ -3,5 +3,7 @@ pub mod TableLaws
 pub mod MatrixLaws
 pub mod Simulation
 pub mod MovesOn
+pub mod Ending
+pub mod Layers
 pub mod Accepted
 pub mod Examples

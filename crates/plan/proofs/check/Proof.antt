@@ -8,7 +8,7 @@ use Rattle.order.specs.Verdict.{answerOf as orderAnswerOf}
 use Rattle.tables.specs.Accepted.{OrderGave, order-gave}
 use Rattle.plan.specs.Readers.{recordAnswer}
 use Rattle.plan.specs.Verdict.{answerOf}
-use Rattle.plan.proofs.Layers.{order-refused, record-refused, RecordGave, record-gave, plan-room, answer-is}
+use Rattle.plan.proofs.Layers.{order-turned-down, record-turned-down, RecordGave, record-gave, plan-room, answer-is}
 use borrow.Author.Needs.{needs}
 use Rattle.plan.proofs.check.Statement.{statement}
 use Rattle.plan.proofs.check.Tie as tie
@@ -40,7 +40,7 @@ refusal-requires c κs = search needs
 
 returns : tie.Need-returns
 returns c =
-    order-refused (c .before .before .before .before .before .before .args .order .now) (c .before .before .before .before .before .before .args .plan .now) _ _ _ _ (c .before .before .before .read .ensures) (ap orderAnswerOf (c .before .enum-told .given .1)) (c .refusal .ensures)
+    order-turned-down (c .before .before .before .before .before .before .args .order .now) (c .before .before .before .before .before .before .args .plan .now) _ _ _ _ (c .before .before .before .read .ensures) (ap orderAnswerOf (c .before .enum-told .given .1)) (c .refusal .ensures)
 
 read-record-requires : tie.Need-read-record-requires
 read-record-requires c κs = search needs
@@ -53,7 +53,7 @@ enum-told-2 c = search needs
 
 returns-2 : tie.Need-returns-2
 returns-2 c =
-    record-refused (c .before .before .before .before .before .before .before .before .before .args .order .now) (c .before .before .before .before .before .before .before .before .before .args .plan .now) _ _ _ _ (ap orderAnswerOf (sym (c .before .before .before .before .below .given .1)) ∙ c .before .before .before .before .before .before .read .ensures) (c .before .before .read-record .ensures) (ap answerOf (c .enum-told2 .given .1))
+    record-turned-down (c .before .before .before .before .before .before .before .before .before .args .order .now) (c .before .before .before .before .before .before .before .before .before .args .plan .now) _ _ _ _ (ap orderAnswerOf (sym (c .before .before .before .before .below .given .1)) ∙ c .before .before .before .before .before .before .read .ensures) (c .before .before .read-record .ensures) (ap answerOf (c .enum-told2 .given .1))
 
 sub-judge : tie.Need-sub-judge
 sub-judge c = of-order c .head-there

@@ -3,18 +3,18 @@ use Prim.Native.Nat.{_≤_, _-_}
 use native.Mathlib.Omega.{arith}
 use borrow.Author.Needs.{needs}
 use borrow.Author.Tests.{not-true, not-false}
-use Rattle.plan.proofs.Turns.{Left, left-first, stop, left-next, left-none}
+use Rattle.plan.proofs.Turns.{MovesLeft, moves-first, moves-stop, moves-next, moves-none}
 use Rattle.plan.proofs.replay.Statement.{statement}
 use Rattle.plan.proofs.replay.Tie as tie
 
 abbrev Inv-loop : tie.InvT-loop
-Inv-loop tail k matrix racks₀ j₀ racks j = (j ≤ k) × Left tail k matrix racks₀ racks j
+Inv-loop tail k matrix racks₀ j₀ racks j = (j ≤ k) × MovesLeft tail k matrix racks₀ racks j
 
 abbrev μ-loop : tie.MeasureT-loop
 μ-loop tail k matrix racks₀ j₀ racks j = k - j
 
 loop-holds : tie.Need-loop-holds Inv-loop μ-loop
-loop-holds c = (omega arith, left-first _ _ _ _)
+loop-holds c = (omega arith, moves-first _ _ _ _)
 
 pair-at-requires : tie.Need-pair-at-requires Inv-loop μ-loop
 pair-at-requires c κs = omega arith
@@ -42,7 +42,7 @@ add-result c = omega arith
 
 returns : tie.Need-returns Inv-loop μ-loop
 returns c =
-    stop (c .before .before .before .before .before .before .before .before .before .args .tail .now) (c .before .before .before .before .before .before .before .before .before .args .k) (c .before .before .before .before .before .before .before .before .before .args .matrix .now) (c .before .before .before .before .before .before .before .before .before .args .racks .now) (c .before .before .before .before .before .before .before .loop .racks) (c .before .before .before .before .before .before .before .loop .j) (c .before .before .before .before .before .pair-at .result .first) (c .before .before .before .before .before .pair-at .result .second) (c .before .before .before .before .before .before .before .loop .inv .1) (omega arith) (c .before .before .before .before .before .pair-at .ensures .first-is) (c .before .before .before .before .before .pair-at .ensures .second-is) (c .before .legal .result) (c .before .legal .ensures) (not-true _ (c .if1 .taken))
+    moves-stop (c .before .before .before .before .before .before .before .before .before .args .tail .now) (c .before .before .before .before .before .before .before .before .before .args .k) (c .before .before .before .before .before .before .before .before .before .args .matrix .now) (c .before .before .before .before .before .before .before .before .before .args .racks .now) (c .before .before .before .before .before .before .before .loop .racks) (c .before .before .before .before .before .before .before .loop .j) (c .before .before .before .before .before .pair-at .result .first) (c .before .before .before .before .before .pair-at .result .second) (c .before .before .before .before .before .before .before .loop .inv .1) (omega arith) (c .before .before .before .before .before .pair-at .ensures .first-is) (c .before .before .before .before .before .pair-at .ensures .second-is) (c .before .legal .result) (c .before .legal .ensures) (not-true _ (c .if1 .taken))
 
 element-write-racks : tie.Need-element-write-racks Inv-loop μ-loop
 element-write-racks c = omega arith
@@ -58,11 +58,11 @@ loop-less c = omega arith
 
 loop-again : tie.Need-loop-again Inv-loop μ-loop
 loop-again c =
-    (omega arith, left-next (c .before .before .before .before .before .before .before .before .before .args .tail .now) (c .before .before .before .before .before .before .before .before .before .args .k) (c .before .before .before .before .before .before .before .before .before .args .matrix .now) (c .before .before .before .before .before .before .before .before .before .args .racks .now) (c .before .before .before .before .before .before .before .loop .racks) (c .before .before .before .before .before .before .before .loop .j) (c .before .before .before .before .before .pair-at .result .first) (c .before .before .before .before .before .pair-at .result .second) (c .before .before .before .before .before .before .before .loop .inv .1) (omega arith) (c .before .before .before .before .before .pair-at .ensures .first-is) (c .before .before .before .before .before .pair-at .ensures .second-is) (c .before .legal .result) (c .before .legal .ensures) (not-false _ (c .if1 .left)))
+    (omega arith, moves-next (c .before .before .before .before .before .before .before .before .before .args .tail .now) (c .before .before .before .before .before .before .before .before .before .args .k) (c .before .before .before .before .before .before .before .before .before .args .matrix .now) (c .before .before .before .before .before .before .before .before .before .args .racks .now) (c .before .before .before .before .before .before .before .loop .racks) (c .before .before .before .before .before .before .before .loop .j) (c .before .before .before .before .before .pair-at .result .first) (c .before .before .before .before .before .pair-at .result .second) (c .before .before .before .before .before .before .before .loop .inv .1) (omega arith) (c .before .before .before .before .before .pair-at .ensures .first-is) (c .before .before .before .before .before .pair-at .ensures .second-is) (c .before .legal .result) (c .before .legal .ensures) (not-false _ (c .if1 .left)))
 
 returns-2 : tie.Need-returns-2 Inv-loop μ-loop
 returns-2 c =
-    left-none (c .before .before .before .args .tail .now) (c .before .before .before .args .k) (c .before .before .before .args .matrix .now) (c .before .before .before .args .racks .now) (c .before .loop .racks) (c .before .loop .j) (c .before .loop .inv .1) (omega arith)
+    moves-none (c .before .before .before .args .tail .now) (c .before .before .before .args .k) (c .before .before .before .args .matrix .now) (c .before .before .before .args .racks .now) (c .before .loop .racks) (c .before .loop .j) (c .before .loop .inv .1) (omega arith)
 
 pub replay-spec : {M : Type 1} → statement M
 replay-spec =
