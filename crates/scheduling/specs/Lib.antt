@@ -5,3 +5,5 @@ pub mod Schedule
 pub mod Made
 pub mod MakingCases
 pub mod Rows
+pub mod Filling
+pub mod FillingLaws
