@@ -1,1 +1,7 @@
 pub mod Plan
+pub mod Verdict
+pub mod Readers
+pub mod PlanRecord
+pub mod Solutions
+pub mod Limits
+pub mod Examples
