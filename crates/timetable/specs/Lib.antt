@@ -1,1 +1,4 @@
 pub mod Timetable
+pub mod Reading
+pub mod StepLaws
+pub mod ReadingLaws
