@@ -3,3 +3,4 @@ pub mod BitLaws
 pub mod RecordLaws
 pub mod Units
 pub mod UnitLaws
+pub mod WholeBytes

@@ -8,17 +8,18 @@
 --     stands-first, stands-next     before step 1, and from one step to the next
 --     stands-at                     after any i steps of a timetable that passes 40
 --     part-stands                   step i + 1 is the part that begins there
+--     steps-next, steps-none        of the steps that are left, the first and those after it
 --     offset-first, offset-next, offset-last    the parts follow one another from byte 3 to the end
 -- Assumes nothing.
 use Prim.Native.Nat.{ℕ, zero, suc, _+_, _-_, _≤_, _<_}
 use mathlib.Core.Path.{_≡_, refl, sym, ap, ap₂, _∙_, subst}
 use mathlib.Core.Bool.{Bool, true, false, _||_}
-use mathlib.Core.List.{List, [], _∷_}
+use mathlib.Core.List.{List, [], _∷_, map}
 use native.Mathlib.Omega.{arith}
 use native.Mathlib.Nat.{add-zero, add-assoc, sub-zero, le-refl}
 use native.Mathlib.Numerals.{add-one}
 use borrow.Author.Tests.{ltb-false}
-use lib.ListN.{length, getD, take, drop}
+use lib.ListN.{length, getD, take, drop, length-map, drop-of-length-le}
 use lib.Seq.{drop-drop, getD-drop}
 use lib.Dec.{ltb, eqb}
 use Rattle.answers.specs.Answer.{Answer, accepted, refused, refuse, passUp}
@@ -27,9 +28,9 @@ use Rattle.field.specs.UnitLaws.{or-left, or-right}
 use Rattle.order.specs.Order.{orderAnswer, floorOf, startsOf, goalsOf}
 use Rattle.motion.specs.Replay.{replaySteps}
 use Rattle.motion.specs.Judgement.{judged}
-use Rattle.timetable.specs.Timetable.{stepLength, wrongSteps, stepParts, partsOf, stepsOf, stepCount, total, wrongTimetableLength, timetablePaddingSet, timetableAnswer, lengthOf, offset, stepPart, stepAnswer}
+use Rattle.timetable.specs.Timetable.{stepLength, wrongSteps, stepParts, partsOf, stepMoves, stepsOf, stepCount, total, wrongTimetableLength, timetablePaddingSet, timetableAnswer, lengthOf, offset, stepPart, stepAnswer}
 use Rattle.timetable.specs.Reading.{readingAnswer, WellPacked, numberAnswer}
-use Rattle.timetable.specs.StepLaws.{partAt, nextAt, parts-next, parts-none, Room, room, wrong-next, all-taken, length-partAt}
+use Rattle.timetable.specs.StepLaws.{partAt, nextAt, parts-next, length-parts, Room, room, wrong-next, all-taken, length-partAt}
 
 pub reading-accepted : (s : List ℕ) → WellPacked s → readingAnswer s ≡ accepted (stepCount s ∷ total (partsOf s) ∷ [])
 unfolding readingAnswer
@@ -83,6 +84,11 @@ lengthOf-suc (suc i) (p ∷ l) = rw (lengthOf-suc i l) (sym (add-assoc (length p
 lengthOf-next : (i : ℕ) (l : List (List ℕ)) → lengthOf (i + 1) l ≡ lengthOf i l + length (getD l i [])
 lengthOf-next i l = ap (λ (n : ℕ). lengthOf n l) (add-one i) ∙ lengthOf-suc i l
 
+drop-map : {X Y : Type 0} (f : X → Y) (i : ℕ) (l : List X) → drop i (map f l) ≡ map f (drop i l)
+drop-map f zero l = refl
+drop-map f (suc i) [] = refl
+drop-map f (suc i) (x ∷ l) = drop-map f i l
+
 pub record Stands (s : List ℕ) (i at : ℕ) : Type 0 where
   pub begins-at : at ≡ 3 + lengthOf i (partsOf s)
   pub parts-left : drop i (partsOf s) ≡ stepParts (stepCount s - i) (drop at s)
@@ -106,20 +112,36 @@ module _ (s : List ℕ) where
     left-is : drop i (partsOf s) ≡ partAt s at ∷ stepParts (stepCount s - (i + 1)) (drop (nextAt s at) s)
     left-is = stands .parts-left ∙ parts-next s at i (stepCount s) h
 
+    left-after : drop (i + 1) (partsOf s) ≡ stepParts (stepCount s - (i + 1)) (drop (nextAt s at) s)
+    left-after = sym (drop-drop 1 i (partsOf s)) ∙ ap (drop 1) left-is
+
     pub part-stands : getD (partsOf s) i [] ≡ partAt s at
     part-stands =
         ap (λ (n : ℕ). getD (partsOf s) n []) (sym (add-zero i))
         ∙ sym (getD-drop i (partsOf s) 0 [])
         ∙ ap (λ (l : List (List ℕ)). getD l 0 []) left-is
 
+    -- the next of the steps that are left to replay
+    pub steps-next : drop i (stepsOf s) ≡ stepMoves (partAt s at) ∷ drop (i + 1) (stepsOf s)
+    unfolding stepsOf
+    steps-next =
+        drop-map stepMoves i (partsOf s)
+        ∙ ap (map stepMoves) left-is
+        ∙ ap (λ (l : List (List ℕ)). stepMoves (partAt s at) ∷ map stepMoves l) (sym left-after)
+        ∙ ap (λ (l : List (List (ℕ × ℕ))). stepMoves (partAt s at) ∷ l) (sym (drop-map stepMoves (i + 1) (partsOf s)))
+
     pub stands-next : Stands s (i + 1) (nextAt s at)
     stands-next = record {
       begins-at =
           omega (arith, stands .begins-at, lengthOf-next i (partsOf s), ap length part-stands, length-partAt s at stands-room);
-      parts-left = sym (drop-drop 1 i (partsOf s)) ∙ ap (drop 1) left-is;
+      parts-left = left-after;
       fits = sym (wrong-next s at i (stepCount s) h stands-room) ∙ stands .fits;
       within = stands-room .ends;
     }
+
+  pub steps-none : (i : ℕ) → stepCount s ≤ i → drop i (stepsOf s) ≡ []
+  unfolding stepsOf partsOf
+  steps-none i h = drop-of-length-le (stepsOf s) {i = i} (omega (arith, length-map (partsOf s) stepMoves, length-parts (stepCount s) (drop 3 s)))
 
   module _ (e : wrongTimetableLength s ≡ false) where
     pub stands-at : (i : ℕ) → i ≤ stepCount s → Stands s i (3 + lengthOf i (partsOf s))

@@ -3,11 +3,13 @@
 --     partAt s at          the step that begins at byte `at`, count byte first and pad last
 --     nextAt s at          where the step after it begins
 --     parts-next           of the parts that are left, the first and those after it
+--     length-parts         k parts are k
 --     parts-none           no parts are left once all are passed
 --     Room s at            the step that begins at byte `at` does not run past the end
 --     wrong-past, .., wrong-left, right-end    40, step by step: from the facts
 --     room, all-taken      and the facts from 40
---     length-partAt, head-partAt, moves-partAt    a step's length, its count byte and its moves
+--     length-partAt, head-partAt    a step's length and its count byte
+--     moves-tail, moves-room        its moves, read from the part that begins at its second byte
 -- Assumes nothing.
 use Prim.Native.Nat.{ℕ, zero, suc, _+_, _-_, _*_, _/_, _≤_, _<_}
 use mathlib.Core.Path.{_≡_, refl, sym, ap, ap₂, _∙_}
@@ -20,8 +22,10 @@ use borrow.Author.Tests.{lt-ltb, le-ltb, eq-eqb, ne-eqb, ltb-false, eqb-true, no
 use lib.ListN.{length, getD, take, drop, length-drop, drop-of-length-le}
 use lib.Seq.{drop-drop, drop-cons, getD-drop, getD-take, length-take-le}
 use lib.Dec.{ltb, eqb}
+use Rattle.field.specs.Bits.{pairs}
+use Rattle.field.specs.RecordLaws.{rest-is, pairs-drop}
 use Rattle.field.specs.UnitLaws.{or-left, or-right}
-use Rattle.timetable.specs.Timetable.{stepLength, wrongSteps, stepParts}
+use Rattle.timetable.specs.Timetable.{stepLength, wrongSteps, stepParts, stepMoves}
 
 abbrev pub partAt : List ℕ → ℕ → List ℕ
 partAt s at = take (stepLength (getD s at 0)) (drop at s)
@@ -61,6 +65,11 @@ unfolding stepParts
 parts-none t i k h =
     let none : k - i ≡ 0 = omega arith in
     rw none refl
+
+pub length-parts : (k : ℕ) (t : List ℕ) → length (stepParts k t) ≡ k
+unfolding stepParts
+length-parts zero t = refl
+length-parts (suc k) t = ap suc (length-parts k (drop (stepLength (getD t 0 0)) t))
 
 -- the step that begins at byte `at` is there and does not run past the end
 pub record Room (s : List ℕ) (at : ℕ) : Type 0 where
@@ -128,3 +137,13 @@ module _ (s : List ℕ) (at : ℕ) (r : Room s at) where
 
 pub head-partAt : (s : List ℕ) (at : ℕ) → getD (partAt s at) 0 0 ≡ getD s at 0
 head-partAt s at = getD-take (stepLength (getD s at 0)) (drop at s) 0 0 (stepLength-some (getD s at 0)) ∙ first-byte s at
+
+-- the moves of a step, as a part `&step[1..]` has them
+module _ (p : List ℕ) where
+  pub moves-tail : stepMoves p ≡ pairs (take (length p - 1) (drop 1 p)) 0 (getD p 0 0)
+  unfolding stepMoves
+  moves-tail = rw (rest-is 1 p) (pairs-drop p 1 0 (getD p 0 0))
+
+  pub moves-room : length p ≡ stepLength (getD p 0 0) → 12 * getD p 0 0 ≤ 8 * length (take (length p - 1) (drop 1 p))
+  unfolding stepLength
+  moves-room e = rw (rest-is 1 p, length-drop 1 p) (omega arith)
