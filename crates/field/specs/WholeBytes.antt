@@ -5,18 +5,19 @@
 --     padded-whole, padded-append      whole bytes have no pad
 --     toBytes-append                   whole bytes and what follows them, as byte strings
 --     toBytes-whole, length-whole      the bits and the length of a byte string of whole bytes
---     below-getD, byte-field           a byte is a field of 8 bits
+--     below-getD, below-each, each-below    the numbers of a list one by one
+--     byte-field                       a byte is a field of 8 bits
 --     pairBits-are, length-pairBits    the bits of a run of pairs
 -- Assumes nothing.
-use Prim.Native.Nat.{ℕ, zero, suc, _+_, _-_, _*_, _/_, _%_, _^_, _≤_, _<_}
-use mathlib.Core.Path.{_≡_, refl, sym, ap, ap₂, _∙_, subst}
+use Prim.Native.Nat.{ℕ, zero, suc, _+_, _-_, _*_, _%_, _^_, _<_}
+use mathlib.Core.Path.{_≡_, refl, sym, ap, ap₂, _∙_}
 use mathlib.Core.List.{List, [], _∷_, _++_, append-assoc, append-nil}
 use native.Mathlib.Omega.{arith}
 use native.Mathlib.Nat.{zero-div, mod-eq-of-lt, div-one}
 use lib.ListN.{length, getD, replicate, length-append}
 use Rattle.field.specs.Bits.{bits, bitsOf, field, pairBits, pad, padded, toBytes}
 use Rattle.field.specs.BitLaws.{Below, none, more, Bits, Bytes, below-append, length-bits, bits-are, field-in-byte}
-use Rattle.field.specs.RecordLaws.{padded-are, bitsOf-toBytes, length-toBytes, toBytes-are, toBytes-from}
+use Rattle.field.specs.RecordLaws.{bitsOf-toBytes, length-toBytes, toBytes-are, toBytes-from}
 
 pub bits-zero : (w : ℕ) → bits w 0 ≡ replicate w 0
 unfolding bits
@@ -61,6 +62,16 @@ pub below-getD : {b : ℕ} {l : List ℕ} → Below b l → (i : ℕ) → i < le
 below-getD none i h = absurd (omega arith)
 below-getD (more x p) zero h = x
 below-getD (more x p) (suc i) h = below-getD p i (omega arith)
+
+-- the same for every index: past the end stands 0
+pub below-each : {b : ℕ} {l : List ℕ} → 0 < b → Below b l → (i : ℕ) → getD l i 0 < b
+below-each h none i = h
+below-each h (more x p) zero = x
+below-each h (more x p) (suc i) = below-each h p i
+
+pub each-below : {b : ℕ} (l : List ℕ) → ((i : ℕ) → getD l i 0 < b) → Below b l
+each-below [] h = none
+each-below (x ∷ l) h = more (h 0) (each-below l (λ i. h (suc i)))
 
 pub byte-field : {s : List ℕ} → Bytes s → (k : ℕ) → k < length s → field s (8 * k) 8 ≡ getD s k 0
 byte-field {s} b k h =

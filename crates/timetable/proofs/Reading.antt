@@ -2,20 +2,19 @@
 --
 --     pad-room, pad-read            the pad of a step, read from the part that begins at its second byte
 --     remembered, kept              whether a pad bit was set, after one more step
---     Left s k at moves padded i    the loop over the k steps of s, before step i + 1, which begins at byte `at`: what is left to judge decides
+--     Left s k at moves seen i    the loop over the k steps of s, before step i + 1, which begins at byte `at`: what is left to judge decides
 --     left-first, .., left-none     how the loop begins, goes on and ends
 --     short, .., sound              the reader's answers above the steps'
 -- Assumes nothing.
-use Prim.Native.Nat.{ℕ, zero, suc, _+_, _-_, _*_, _/_, _≤_, _<_}
-use mathlib.Core.Path.{_≡_, refl, sym, ap, ap₂, _∙_}
+use Prim.Native.Nat.{ℕ, _+_, _-_, _*_, _≤_, _<_}
+use mathlib.Core.Path.{_≡_, refl, sym, ap, _∙_}
 use mathlib.Core.Bool.{Bool, true, false, not, _||_, or-true, or-false, or-assoc}
 use mathlib.Core.List.{List, [], _∷_}
 use native.Mathlib.Omega.{arith}
-use native.Mathlib.Nat.{sub-zero, zero-add, add-zero, add-assoc, le-refl}
-use borrow.Author.Tests.{ne-eqb, eq-eqb, not-false, lt-ltb, le-ltb}
+use native.Mathlib.Nat.{sub-zero, zero-add, add-zero, add-assoc}
+use borrow.Author.Tests.{ne-eqb, eq-eqb, lt-ltb, le-ltb}
 use lib.ListN.{length, getD, take, drop, length-drop}
-use lib.Seq.{take-all}
-use lib.Dec.{ltb, eqb}
+use lib.Dec.{eqb}
 use Rattle.answers.specs.Answer.{Answer, accepted, refused, refuse, passUp}
 use Rattle.answers.specs.AnswerLaws.{passUp-refused, passUp-accepted}
 use Rattle.field.specs.Bits.{field, pad}
@@ -44,19 +43,19 @@ module _ (p : List ℕ) (e : length p ≡ stepLength (getD p 0 0)) where
     pad-clear z = simp (← pad-read, eq-eqb r 0 z)
 
 -- a set pad bit is remembered
-pub remembered : (set padded b : Bool) → set ≡ true → b ≡ true → set ≡ (padded || b)
-remembered set padded b p q = p ∙ sym (rw q (or-true padded))
+pub remembered : (set seen b : Bool) → set ≡ true → b ≡ true → set ≡ (seen || b)
+remembered set seen b p q = p ∙ sym (rw q (or-true seen))
 
-pub kept : (set padded b : Bool) → set ≡ padded → b ≡ false → set ≡ (padded || b)
-kept set padded b p q = p ∙ sym (rw q (or-false padded))
+pub kept : (set seen b : Bool) → set ≡ seen → b ≡ false → set ≡ (seen || b)
+kept set seen b p q = p ∙ sym (rw q (or-false seen))
 
-pub record Left (s : List ℕ) (k at moves : ℕ) (padded : Bool) (i : ℕ) : Type 0 where
+pub record Left (s : List ℕ) (k at moves : ℕ) (seen : Bool) (i : ℕ) : Type 0 where
   -- 40 depends on the steps that are left
   pub wrong-same : wrongSteps (k - i) (drop at s) ≡ wrongSteps k (drop 3 s)
   -- the moves of the steps passed, and those of the steps that are left
   pub moves-same : moves + total (stepParts (k - i) (drop at s)) ≡ total (stepParts k (drop 3 s))
   -- a pad bit was set, or one is set in what is left
-  pub pads-same : (padded || some stepPadSet (stepParts (k - i) (drop at s))) ≡ some stepPadSet (stepParts k (drop 3 s))
+  pub pads-same : (seen || some stepPadSet (stepParts (k - i) (drop at s))) ≡ some stepPadSet (stepParts k (drop 3 s))
 
 module _ (s : List ℕ) (k : ℕ) where
   pub left-first : Left s k 3 0 false 0
@@ -66,7 +65,7 @@ module _ (s : List ℕ) (k : ℕ) where
     pads-same = rw (sub-zero k) refl;
   }
 
-  module _ (at moves : ℕ) (padded : Bool) (i : ℕ) (left : Left s k at moves padded i) where
+  module _ (at moves : ℕ) (seen : Bool) (i : ℕ) (left : Left s k at moves seen i) where
     wrong-answer : wrongSteps (k - i) (drop at s) ≡ true → refused 40 0 ≡ stepsAnswer k (drop 3 s)
     unfolding stepsAnswer
     wrong-answer w = simp (sym (left .wrong-same) ∙ w)
@@ -101,14 +100,14 @@ module _ (s : List ℕ) (k : ℕ) where
           pub part-length : length (take (at + n - at) (drop at s)) ≡ stepLength (getD (take (at + n - at) (drop at s)) 0 0)
           part-length = rw part-is (length-partAt s at room-there ∙ ap stepLength (sym (head-partAt s at)))
 
-          pub left-next : (set : Bool) → set ≡ (padded || stepPadSet (take (at + n - at) (drop at s))) → Left s k (at + n) (moves + c) set (i + 1)
+          pub left-next : (set : Bool) → set ≡ (seen || stepPadSet (take (at + n - at) (drop at s))) → Left s k (at + n) (moves + c) set (i + 1)
           unfolding total some
           left-next set e = record {
             wrong-same = rw next-is (sym (wrong-next s at i k h room-there) ∙ left .wrong-same);
             moves-same =
                 rw (next-is, count-is) (add-assoc moves _ _ ∙ (rw (parts-next s at i k h) at (left .moves-same)));
             pads-same =
-                rw (e, part-is, next-is) (or-assoc padded _ _ ∙ (rw (parts-next s at i k h) at (left .pads-same)));
+                rw (e, part-is, next-is) (or-assoc seen _ _ ∙ (rw (parts-next s at i k h) at (left .pads-same)));
           }
 
     module _ (h : k ≤ i) where
@@ -119,19 +118,19 @@ module _ (s : List ℕ) (k : ℕ) where
         right : wrongSteps k (drop 3 s) ≡ false
         right = sym (left .wrong-same) ∙ right-end s at i k h b
 
-        pads-are : padded ≡ some stepPadSet (stepParts k (drop 3 s))
+        pads-are : seen ≡ some stepPadSet (stepParts k (drop 3 s))
         unfolding some
-        pads-are = sym (or-false padded) ∙ (rw (parts-none (drop at s) i k h) at (left .pads-same))
+        pads-are = sym (or-false seen) ∙ (rw (parts-none (drop at s) i k h) at (left .pads-same))
 
         moves-are : moves ≡ total (stepParts k (drop 3 s))
         unfolding total
         moves-are = sym (add-zero moves) ∙ (rw (parts-none (drop at s) i k h) at (left .moves-same))
 
-        pub pads-set : padded ≡ true → refused 41 0 ≡ stepsAnswer k (drop 3 s)
+        pub pads-set : seen ≡ true → refused 41 0 ≡ stepsAnswer k (drop 3 s)
         unfolding stepsAnswer
         pads-set p = simp (right, sym pads-are ∙ p)
 
-        pub left-none : padded ≡ false → accepted (k ∷ moves ∷ []) ≡ stepsAnswer k (drop 3 s)
+        pub left-none : seen ≡ false → accepted (k ∷ moves ∷ []) ≡ stepsAnswer k (drop 3 s)
         unfolding stepsAnswer
         left-none p = simp (right, sym pads-are ∙ p) (ap (λ (m : ℕ). accepted (k ∷ m ∷ [])) moves-are)
 

@@ -3,6 +3,8 @@
 --     timetable₁, steps₁             the timetable of the first case, 00 00 08 02 00 10 C2 02 04 30 80, and its steps
 --     parts₁, moves₁, record₁        its parts, its steps read and its steps written
 --     bytes₁, packable₁, packed₁     it is a byte string, its steps can be packed, and neither 40 nor 41 applies
+--     string₁                        each of its bytes is below 256, as a lent slice has it
+--     second-stands, second-part     after one step what is left begins at byte 7, with a part that is a step
 --     reading₁                       the reading's counts
 --     step-zero, .., step-three      the step reader's answers for 0, 1, 2 and 3; step 2 is 02 04 30 80 at offset 7
 --     second-given, none-given       the part of step 2, and the empty part of step 3
@@ -10,15 +12,15 @@
 --     answer₁                        the first case: accepted, 2 steps and 4 moves
 --     ring-turned, swapped           the third case: a full ring turned, and two neighbours exchanged, are 42, step 1
 -- Assumes nothing.
-use Prim.Native.Nat.{ℕ, _+_, _<_, _^_}
+use Prim.Native.Nat.{ℕ}
 use mathlib.Core.Path.{_≡_, refl}
-use mathlib.Core.Bool.{false}
 use mathlib.Core.List.{List, [], _∷_}
 use lib.Dec.{lit<, lit≤}
 use Rattle.answers.specs.Answer.{accepted, refused}
 use Rattle.field.specs.Bits.{bits, number, bitsOf, field, positions, pairs, pairBits, pad, padded, bytes, toBytes}
 use Rattle.field.specs.BitLaws.{Bytes, none, more}
-use Rattle.field.specs.RecordLaws.{BelowPairs, none₂, more₂}
+use Rattle.field.specs.RecordLaws.{none₂, more₂}
+use Rattle.field.specs.WholeBytes.{below-each}
 use Rattle.field.specs.Units.{unitsLength, misfits, unclean}
 use Rattle.order.specs.Floor.{isPair, among, joined}
 use Rattle.order.specs.Order.{positionCount, edgeCount, rackCount, unitCount, floorOf, startsOf, goalsOf, orderOf, wrongLength, wrongPositions, paddingSet, some, badEdge, precedes, ascending, wrongEdges, repeats, wrongPlaces, wrongRacks, counts, orderAnswer}
@@ -29,7 +31,10 @@ use Rattle.motion.specs.Replay.{replayFrom, replaySteps}
 use Rattle.motion.specs.Judgement.{misplaced, judged}
 use Rattle.timetable.specs.Timetable.{stepBits, allStepBits, timetableBits, timetableRecord, stepLength, stepCount, wrongSteps, stepParts, partsOf, wrongTimetableLength, stepPadSet, timetablePaddingSet, stepMoves, stepsOf, total, timetableAnswer, lengthOf, offset, stepPart, stepAnswer}
 use Rattle.timetable.specs.Reading.{readingAnswer, WellPacked, partGiven}
-use Rattle.timetable.specs.TimetableRecord.{Steps, no-steps, one-step, Packable}
+use Rattle.timetable.specs.ReadingLaws.{Stands, stands-at}
+use Rattle.timetable.specs.SizeLaws.{ByteString}
+use Rattle.timetable.specs.StepRecord.{Part}
+use Rattle.timetable.specs.TimetableRecord.{no-steps, one-step, Packable}
 
 abbrev pub timetable₁ : List ℕ
 timetable₁ = 0x00 ∷ 0x00 ∷ 0x08 ∷ 0x02 ∷ 0x00 ∷ 0x10 ∷ 0xC2 ∷ 0x02 ∷ 0x04 ∷ 0x30 ∷ 0x80 ∷ []
@@ -65,6 +70,17 @@ packable₁ = record {
 pub packed₁ : WellPacked timetable₁
 unfolding wrongTimetableLength timetablePaddingSet wrongSteps some stepPadSet pad partsOf stepParts stepLength stepCount field number bitsOf bits
 packed₁ = record { length-right = refl; padding-clear = refl }
+
+pub string₁ : ByteString timetable₁
+string₁ = below-each (lit< tt) bytes₁
+
+pub second-stands : Stands timetable₁ 1 7
+unfolding lengthOf partsOf stepParts stepLength stepCount field number bitsOf bits
+second-stands = stands-at timetable₁ (packed₁ .length-right) 1 (lit≤ tt)
+
+pub second-part : Part (0x02 ∷ 0x04 ∷ 0x30 ∷ 0x80 ∷ [])
+unfolding stepLength stepPadSet pad field number bitsOf bits
+second-part = record { bytes-are = more (lit< tt) (more (lit< tt) (more (lit< tt) (more (lit< tt) none))); length-is = refl; pad-clear = refl }
 
 pub reading₁ : readingAnswer timetable₁ ≡ accepted (2 ∷ 4 ∷ [])
 unfolding readingAnswer total wrongTimetableLength timetablePaddingSet wrongSteps some stepPadSet pad partsOf stepParts stepLength stepCount field number bitsOf bits

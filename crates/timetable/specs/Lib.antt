@@ -6,3 +6,4 @@ pub mod StepRecord
 pub mod TimetableRecord
 pub mod Inhabited
 pub mod SizeLaws
+pub mod HandedOut

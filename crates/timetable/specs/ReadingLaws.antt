@@ -12,23 +12,23 @@
 --     offset-first, offset-next, offset-last    the parts follow one another from byte 3 to the end
 -- Assumes nothing.
 use Prim.Native.Nat.{ℕ, zero, suc, _+_, _-_, _≤_, _<_}
-use mathlib.Core.Path.{_≡_, refl, sym, ap, ap₂, _∙_, subst}
+use mathlib.Core.Path.{_≡_, refl, sym, ap, _∙_, subst}
 use mathlib.Core.Bool.{Bool, true, false, _||_}
 use mathlib.Core.List.{List, [], _∷_, map}
 use native.Mathlib.Omega.{arith}
 use native.Mathlib.Nat.{add-zero, add-assoc, sub-zero, le-refl}
 use native.Mathlib.Numerals.{add-one}
 use borrow.Author.Tests.{ltb-false}
-use lib.ListN.{length, getD, take, drop, length-map, drop-of-length-le}
+use lib.ListN.{length, getD, drop, length-map, drop-of-length-le}
 use lib.Seq.{drop-drop, getD-drop}
 use lib.Dec.{ltb, eqb}
-use Rattle.answers.specs.Answer.{Answer, accepted, refused, refuse, passUp}
+use Rattle.answers.specs.Answer.{Answer, accepted, refuse, passUp}
 use Rattle.answers.specs.AnswerLaws.{refuse-not, refuse-else}
 use Rattle.field.specs.UnitLaws.{or-left, or-right}
 use Rattle.order.specs.Order.{orderAnswer, floorOf, startsOf, goalsOf}
 use Rattle.motion.specs.Replay.{replaySteps}
 use Rattle.motion.specs.Judgement.{judged}
-use Rattle.timetable.specs.Timetable.{stepLength, wrongSteps, stepParts, partsOf, stepMoves, stepsOf, stepCount, total, wrongTimetableLength, timetablePaddingSet, timetableAnswer, lengthOf, offset, stepPart, stepAnswer}
+use Rattle.timetable.specs.Timetable.{wrongSteps, stepParts, partsOf, stepMoves, stepsOf, stepCount, total, wrongTimetableLength, timetablePaddingSet, timetableAnswer, lengthOf, offset, stepPart, stepAnswer}
 use Rattle.timetable.specs.Reading.{readingAnswer, WellPacked, numberAnswer}
 use Rattle.timetable.specs.StepLaws.{partAt, nextAt, parts-next, length-parts, Room, room, wrong-next, all-taken, length-partAt}
 

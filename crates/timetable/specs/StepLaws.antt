@@ -11,20 +11,20 @@
 --     length-partAt, head-partAt    a step's length and its count byte
 --     moves-tail, moves-room        its moves, read from the part that begins at its second byte
 -- Assumes nothing.
-use Prim.Native.Nat.{ℕ, zero, suc, _+_, _-_, _*_, _/_, _≤_, _<_}
-use mathlib.Core.Path.{_≡_, refl, sym, ap, ap₂, _∙_}
-use mathlib.Core.Bool.{Bool, true, false, not, _||_, or-true}
+use Prim.Native.Nat.{ℕ, zero, suc, _+_, _-_, _*_, _≤_, _<_}
+use mathlib.Core.Path.{_≡_, refl, sym, ap, _∙_}
+use mathlib.Core.Bool.{true, false, _||_}
 use mathlib.Core.List.{List, [], _∷_}
 use native.Mathlib.Omega.{arith}
 use native.Mathlib.Nat.{add-zero, lt-of-not-le}
 use native.Mathlib.Decide.{decLe}
-use borrow.Author.Tests.{lt-ltb, le-ltb, eq-eqb, ne-eqb, ltb-false, eqb-true, not-false}
+use borrow.Author.Tests.{lt-ltb, le-ltb, eq-eqb, ne-eqb, ltb-false}
 use lib.ListN.{length, getD, take, drop, length-drop, drop-of-length-le}
 use lib.Seq.{drop-drop, drop-cons, getD-drop, getD-take, length-take-le}
-use lib.Dec.{ltb, eqb}
+use lib.Dec.{ltb}
 use Rattle.field.specs.Bits.{pairs}
 use Rattle.field.specs.RecordLaws.{rest-is, pairs-drop}
-use Rattle.field.specs.UnitLaws.{or-left, or-right}
+use Rattle.field.specs.UnitLaws.{or-left}
 use Rattle.timetable.specs.Timetable.{stepLength, wrongSteps, stepParts, stepMoves}
 
 abbrev pub partAt : List ℕ → ℕ → List ℕ

@@ -7,17 +7,16 @@
 --     part-of-record             the record of a step is such a part
 --     record-of-part             such a part is the record of its moves
 -- Assumes nothing.
-use Prim.Native.Nat.{ℕ, zero, suc, _+_, _-_, _*_, _/_, _%_, _^_, _≤_, _<_}
-use mathlib.Core.Path.{_≡_, refl, sym, ap, ap₂, _∙_, subst}
-use mathlib.Core.Bool.{Bool, true, false, not}
+use Prim.Native.Nat.{ℕ, _+_, _*_, _≤_, _<_}
+use mathlib.Core.Path.{_≡_, refl, sym, ap, ap₂, _∙_}
+use mathlib.Core.Bool.{false, not}
 use mathlib.Core.List.{List, [], _∷_, _++_, append-assoc, append-nil}
 use native.Mathlib.Omega.{arith}
 use lib.Pow.{pow-pos}
 use borrow.Author.Tests.{eq-eqb, eqb-true, not-false}
-use lib.ListN.{length, getD, take, drop, replicate, length-append, take-append-drop}
+use lib.ListN.{length, getD, take, drop, replicate, length-append}
 use lib.Seq.{take-all, take-add, drop-drop}
-use lib.Dec.{eqb}
-use Rattle.field.specs.Bits.{bits, bitsOf, field, pairs, pairBits, pad, padded, toBytes}
+use Rattle.field.specs.Bits.{bits, bitsOf, field, pairBits, pad, padded, toBytes}
 use Rattle.field.specs.BitLaws.{Bits, Bytes, below-append, length-bits, bits-are, length-bitsOf, bits-field, field-at}
 use Rattle.field.specs.RecordLaws.{BelowPairs, padded-are, length-padded, toBytes-are, toBytes-from, length-pairs, pairs-at, bits-pairs, up-to-byte}
 use Rattle.field.specs.WholeBytes.{bits-zero, pad-after-whole, padded-whole, toBytes-whole, length-whole, byte-field, below-getD, pairBits-are, length-pairBits}

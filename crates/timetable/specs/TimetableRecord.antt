@@ -9,22 +9,22 @@
 --     packable-stepsOf          and its steps can be packed
 --     record-only               so the record of a list of steps is the only one
 -- Assumes nothing.
-use Prim.Native.Nat.{ℕ, zero, suc, _+_, _-_, _*_, _/_, _%_, _^_, _≤_, _<_}
+use Prim.Native.Nat.{ℕ, zero, suc, _+_, _*_, _^_, _≤_, _<_}
 use mathlib.Core.Path.{_≡_, refl, sym, ap, ap₂, _∙_, subst}
-use mathlib.Core.Bool.{Bool, true, false, not, _||_}
-use mathlib.Core.List.{List, [], _∷_, _++_, map, append-assoc, append-nil}
+use mathlib.Core.Bool.{false, not}
+use mathlib.Core.List.{List, [], _∷_, _++_, map, append-assoc}
 use native.Mathlib.Omega.{arith}
-use borrow.Author.Tests.{eq-eqb, eqb-true, not-false, le-ltb, ltb-false}
-use lib.ListN.{length, getD, take, drop, length-append, length-take, length-drop, length-map, take-append-drop, List·getD-append}
+use borrow.Author.Tests.{eqb-true, not-false, le-ltb, ltb-false}
+use lib.ListN.{length, getD, take, drop, length-append, length-map, take-append-drop, List·getD-append}
 use lib.Seq.{take-add, take-at, drop-at, length-take-le, getD-take}
 use lib.Dec.{ltb, eqb, lit<}
-use Rattle.field.specs.Bits.{bits, bitsOf, field, pairBits, bytes, toBytes}
-use Rattle.field.specs.BitLaws.{Bits, Bytes, none, more, below-append, below-take, below-drop, length-bits, bits-are, length-bitsOf, field-lt, bits-field, field-at}
-use Rattle.field.specs.RecordLaws.{BelowPairs, toBytes-are, toBytes-from, pairs-lt, bitsOf-toBytes}
+use Rattle.field.specs.Bits.{bits, bitsOf, field, bytes, toBytes}
+use Rattle.field.specs.BitLaws.{Bits, Bytes, none, below-append, below-take, below-drop, length-bits, bits-are, length-bitsOf, field-lt, bits-field, field-at}
+use Rattle.field.specs.RecordLaws.{BelowPairs, toBytes-from, pairs-lt}
 use Rattle.field.specs.UnitLaws.{or-left, or-right}
 use Rattle.order.specs.Order.{some}
 use Rattle.field.specs.WholeBytes.{bitsOf-append, padded-whole, toBytes-whole, length-whole, toBytes-append}
-use Rattle.timetable.specs.Timetable.{stepBits, allStepBits, timetableBits, timetableRecord, stepLength, stepCount, wrongSteps, stepParts, partsOf, wrongTimetableLength, stepPadSet, timetablePaddingSet, stepMoves, stepsOf}
+use Rattle.timetable.specs.Timetable.{allStepBits, timetableBits, timetableRecord, stepLength, stepCount, wrongSteps, stepParts, partsOf, wrongTimetableLength, stepPadSet, timetablePaddingSet, stepMoves, stepsOf}
 use Rattle.timetable.specs.Reading.{WellPacked}
 use Rattle.timetable.specs.StepLaws.{stepLength-some, length-parts}
 use Rattle.timetable.specs.StepRecord.{stepRecord, joined, Part, stepBits-are, length-stepBits, part-of-record, moves-of, record-of-part, length-moves, count-below}

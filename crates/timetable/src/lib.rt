@@ -46,7 +46,7 @@ fn read_steps(timetable: &[u8], count: usize) -> TimetableReading
 {
     let mut at = 3;
     let mut moves = 0;
-    let mut padded = false;
+    let mut pad_seen = false;
     let mut i = 0;
     while i < count {
         if timetable.len() <= at {
@@ -59,7 +59,7 @@ fn read_steps(timetable: &[u8], count: usize) -> TimetableReading
         }
         let next = at + size;
         if pad_set(&timetable[at..next]) {
-            padded = true;
+            pad_seen = true;
         }
         moves += field::wide(c);
         at = next;
@@ -68,7 +68,7 @@ fn read_steps(timetable: &[u8], count: usize) -> TimetableReading
     if at < timetable.len() {
         return TimetableReading::Refused(Fault::TimetableLength, 0);
     }
-    if padded {
+    if pad_seen {
         return TimetableReading::Refused(Fault::TimetablePadding, 0);
     }
     TimetableReading::Accepted {

@@ -1,7 +1,8 @@
 -- `timetable::find_step` meets its contract: `StepReader` has the answers above that of 45. Assumes nothing.
 use mathlib.Core.Path.{ap, sym, _∙_}
 use Rattle.timetable.specs.Reading.{answerOfReading}
-use Rattle.timetable.proofs.StepReader.{number-gave, not-found, found}
+use Rattle.timetable.proofs.StepReader.{not-found, found}
+use Rattle.timetable.specs.HandedOut.{number-gave}
 use borrow.Author.Needs.{needs}
 use Rattle.timetable.proofs.find_step.Statement.{statement}
 use Rattle.timetable.proofs.find_step.Tie as tie

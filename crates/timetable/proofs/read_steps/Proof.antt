@@ -14,17 +14,17 @@ use Rattle.timetable.proofs.read_steps.Statement.{statement}
 use Rattle.timetable.proofs.read_steps.Tie as tie
 
 abbrev Inv-loop : tie.InvT-loop
-Inv-loop timetable count at₀ moves₀ padded₀ i₀ at moves padded i = (i ≤ count) × (moves ≤ at) × (at ≤ length timetable) × Left timetable count at moves padded i
+Inv-loop timetable count at₀ moves₀ seen₀ i₀ at moves seen i = (i ≤ count) × (moves ≤ at) × (at ≤ length timetable) × Left timetable count at moves seen i
 
 abbrev μ-loop : tie.MeasureT-loop
-μ-loop timetable count at₀ moves₀ padded₀ i₀ at moves padded i = count - i
+μ-loop timetable count at₀ moves₀ seen₀ i₀ at moves seen i = count - i
 
 loop-holds : tie.Need-loop-holds Inv-loop μ-loop
 loop-holds c = (omega arith, omega arith, omega arith, left-first _ _)
 
 returns : tie.Need-returns Inv-loop μ-loop
 returns c =
-    past (c .before .before .before .before .args .timetable .now) (c .before .before .before .before .args .count) (c .before .before .loop .at) (c .before .before .loop .moves) (c .before .before .loop .padded) (c .before .before .loop .i) (c .before .before .loop .inv .3) (omega arith) (omega arith)
+    past (c .before .before .before .before .args .timetable .now) (c .before .before .before .before .args .count) (c .before .before .loop .at) (c .before .before .loop .moves) (c .before .before .loop .pad-seen) (c .before .before .loop .i) (c .before .before .loop .inv .3) (omega arith) (omega arith)
 
 shared-slice-read-c : tie.Need-shared-slice-read-c Inv-loop μ-loop
 shared-slice-read-c c = omega arith
@@ -37,7 +37,7 @@ sub-if2 c = omega arith
 
 returns-2 : tie.Need-returns-2 Inv-loop μ-loop
 returns-2 c =
-    runs-past (c .before .before .before .before .before .before .before .args .timetable .now) (c .before .before .before .before .before .before .before .args .count) (c .before .before .before .before .before .loop .at) (c .before .before .before .before .before .loop .moves) (c .before .before .before .before .before .loop .padded) (c .before .before .before .before .before .loop .i) (c .before .before .before .before .before .loop .inv .3) (omega arith) (getD (c .before .before .before .before .before .before .before .args .timetable .now) (c .before .before .before .before .before .loop .at) 0) (c .before .step-length .result) refl (c .before .step-length .ensures .size-is) (omega arith) (omega arith)
+    runs-past (c .before .before .before .before .before .before .before .args .timetable .now) (c .before .before .before .before .before .before .before .args .count) (c .before .before .before .before .before .loop .at) (c .before .before .before .before .before .loop .moves) (c .before .before .before .before .before .loop .pad-seen) (c .before .before .before .before .before .loop .i) (c .before .before .before .before .before .loop .inv .3) (omega arith) (getD (c .before .before .before .before .before .before .before .args .timetable .now) (c .before .before .before .before .before .loop .at) 0) (c .before .step-length .result) refl (c .before .step-length .ensures .size-is) (omega arith) (omega arith)
 
 add-next : tie.Need-add-next Inv-loop μ-loop
 add-next c = omega arith
@@ -53,7 +53,7 @@ part-pad-set-end c = omega arith
 
 pad-set-requires : tie.Need-pad-set-requires Inv-loop μ-loop
 pad-set-requires c κs =
-    part-length (c .before .before .before .before .before .before .before .before .args .timetable .now) (c .before .before .before .before .before .before .before .before .args .count) (c .before .before .before .before .before .before .loop .at) (c .before .before .before .before .before .before .loop .moves) (c .before .before .before .before .before .before .loop .padded) (c .before .before .before .before .before .before .loop .i) (c .before .before .before .before .before .before .loop .inv .3) (omega arith) (getD (c .before .before .before .before .before .before .before .before .args .timetable .now) (c .before .before .before .before .before .before .loop .at) 0) (c .before .before .step-length .result) refl (c .before .before .step-length .ensures .size-is) (omega arith) (omega arith)
+    part-length (c .before .before .before .before .before .before .before .before .args .timetable .now) (c .before .before .before .before .before .before .before .before .args .count) (c .before .before .before .before .before .before .loop .at) (c .before .before .before .before .before .before .loop .moves) (c .before .before .before .before .before .before .loop .pad-seen) (c .before .before .before .before .before .before .loop .i) (c .before .before .before .before .before .before .loop .inv .3) (omega arith) (getD (c .before .before .before .before .before .before .before .before .args .timetable .now) (c .before .before .before .before .before .before .loop .at) 0) (c .before .before .step-length .result) refl (c .before .before .step-length .ensures .size-is) (omega arith) (omega arith)
 
 wide-requires : tie.Need-wide-requires Inv-loop μ-loop
 wide-requires c κs = search needs
@@ -72,25 +72,25 @@ loop-again c = (
   omega arith,
   omega arith,
   omega arith,
-  left-next (c .before .before .before .before .before .before .before .before .before .before .before .args .timetable .now) (c .before .before .before .before .before .before .before .before .before .before .before .args .count) (c .before .before .before .before .before .before .before .before .before .loop .at) (c .before .before .before .before .before .before .before .before .before .loop .moves) (c .before .before .before .before .before .before .before .before .before .loop .padded) (c .before .before .before .before .before .before .before .before .before .loop .i) (c .before .before .before .before .before .before .before .before .before .loop .inv .3) (omega arith) (c .wide .result) (c .before .before .before .before .before .step-length .result) (c .wide .ensures .0) (c .before .before .before .before .before .step-length .ensures .size-is ∙ ap stepLength (sym (c .wide .ensures .0))) (omega arith) (omega arith) (c .before .if3 .padded)
+  left-next (c .before .before .before .before .before .before .before .before .before .before .before .args .timetable .now) (c .before .before .before .before .before .before .before .before .before .before .before .args .count) (c .before .before .before .before .before .before .before .before .before .loop .at) (c .before .before .before .before .before .before .before .before .before .loop .moves) (c .before .before .before .before .before .before .before .before .before .loop .pad-seen) (c .before .before .before .before .before .before .before .before .before .loop .i) (c .before .before .before .before .before .before .before .before .before .loop .inv .3) (omega arith) (c .wide .result) (c .before .before .before .before .before .step-length .result) (c .wide .ensures .0) (c .before .before .before .before .before .step-length .ensures .size-is ∙ ap stepLength (sym (c .wide .ensures .0))) (omega arith) (omega arith) (c .before .if3 .pad-seen)
       (⊎-elim
-      (λ w. remembered _ (c .before .before .before .before .before .before .before .before .before .loop .padded) (c .before .before .pad-set .result) (w .1) (w .0 .taken))
-      (λ w. kept _ (c .before .before .before .before .before .before .before .before .before .loop .padded) (c .before .before .pad-set .result) (w .1) (w .0 .left))
+      (λ w. remembered _ (c .before .before .before .before .before .before .before .before .before .loop .pad-seen) (c .before .before .pad-set .result) (w .1) (w .0 .taken))
+      (λ w. kept _ (c .before .before .before .before .before .before .before .before .before .loop .pad-seen) (c .before .before .pad-set .result) (w .1) (w .0 .left))
       (c .before .if3 .came)
-      ∙ ap (λ (b : Bool). c .before .before .before .before .before .before .before .before .before .loop .padded || b) (c .before .before .pad-set .ensures)),
+      ∙ ap (λ (b : Bool). c .before .before .before .before .before .before .before .before .before .loop .pad-seen || b) (c .before .before .pad-set .ensures)),
 )
 
 returns-3 : tie.Need-returns-3 Inv-loop μ-loop
 returns-3 c =
-    left-over (c .before .before .before .before .args .timetable .now) (c .before .before .before .before .args .count) (c .before .before .loop .at) (c .before .before .loop .moves) (c .before .before .loop .padded) (c .before .before .loop .i) (c .before .before .loop .inv .3) (omega arith) (omega arith)
+    left-over (c .before .before .before .before .args .timetable .now) (c .before .before .before .before .args .count) (c .before .before .loop .at) (c .before .before .loop .moves) (c .before .before .loop .pad-seen) (c .before .before .loop .i) (c .before .before .loop .inv .3) (omega arith) (omega arith)
 
 returns-4 : tie.Need-returns-4 Inv-loop μ-loop
 returns-4 c =
-    pads-set (c .before .before .before .before .before .args .timetable .now) (c .before .before .before .before .before .args .count) (c .before .before .before .loop .at) (c .before .before .before .loop .moves) (c .before .before .before .loop .padded) (c .before .before .before .loop .i) (c .before .before .before .loop .inv .3) (omega arith) (omega arith) (c .if5 .taken)
+    pads-set (c .before .before .before .before .before .args .timetable .now) (c .before .before .before .before .before .args .count) (c .before .before .before .loop .at) (c .before .before .before .loop .moves) (c .before .before .before .loop .pad-seen) (c .before .before .before .loop .i) (c .before .before .before .loop .inv .3) (omega arith) (omega arith) (c .if5 .taken)
 
 returns-5 : tie.Need-returns-5 Inv-loop μ-loop
 returns-5 c =
-    left-none (c .before .before .before .before .before .args .timetable .now) (c .before .before .before .before .before .args .count) (c .before .before .before .loop .at) (c .before .before .before .loop .moves) (c .before .before .before .loop .padded) (c .before .before .before .loop .i) (c .before .before .before .loop .inv .3) (omega arith) (omega arith) (c .if5 .left)
+    left-none (c .before .before .before .before .before .args .timetable .now) (c .before .before .before .before .before .args .count) (c .before .before .before .loop .at) (c .before .before .before .loop .moves) (c .before .before .before .loop .pad-seen) (c .before .before .before .loop .i) (c .before .before .before .loop .inv .3) (omega arith) (omega arith) (c .if5 .left)
 
 pub read-steps-spec : {M : Type 1} → statement M
 read-steps-spec =
