@@ -5,15 +5,17 @@
 --     stepsAnswer k t        40 and 41 of the k steps of t alone
 --     readingAnswer s        40 and 41 of the timetable s; accepted, the counts are s and the sum of the bytes c
 --     WellPacked s           neither 40 nor 41 applies to s
+--     moveCount l            the moves of the steps l, in all
 --     numberAnswer s i       what the reading refused, else 45
 --     partGiven s i          the part that the step reader gives back: the step, or the empty part where the step is refused
 --     answerOfReading r      the verdict r on a timetable's structure as an answer
 --     answerOfStep r         the step reader's verdict r as an answer
 -- Assumes nothing.
-use Prim.Native.Nat.{ℕ, _≤_}
+use Prim.Native.Nat.{ℕ, _+_, _≤_}
 use mathlib.Core.Path.{_≡_}
 use mathlib.Core.Bool.{false, _||_}
 use mathlib.Core.List.{List, [], _∷_}
+use lib.ListN.{length}
 use lib.Dec.{ltb, eqb}
 use Rattle.answers.specs.Answer.{Answer, accepted, refused, refuse, refusedBy, passUp}
 use Rattle.order.specs.Order.{some}
@@ -40,6 +42,10 @@ readingAnswer s =
 pub record WellPacked (s : List ℕ) : Type 0 where
   pub length-right : wrongTimetableLength s ≡ false
   pub padding-clear : timetablePaddingSet s ≡ false
+
+unfoldable pub moveCount : List (List (ℕ × ℕ)) → ℕ
+moveCount [] = 0
+moveCount (ms ∷ l) = length ms + moveCount l
 
 unfoldable pub numberAnswer : List ℕ → ℕ → Answer
 numberAnswer s i = passUp (readingAnswer s) (refuse (eqb i 0 || ltb (stepCount s) i) 45 0 (readingAnswer s))

@@ -2,6 +2,7 @@
 --
 --     well-packed, reading-gave     what an accepted reading tells
 --     reading-accepted              a timetable to which neither 40 nor 41 applies is accepted, with its counts
+--     count-steps, total-moves      the counts are those of the steps: how many steps, and how many moves in all
 --     timetableAnswer-is            the timetable checker's answer, above the order's and the reading's
 --     stepAnswer-is                 the step reader's answer, above that of 45
 --     Stands s i at                 i steps are passed, and what is left begins at byte `at`
@@ -12,7 +13,7 @@
 --     offset-first, offset-next, offset-last    the parts follow one another from byte 3 to the end
 -- Assumes nothing.
 use Prim.Native.Nat.{ℕ, zero, suc, _+_, _-_, _≤_, _<_}
-use mathlib.Core.Path.{_≡_, refl, sym, ap, _∙_, subst}
+use mathlib.Core.Path.{_≡_, refl, sym, ap, ap₂, _∙_, subst}
 use mathlib.Core.Bool.{Bool, true, false, _||_}
 use mathlib.Core.List.{List, [], _∷_, map}
 use native.Mathlib.Omega.{arith}
@@ -29,8 +30,8 @@ use Rattle.order.specs.Order.{orderAnswer, floorOf, startsOf, goalsOf}
 use Rattle.motion.specs.Replay.{replaySteps}
 use Rattle.motion.specs.Judgement.{judged}
 use Rattle.timetable.specs.Timetable.{wrongSteps, stepParts, partsOf, stepMoves, stepsOf, stepCount, total, wrongTimetableLength, timetablePaddingSet, timetableAnswer, lengthOf, offset, stepPart, stepAnswer}
-use Rattle.timetable.specs.Reading.{readingAnswer, WellPacked, numberAnswer}
-use Rattle.timetable.specs.StepLaws.{partAt, nextAt, parts-next, length-parts, Room, room, wrong-next, all-taken, length-partAt}
+use Rattle.timetable.specs.Reading.{readingAnswer, WellPacked, moveCount, numberAnswer}
+use Rattle.timetable.specs.StepLaws.{partAt, nextAt, parts-next, length-parts, Room, room, wrong-next, all-taken, length-partAt, length-moves}
 
 pub reading-accepted : (s : List ℕ) → WellPacked s → readingAnswer s ≡ accepted (stepCount s ∷ total (partsOf s) ∷ [])
 unfolding readingAnswer
@@ -48,6 +49,19 @@ module _ (s : List ℕ) (v : List ℕ) (e : readingAnswer s ≡ accepted v) wher
 
   pub reading-gave : accepted (stepCount s ∷ total (partsOf s) ∷ []) ≡ accepted v
   reading-gave = sym (reading-accepted s well-packed) ∙ e
+
+pub count-steps : (s : List ℕ) → length (stepsOf s) ≡ stepCount s
+unfolding stepsOf partsOf
+count-steps s = length-map (partsOf s) stepMoves ∙ length-parts (stepCount s) (drop 3 s)
+
+moves-of-parts : (l : List (List ℕ)) → moveCount (map stepMoves l) ≡ total l
+unfolding moveCount total
+moves-of-parts [] = refl
+moves-of-parts (p ∷ l) = ap₂ _+_ (length-moves p) (moves-of-parts l)
+
+pub total-moves : (s : List ℕ) → moveCount (stepsOf s) ≡ total (partsOf s)
+unfolding stepsOf
+total-moves s = moves-of-parts (partsOf s)
 
 pub timetableAnswer-is : (o s : List ℕ)
     → timetableAnswer o s
@@ -140,8 +154,7 @@ module _ (s : List ℕ) where
     }
 
   pub steps-none : (i : ℕ) → stepCount s ≤ i → drop i (stepsOf s) ≡ []
-  unfolding stepsOf partsOf
-  steps-none i h = drop-of-length-le (stepsOf s) {i = i} (omega (arith, length-map (partsOf s) stepMoves, length-parts (stepCount s) (drop 3 s)))
+  steps-none i h = drop-of-length-le (stepsOf s) {i = i} (omega (arith, count-steps s))
 
   module _ (e : wrongTimetableLength s ≡ false) where
     pub stands-at : (i : ℕ) → i ≤ stepCount s → Stands s i (3 + lengthOf i (partsOf s))

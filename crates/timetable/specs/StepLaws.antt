@@ -9,6 +9,7 @@
 --     wrong-past, .., wrong-left, right-end    40, step by step: from the facts
 --     room, all-taken      and the facts from 40
 --     length-partAt, head-partAt    a step's length and its count byte
+--     length-moves                  it has as many moves as its count byte says
 --     moves-tail, moves-room        its moves, read from the part that begins at its second byte
 -- Assumes nothing.
 use Prim.Native.Nat.{ℕ, zero, suc, _+_, _-_, _*_, _≤_, _<_}
@@ -23,7 +24,7 @@ use lib.ListN.{length, getD, take, drop, length-drop, drop-of-length-le}
 use lib.Seq.{drop-drop, drop-cons, getD-drop, getD-take, length-take-le}
 use lib.Dec.{ltb}
 use Rattle.field.specs.Bits.{pairs}
-use Rattle.field.specs.RecordLaws.{rest-is, pairs-drop}
+use Rattle.field.specs.RecordLaws.{rest-is, length-pairs, pairs-drop}
 use Rattle.field.specs.UnitLaws.{or-left}
 use Rattle.timetable.specs.Timetable.{stepLength, wrongSteps, stepParts, stepMoves}
 
@@ -138,8 +139,12 @@ module _ (s : List ℕ) (at : ℕ) (r : Room s at) where
 pub head-partAt : (s : List ℕ) (at : ℕ) → getD (partAt s at) 0 0 ≡ getD s at 0
 head-partAt s at = getD-take (stepLength (getD s at 0)) (drop at s) 0 0 (stepLength-some (getD s at 0)) ∙ first-byte s at
 
--- the moves of a step, as a part `&step[1..]` has them
 module _ (p : List ℕ) where
+  pub length-moves : length (stepMoves p) ≡ getD p 0 0
+  unfolding stepMoves
+  length-moves = length-pairs p 8 (getD p 0 0)
+
+  -- the moves of a step, as a part `&step[1..]` has them
   pub moves-tail : stepMoves p ≡ pairs (take (length p - 1) (drop 1 p)) 0 (getD p 0 0)
   unfolding stepMoves
   moves-tail = rw (rest-is 1 p) (pairs-drop p 1 0 (getD p 0 0))

@@ -18,10 +18,10 @@ use lib.ListN.{length, getD, take, drop, replicate, length-append}
 use lib.Seq.{take-all, take-add, drop-drop}
 use Rattle.field.specs.Bits.{bits, bitsOf, field, pairBits, pad, padded, toBytes}
 use Rattle.field.specs.BitLaws.{Bits, Bytes, below-append, length-bits, bits-are, length-bitsOf, bits-field, field-at}
-use Rattle.field.specs.RecordLaws.{BelowPairs, padded-are, length-padded, toBytes-are, toBytes-from, length-pairs, pairs-at, bits-pairs, up-to-byte}
+use Rattle.field.specs.RecordLaws.{BelowPairs, padded-are, length-padded, toBytes-are, toBytes-from, pairs-at, bits-pairs, up-to-byte}
 use Rattle.field.specs.WholeBytes.{bits-zero, pad-after-whole, padded-whole, toBytes-whole, length-whole, byte-field, below-getD, pairBits-are, length-pairBits}
 use Rattle.timetable.specs.Timetable.{stepBits, stepLength, stepMoves, stepPadSet}
-use Rattle.timetable.specs.StepLaws.{stepLength-some}
+use Rattle.timetable.specs.StepLaws.{stepLength-some, length-moves}
 
 unfoldable pub stepRecord : List (ℕ × ℕ) → List ℕ
 stepRecord ms = toBytes (stepBits ms)
@@ -100,10 +100,6 @@ module _ (p : List ℕ) (part : Part p) where
   pub count-below : getD p 0 0 < 256
   count-below = below-getD (part .bytes-are) 0 (omega (arith, part .length-is, stepLength-some (getD p 0 0)))
 
-  pub length-moves : length (stepMoves p) ≡ getD p 0 0
-  unfolding stepMoves
-  length-moves = length-pairs p 8 (getD p 0 0)
-
   part-size : 8 * length p ≡ 8 + (12 * getD p 0 0 + pad (12 * getD p 0 0))
   unfolding stepLength
   part-size = rw (up-to-byte (12 * getD p 0 0), part .length-is) (omega arith)
@@ -123,7 +119,7 @@ module _ (p : List ℕ) (part : Part p) where
       ∙ bits-field p (8 + 12 * getD p 0 0) (pad (12 * getD p 0 0)) (omega (arith, part-size))
 
   part-runs : stepBits (stepMoves p) ≡ bitsOf p
-  part-runs = stepBits-runs (stepMoves p) ∙ rw length-moves (ap₂ _++_ count-run (ap₂ _++_ moves-run pad-run) ∙ together (12 * getD p 0 0) (pad (12 * getD p 0 0)) (omega (arith, length-bitsOf p, part-size)))
+  part-runs = stepBits-runs (stepMoves p) ∙ rw (length-moves p) (ap₂ _++_ count-run (ap₂ _++_ moves-run pad-run) ∙ together (12 * getD p 0 0) (pad (12 * getD p 0 0)) (omega (arith, length-bitsOf p, part-size)))
     where
       together : (m w : ℕ) → length (bitsOf p) ≤ 8 + (m + w) → take 8 (bitsOf p) ++ (take m (drop 8 (bitsOf p)) ++ take w (drop (8 + m) (bitsOf p))) ≡ bitsOf p
       together m w h =

@@ -2,17 +2,20 @@
 --
 --     Steps l, Packable l       what the record's fields hold: counts below 256, positions below 64, fewer than 2²² steps
 --     headBits k                the head of a record of k steps
+--     record-bytes              the record is a byte string
 --     record-parts              the record is its head and the records of its steps
 --     stepsOf-record            a record's steps are those that it was made of
 --     record-well-packed        neither 40 nor 41 applies to a record
 --     record-stepsOf            a byte string to which neither applies is the record of its steps
 --     packable-stepsOf          and its steps can be packed
 --     record-only               so the record of a list of steps is the only one
+--     one-record                the three in one: a byte string is the record of l just where neither applies to it and its steps are l
 -- Assumes nothing.
 use Prim.Native.Nat.{ℕ, zero, suc, _+_, _*_, _^_, _≤_, _<_}
 use mathlib.Core.Path.{_≡_, refl, sym, ap, ap₂, _∙_, subst}
 use mathlib.Core.Bool.{false, not}
 use mathlib.Core.List.{List, [], _∷_, _++_, map, append-assoc}
+use mathlib.Core.Logic.{_↔_}
 use native.Mathlib.Omega.{arith}
 use borrow.Author.Tests.{eqb-true, not-false, le-ltb, ltb-false}
 use lib.ListN.{length, getD, take, drop, length-append, length-map, take-append-drop, List·getD-append}
@@ -20,14 +23,15 @@ use lib.Seq.{take-add, take-at, drop-at, length-take-le, getD-take}
 use lib.Dec.{ltb, eqb, lit<}
 use Rattle.field.specs.Bits.{bits, bitsOf, field, bytes, toBytes}
 use Rattle.field.specs.BitLaws.{Bits, Bytes, none, below-append, below-take, below-drop, length-bits, bits-are, length-bitsOf, field-lt, bits-field, field-at}
-use Rattle.field.specs.RecordLaws.{BelowPairs, toBytes-from, pairs-lt}
+use Rattle.field.specs.RecordLaws.{BelowPairs, toBytes-are, toBytes-from, pairs-lt}
 use Rattle.field.specs.UnitLaws.{or-left, or-right}
 use Rattle.order.specs.Order.{some}
 use Rattle.field.specs.WholeBytes.{bitsOf-append, padded-whole, toBytes-whole, length-whole, toBytes-append}
 use Rattle.timetable.specs.Timetable.{allStepBits, timetableBits, timetableRecord, stepLength, stepCount, wrongSteps, stepParts, partsOf, wrongTimetableLength, stepPadSet, timetablePaddingSet, stepMoves, stepsOf}
 use Rattle.timetable.specs.Reading.{WellPacked}
-use Rattle.timetable.specs.StepLaws.{stepLength-some, length-parts}
-use Rattle.timetable.specs.StepRecord.{stepRecord, joined, Part, stepBits-are, length-stepBits, part-of-record, moves-of, record-of-part, length-moves, count-below}
+use Rattle.timetable.specs.StepLaws.{stepLength-some, length-moves}
+use Rattle.timetable.specs.ReadingLaws.{count-steps}
+use Rattle.timetable.specs.StepRecord.{stepRecord, joined, Part, stepBits-are, length-stepBits, part-of-record, moves-of, record-of-part, count-below}
 
 pub data Steps : List (List (ℕ × ℕ)) → Type 0 where
   no-steps : Steps []
@@ -73,11 +77,6 @@ module _ where
   clear-of no-parts = refl
   clear-of (one-part part rest) = rw (part .pad-clear, clear-of rest) refl
 
-  joined-bytes : {l : List (List ℕ)} → Parts l → Bytes (joined l)
-  unfolding joined
-  joined-bytes no-parts = none
-  joined-bytes (one-part part rest) = below-append (part .bytes-are) (joined-bytes rest)
-
 -- the records of steps are parts, and their moves are the steps
 records-are : {l : List (List (ℕ × ℕ))} → Steps l → Parts (map stepRecord l)
 records-are no-steps = no-parts
@@ -109,6 +108,10 @@ unfolding allStepBits joined toBytes bytes stepRecord
 steps-joined [] = refl
 steps-joined (ms ∷ l) =
     toBytes-append (stepLength (length ms)) (stepBits-are ms) (length-stepBits ms) (allStepBits-are l) ∙ ap (λ (t : List ℕ). stepRecord ms ++ t) (steps-joined l)
+
+pub record-bytes : (l : List (List (ℕ × ℕ))) → Bytes (timetableRecord l)
+unfolding timetableRecord timetableBits headBits
+record-bytes l = toBytes-are (below-append (head-are (length l)) (allStepBits-are l))
 
 pub record-parts : (l : List (List (ℕ × ℕ))) → timetableRecord l ≡ toBytes (headBits (length l)) ++ joined (map stepRecord l)
 unfolding timetableRecord timetableBits headBits
@@ -193,7 +196,7 @@ moves-low p = pairs-lt p 8 (getD p 0 0)
 
 moves-fit : {l : List (List ℕ)} → Parts l → Steps (map stepMoves l)
 moves-fit no-parts = no-steps
-moves-fit (one-part {p = p} part rest) = one-step {ms = stepMoves p} (omega (arith, length-moves p part, count-below p part)) (moves-low p) (moves-fit rest)
+moves-fit (one-part {p = p} part rest) = one-step {ms = stepMoves p} (omega (arith, length-moves p, count-below p part)) (moves-low p) (moves-fit rest)
 
 module _ {s : List ℕ} (b : Bytes s) (w : WellPacked s) where
   long : 3 ≤ length s
@@ -220,20 +223,22 @@ module _ {s : List ℕ} (b : Bytes s) (w : WellPacked s) where
   head-right : toBytes (headBits (stepCount s)) ≡ take 3 s
   head-right = sym (toBytes-from (below-take 3 b) (head-are (stepCount s)) (head-bits ∙ sym (padded-whole (headBits (stepCount s)) 3 (length-head (stepCount s)))))
 
-  pub count-stepsOf : length (stepsOf s) ≡ stepCount s
-  unfolding stepsOf partsOf
-  count-stepsOf = length-map (partsOf s) stepMoves ∙ length-parts (stepCount s) (drop 3 s)
-
   pub record-stepsOf : timetableRecord (stepsOf s) ≡ s
   unfolding stepsOf
   record-stepsOf =
       record-parts (stepsOf s)
-      ∙ ap₂ _++_ (ap (λ (k : ℕ). toBytes (headBits k)) count-stepsOf ∙ head-right) (ap joined (records-back (rest-right .0)) ∙ rest-right .1)
+      ∙ ap₂ _++_ (ap (λ (k : ℕ). toBytes (headBits k)) (count-steps s) ∙ head-right) (ap joined (records-back (rest-right .0)) ∙ rest-right .1)
       ∙ take-append-drop 3 s
 
   pub packable-stepsOf : Packable (stepsOf s)
   unfolding stepsOf stepCount
-  packable-stepsOf = record { few-steps = subst (λ (k : ℕ). k < 2 ^ 22) (sym count-stepsOf) (field-lt s 0 22); steps-fit = moves-fit (rest-right .0) }
+  packable-stepsOf = record { few-steps = subst (λ (k : ℕ). k < 2 ^ 22) (sym (count-steps s)) (field-lt s 0 22); steps-fit = moves-fit (rest-right .0) }
 
   pub record-only : (l : List (List (ℕ × ℕ))) → stepsOf s ≡ l → s ≡ timetableRecord l
   record-only l e = sym record-stepsOf ∙ ap timetableRecord e
+
+pub one-record : {l : List (List (ℕ × ℕ))} {s : List ℕ} → Packable l → Bytes s → (WellPacked s × (stepsOf s ≡ l)) ↔ (s ≡ timetableRecord l)
+one-record {l} {s} p b = (
+  λ h. record-only b (h .0) l (h .1),
+  λ e. (subst WellPacked (sym e) (record-well-packed l p), ap stepsOf e ∙ stepsOf-record l p),
+)
