@@ -5,7 +5,8 @@
 --     Early j P               no step is above j
 --     early-started, early-passed, early-pass    nor is it, with each move, above one more
 --     latest-few              so there are at most as many steps as moves
---     entries-started, entries-pass              every entry of the window is a position, plus 1, or 0
+--     greatest-same           the greatest step is the same whatever the window
+--     entries-empty, entries-pass              every entry of the window is a position, plus 1, or 0
 -- Assumes nothing.
 use Prim.Native.Nat.{ℕ, zero, suc, _+_, _-_, _*_, _≤_, _<_, max}
 use mathlib.Core.Path.{_≡_, refl, sym, ap, _∙_}
@@ -78,3 +79,20 @@ entries-pass first P (more₂ {p = m} h k b) f =
 pub entries-empty : EntriesFit emptyWindow
 unfolding emptyWindow
 entries-empty = record { at-most = λ i. omega (arith, zeros-at 262144 i) }
+
+-- the greatest step is the same whatever the window
+
+same-greatest : (f g : ℕ) (P Q : Pass) (ms : List (ℕ × ℕ)) → P .arrived ≡ Q .arrived → P .left ≡ Q .left → P .greatest ≡ Q .greatest
+    → pass f P ms .greatest ≡ pass g Q ms .greatest
+unfolding pass
+same-greatest f g P Q [] a l e = e
+same-greatest f g P Q (m ∷ ms) a l e =
+    same-greatest f g (passed f P m) (passed g Q m) ms (unfold passed in rw (a, l) refl) (unfold passed in rw (a, l) refl) (unfold passed in rw (a, l, e) refl)
+
+pub greatest-same : (first : ℕ) (ms : List (ℕ × ℕ)) → pass first (started emptyWindow) ms .greatest ≡ latest ms
+unfolding latest
+greatest-same first ms = same-greatest first 0 (started emptyWindow) (started emptyWindow) ms refl refl refl
+
+pub latest-few : (ms : List (ℕ × ℕ)) → latest ms ≤ length ms
+unfolding latest
+latest-few ms = omega (arith, early-pass 0 0 (started emptyWindow) (early-started emptyWindow) ms)
