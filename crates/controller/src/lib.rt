@@ -1,6 +1,7 @@
 // The C interface: include/wichteab.h says the same in C's words. Every function takes byte strings as pointer and length and
 // returns one number; none changes a byte that it was lent to read.
 use answers::Fault;
+use floor::FloorVerdict;
 use order::OrderVerdict;
 use plan::PlanVerdict;
 use timetable::StepVerdict;
@@ -8,6 +9,7 @@ use timetable::TimetableVerdict;
 ghost use mathlib.Core.Path.{_≡_};
 ghost use Rattle.answers.specs.Answer.{refusedBy};
 ghost use Rattle.order.specs.Order.{orderAnswer};
+ghost use Rattle.floor.specs.FloorAnswer.{floorAnswer};
 ghost use Rattle.plan.specs.Plan.{planAnswer};
 ghost use Rattle.timetable.specs.Timetable.{timetableAnswer, stepAnswer};
 ghost use Rattle.controller.specs.Packed.{packed, nothing, oneCount, stepsAndMoves, lengthAndOffset};
@@ -27,6 +29,17 @@ pub extern "C" fn wichteab_order_check(order: &[u8]) -> u64
     match order::read(order) {
         OrderVerdict::Accepted(_) => 0,
         OrderVerdict::Refused(fault, place) => refusal(fault, place),
+    }
+}
+
+// Judges an order by 10 to 14 and 20 to 22: whether its floor can be planned at all.
+#[no_mangle]
+pub extern "C" fn wichteab_floor_check(order: &[u8]) -> u64
+    ensures { λ r. ⌜ r ≡ packed nothing (floorAnswer (now (order .entry))) ⌝ }
+{
+    match floor::judge(order) {
+        FloorVerdict::Accepted => 0,
+        FloorVerdict::Refused(fault, place) => refusal(fault, place),
     }
 }
 

@@ -1,0 +1,97 @@
+-- The floor judge's layers: its answer from the order reader's acceptance and its own tests.
+--
+--     order-refused     a refusal of the order reader is the answer
+--     crowded           20
+--     matrix-right      the matrix that the order's edges fill is that of a floor
+--     apart, ring, plain    21, 22, and acceptance, from what the search of the matrix says
+-- Assumes nothing.
+use Prim.Native.Nat.{ℕ, _+_, _-_, _≤_, _<_}
+use mathlib.Core.Path.{_≡_, refl, sym, ap, subst, _∙_}
+use mathlib.Core.Bool.{Bool, true, false, not}
+use mathlib.Core.List.{List, [], _∷_}
+use mathlib.Core.Logic.{_↔_}
+use native.Mathlib.Omega.{arith}
+use borrow.Author.Tests.{lt-ltb, le-ltb}
+use lib.ListN.{length, take, drop, replicate}
+use lib.Dec.{ltb}
+use Rattle.answers.specs.Answer.{Answer, accepted, refused, refuse, passUp}
+use Rattle.answers.specs.AnswerLaws.{passUp-refused}
+use Rattle.field.specs.Bits.{pairs}
+use Rattle.field.specs.RecordLaws.{length-pairs}
+use Rattle.order.specs.Order.{positionCount, edgeCount, rackCount, floorOf, orderAnswer}
+use Rattle.order.specs.Tables.{marked}
+use Rattle.tables.specs.Accepted.{OrderGave, order-gave}
+use Rattle.tables.specs.MovesOn.{matrixOf}
+use Rattle.graph.specs.Connected.{BiConnected, Ring}
+use Rattle.graph.specs.Matrix.{Edge, Matrix}
+use Rattle.floor.specs.FloorAnswer.{Joins, biConnected?, ring?, holds, floorAnswer}
+use Rattle.floor.specs.FloorMatrix.{biConnected-matrix, filled-is, filled-matrix}
+use Rattle.floor.specs.FloorLaws.{holds-yes, holds-no, floorRefusals, floor-over}
+
+edges-length : (o : List ℕ) → length (floorOf o .edges) ≡ edgeCount o
+unfolding floorOf
+edges-length o = length-pairs o 24 (edgeCount o)
+
+positions-are : (o : List ℕ) → floorOf o .positions ≡ positionCount o
+unfolding floorOf
+positions-are o = refl
+
+pub order-refused : (o : List ℕ) (below r : Answer) (number place : ℕ) → below ≡ orderAnswer o → below ≡ refused number place → r ≡ passUp below (accepted []) → r ≡ floorAnswer o
+unfolding floorAnswer
+order-refused o below r number place is f e =
+    e
+    ∙ sym (passUp-refused below (accepted []) number place f)
+    ∙ passUp-refused below (floorRefusals o) number place f
+    ∙ ap (λ (b : Answer). passUp b (floorRefusals o)) is
+
+module _ (o : List ℕ) (n e m : ℕ) (a : accepted (n ∷ e ∷ m ∷ []) ≡ orderAnswer o) where
+  pub gave : OrderGave o n e m
+  gave = order-gave o n e m a
+
+  over : floorAnswer o ≡ floorRefusals o
+  over = floor-over o (n ∷ e ∷ m ∷ []) (sym a)
+
+  pub crowded : n < m + 2 → refused 20 0 ≡ floorAnswer o
+  crowded h =
+      let p = gave .positions-are ∙ positions-are o in
+      let r = gave .racks-are in
+      sym (over ∙ rw (lt-ltb (positionCount o) (rackCount o + 2) (omega arith)) refl)
+
+  module _ (g : List ℕ) (filled : g ≡ marked (replicate 4096 0) (pairs (take (length o - 3) (drop 3 o)) 0 e)) where
+    matrix-is : g ≡ matrixOf (floorOf o)
+    matrix-is = filled-is o n e m gave g filled
+
+    pub matrix-right : Matrix n g
+    matrix-right = filled-matrix o n e m gave g filled
+
+    module _ (room : m + 2 ≤ n) (r : Bool) (t : (r ≡ true) ↔ BiConnected n (Edge n g)) where
+      same : BiConnected n (Edge n g) ↔ BiConnected (floorOf o .positions) (Joins (floorOf o))
+      same =
+          let p = gave .placed-well in
+          rw (gave .positions-are, matrix-is) (biConnected-matrix (floorOf o) (p .few-positions) (p .edges-below) (p .edges-right))
+
+      vacant : ltb (positionCount o) (rackCount o + 2) ≡ false
+      vacant =
+          let p = gave .positions-are ∙ positions-are o in
+          let r = gave .racks-are in
+          le-ltb (positionCount o) (rackCount o + 2) (omega arith)
+
+      found : r ≡ true → holds (biConnected? (floorOf o)) ≡ true
+      found y = holds-yes (biConnected? (floorOf o)) (same .0 (t .0 y))
+
+      count-is : length (floorOf o .edges) ≡ e
+      count-is = edges-length o ∙ sym (gave .edges-are)
+
+      pub apart : r ≡ false → refused 21 0 ≡ floorAnswer o
+      apart f = sym (over ∙ rw (vacant, holds-no (biConnected? (floorOf o)) (λ b. never (sym f ∙ t .1 (same .1 b)))) refl)
+        where
+          never : false ≡ true → ⊥
+          never z = let w : _≡_ {A = ℕ} 0 1 = cc in omega arith
+
+      pub ring : r ≡ true → e ≡ n → refused 22 0 ≡ floorAnswer o
+      ring y s =
+          sym (over ∙ rw (vacant, found y, holds-yes (ring? (floorOf o)) (record { biConnected = same .0 (t .0 y); count = count-is ∙ s ∙ gave .positions-are })) refl)
+
+      pub plain : r ≡ true → (e ≡ n → ⊥) → accepted [] ≡ floorAnswer o
+      plain y d =
+          sym (over ∙ rw (vacant, found y, holds-no (ring? (floorOf o)) (λ x. d (sym count-is ∙ x .count ∙ sym (gave .positions-are)))) refl)

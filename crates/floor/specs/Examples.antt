@@ -1,0 +1,59 @@
+-- The case book's floors, judged by computation: document 01, "Case book", 4 and 5. F is n = 4, edges 0-1, 0-2, 1-2, 1-3, 2-3.
+--
+--     threeInRing    three positions in a ring, one rack: 22
+--     threeRacks     F with three racks: 20
+--     twoRacks       F with two racks, the order of "Programs": none of 20 to 22
+--     pathOfFour     the path 0-1, 1-2, 2-3, one rack: 21
+--     pathOfThree    the path of three with two racks: 20, though 21 applies too
+--     turnedEdge     an edge with its higher position first: 13, the order reader's refusal
+--     floors-judged  these answers
+--     plannable-met  what `Plannable` asks can be met
+-- Assumes nothing.
+use Prim.Native.Nat.{ℕ}
+use mathlib.Core.Path.{_≡_, refl}
+use mathlib.Core.List.{List, [], _∷_}
+use lib.ListN.{length}
+use Rattle.answers.specs.Answer.{accepted, refused}
+use Rattle.field.specs.Bits.{bitsOf, bits, number, field, pairs, positions, pad}
+use Rattle.field.specs.Units.{unitsLength, misfits, unclean}
+use Rattle.order.specs.Floor.{isPair, among, joined}
+use Rattle.order.specs.Order.{positionCount, edgeCount, rackCount, unitCount, floorOf, startsOf, goalsOf, orderOf, wrongLength, wrongPositions, paddingSet, some, badEdge, precedes, ascending, wrongEdges, repeats, wrongPlaces, wrongRacks, counts, orderAnswer}
+use Rattle.floor.specs.FloorAnswer.{biConnected?, ring?, floorAnswer}
+use Rattle.floor.specs.FloorLaws.{Plannable, plannable}
+
+-- n = 3, edges 0-1, 0-2, 1-2, rack 1 from 0 to 1
+abbrev pub threeInRing : List ℕ
+threeInRing = 0x06 ∷ 0x06 ∷ 0x04 ∷ 0x00 ∷ 0x10 ∷ 0x02 ∷ 0x04 ∷ 0x20 ∷ 0x01 ∷ []
+
+-- F, racks from 0, 1, 2 to 1, 2, 0
+abbrev pub threeRacks : List ℕ
+threeRacks = 0x08 ∷ 0x0A ∷ 0x0C ∷ 0x00 ∷ 0x10 ∷ 0x02 ∷ 0x04 ∷ 0x20 ∷ 0x43 ∷ 0x08 ∷ 0x30 ∷ 0x01 ∷ 0x08 ∷ 0x10 ∷ 0x80 ∷ []
+
+-- F, racks from 0, 3 to 3, 0
+abbrev pub twoRacks : List ℕ
+twoRacks = 0x08 ∷ 0x0A ∷ 0x08 ∷ 0x00 ∷ 0x10 ∷ 0x02 ∷ 0x04 ∷ 0x20 ∷ 0x43 ∷ 0x08 ∷ 0x30 ∷ 0x03 ∷ 0x0C ∷ 0x00 ∷ []
+
+-- n = 4, edges 0-1, 1-2, 2-3, rack 1 from 0 to 3
+abbrev pub pathOfFour : List ℕ
+pathOfFour = 0x08 ∷ 0x06 ∷ 0x04 ∷ 0x00 ∷ 0x10 ∷ 0x42 ∷ 0x08 ∷ 0x30 ∷ 0x03 ∷ []
+
+-- n = 3, edges 0-1, 1-2, racks from 0, 1 to 1, 2
+abbrev pub pathOfThree : List ℕ
+pathOfThree = 0x06 ∷ 0x04 ∷ 0x08 ∷ 0x00 ∷ 0x10 ∷ 0x42 ∷ 0x00 ∷ 0x10 ∷ 0x42 ∷ []
+
+-- n = 2, edge 1-0
+abbrev pub turnedEdge : List ℕ
+turnedEdge = 0x04 ∷ 0x02 ∷ 0x00 ∷ 0x04 ∷ 0x00 ∷ []
+
+pub floors-judged :
+    (floorAnswer threeInRing ≡ refused 22 0)
+    × (floorAnswer threeRacks ≡ refused 20 0)
+    × (floorAnswer twoRacks ≡ accepted [])
+    × (floorAnswer pathOfFour ≡ refused 21 0)
+    × (floorAnswer pathOfThree ≡ refused 20 0)
+    × (floorAnswer turnedEdge ≡ refused 13 0)
+unfolding floorAnswer biConnected? ring? joined among isPair orderAnswer wrongLength misfits unitsLength unitCount wrongPositions paddingSet unclean pad wrongEdges some badEdge precedes ascending wrongRacks wrongPlaces repeats orderOf floorOf startsOf goalsOf counts positionCount edgeCount rackCount field number bitsOf bits pairs positions
+floors-judged = (refl, refl, refl, refl, refl, refl)
+
+pub plannable-met : Plannable twoRacks
+plannable-met = plannable twoRacks [] (floors-judged .2)

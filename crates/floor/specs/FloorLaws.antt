@@ -1,0 +1,98 @@
+-- Laws of the planner's judgement as far as 22.
+--
+--     holds-yes, holds-no      a decision says yes of what holds, and no of what does not
+--     holds-true, holds-false  and what it says is so
+--     floor-over               above an accepted order the judgement is 20 to 22
+--     Plannable o              the order o is well formed and none of 20 to 22 applies to it
+--     plannable, plannable-is  accepted is plannable, and plannable is accepted
+--     plannable-matrix         the matrix of a plannable order's floor is bi-connected and no ring: what crates/breakdown asks of a floor
+-- Assumes nothing.
+use Prim.Native.Nat.{ℕ, _+_, _≤_}
+use mathlib.Core.Path.{_≡_, refl, sym, _∙_}
+use mathlib.Core.Bool.{Bool, true, false, not}
+use mathlib.Core.List.{List, []}
+use native.Mathlib.Omega.{arith}
+use borrow.Author.Tests.{le-ltb, ltb-false, not-false}
+use lib.ListN.{length}
+use lib.Dec.{ltb}
+use Rattle.answers.specs.Answer.{Answer, accepted, refuse, passUp}
+use Rattle.answers.specs.AnswerLaws.{refuse-not, refuse-else, passUp-low, passUp-high, passUp-accepted}
+use Rattle.order.specs.Order.{positionCount, rackCount, floorOf, counts, orderAnswer, WellFormed}
+use Rattle.order.specs.OrderLaws.{well-formed, accepted-is}
+use Rattle.tables.specs.Accepted.{well-placed}
+use Rattle.tables.specs.MovesOn.{matrixOf}
+use Rattle.graph.specs.Connected.{BiConnected, Ring}
+use Rattle.graph.specs.Matrix.{Edge}
+use Rattle.graph.specs.EdgeCount.{edgeCount}
+use Rattle.floor.specs.FloorAnswer.{Joins, biConnected?, ring?, holds, floorAnswer}
+use Rattle.floor.specs.FloorMatrix.{biConnected-matrix}
+use Rattle.floor.specs.EdgesCounted.{ring-matrix}
+
+never : true ≡ false → ⊥
+never e = let z : _≡_ {A = ℕ} 0 1 = cc in omega arith
+
+module _ {A : Type 0} where
+  pub holds-yes : (d : Dec A) → A → holds d ≡ true
+  holds-yes (yes a) x = refl
+  holds-yes (no f) x = absurd (f x)
+
+  pub holds-no : (d : Dec A) → (A → ⊥) → holds d ≡ false
+  holds-no (yes a) f = absurd (f a)
+  holds-no (no f) g = refl
+
+  pub holds-true : (d : Dec A) → holds d ≡ true → A
+  holds-true (yes a) e = a
+  holds-true (no f) e = absurd (never (sym e))
+
+  pub holds-false : (d : Dec A) → holds d ≡ false → A → ⊥
+  holds-false (yes a) e x = never e
+  holds-false (no f) e x = f x
+
+-- 20 to 22
+abbrev pub floorRefusals : List ℕ → Answer
+floorRefusals o =
+    refuse (ltb (positionCount o) (rackCount o + 2)) 20 0
+    (refuse (not (holds (biConnected? (floorOf o)))) 21 0
+    (refuse (holds (ring? (floorOf o))) 22 0
+    (accepted [])))
+
+pub floor-over : (o v : List ℕ) → orderAnswer o ≡ accepted v → floorAnswer o ≡ floorRefusals o
+unfolding floorAnswer
+floor-over o v a = passUp-accepted (orderAnswer o) (floorRefusals o) v a
+
+pub record Plannable (o : List ℕ) : Type 0 where
+  pub right : WellFormed o
+  pub vacancies : rackCount o + 2 ≤ positionCount o
+  pub biConnected : BiConnected (floorOf o .positions) (Joins (floorOf o))
+  pub noRing : Ring (floorOf o .positions) (Joins (floorOf o)) (length (floorOf o .edges)) → ⊥
+
+pub plannable : (o v : List ℕ) → floorAnswer o ≡ accepted v → Plannable o
+unfolding floorAnswer
+plannable o v e =
+    let a₂ = refuse (holds (ring? (floorOf o))) 22 0 (accepted []) in
+    let a₁ = refuse (not (holds (biConnected? (floorOf o)))) 21 0 a₂ in
+    let low = passUp-low (orderAnswer o) (floorRefusals o) v e in
+    let e₀ : floorRefusals o ≡ accepted v = passUp-high (orderAnswer o) (floorRefusals o) v e in
+    let e₁ : a₁ ≡ accepted v = refuse-else (ltb (positionCount o) (rackCount o + 2)) 20 0 a₁ v e₀ in
+    let e₂ : a₂ ≡ accepted v = refuse-else (not (holds (biConnected? (floorOf o)))) 21 0 a₂ v e₁ in
+    record {
+      right = well-formed o (low .0) (low .1);
+      vacancies = ltb-false (positionCount o) (rackCount o + 2) (refuse-not (ltb (positionCount o) (rackCount o + 2)) 20 0 a₁ v e₀);
+      biConnected = holds-true (biConnected? (floorOf o)) (not-false (holds (biConnected? (floorOf o))) (refuse-not (not (holds (biConnected? (floorOf o)))) 21 0 a₂ v e₁));
+      noRing = holds-false (ring? (floorOf o)) (refuse-not (holds (ring? (floorOf o))) 22 0 (accepted []) v e₂);
+    }
+
+pub plannable-is : (o : List ℕ) → Plannable o → floorAnswer o ≡ accepted []
+plannable-is o p =
+    floor-over o (counts o) (accepted-is o (p .right))
+    ∙ rw (le-ltb (positionCount o) (rackCount o + 2) (p .vacancies), holds-yes (biConnected? (floorOf o)) (p .biConnected), holds-no (ring? (floorOf o)) (p .noRing)) refl
+
+module _ (o : List ℕ) (p : Plannable o) where
+  pub plannable-matrix :
+      BiConnected (floorOf o .positions) (Edge (floorOf o .positions) (matrixOf (floorOf o)))
+      × (Ring (floorOf o .positions) (Edge (floorOf o .positions) (matrixOf (floorOf o))) (edgeCount (matrixOf (floorOf o)) (floorOf o .positions)) → ⊥)
+  plannable-matrix =
+      let w = well-placed o (p .right) in (
+        biConnected-matrix (floorOf o) (w .few-positions) (w .edges-below) (w .edges-right) .1 (p .biConnected),
+        λ r. p .noRing (ring-matrix (floorOf o) (w .few-positions) (w .edges-below) (w .edges-right) .0 r),
+      )

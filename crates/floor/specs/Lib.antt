@@ -1,0 +1,7 @@
+pub mod FloorAnswer
+pub mod Verdict
+pub mod WayDecision
+pub mod FloorMatrix
+pub mod EdgesCounted
+pub mod FloorLaws
+pub mod Examples

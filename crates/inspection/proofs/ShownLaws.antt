@@ -1,0 +1,148 @@
+-- From what crates/breakdown answers for the matrix of an order's floor to what is shown of it.
+--
+--     breakdown-along     a breakdown stays one where more edges join
+--     handles-few         there are fewer handles than positions
+--     short, order-refused, not-found, found    what is shown: nothing in too short a buffer, of a refused order, of a floor without a breakdown; else it
+-- Assumes nothing.
+use Prim.Native.Nat.{ℕ, zero, suc, _+_, _-_, _*_, _≤_, _<_}
+use mathlib.Core.Path.{_≡_, refl, sym, ap, subst, _∙_}
+use mathlib.Core.List.{List, [], _∷_}
+use mathlib.Core.Logic.{_↔_}
+use native.Mathlib.Numerals.{add-one}
+use native.Mathlib.Omega.{arith}
+use lib.ListN.{length, take, drop, replicate}
+use Rattle.answers.specs.Answer.{accepted, refused}
+use Rattle.field.specs.Bits.{pairs}
+use Rattle.order.specs.Order.{edgeCount, floorOf, counts, orderAnswer}
+use Rattle.order.specs.OrderLaws.{accepted-is}
+use Rattle.order.specs.Tables.{marked}
+use Rattle.tables.specs.Accepted.{OrderGave, order-gave}
+use Rattle.tables.specs.MovesOn.{matrixOf}
+use Rattle.graph.specs.Connected.{BiConnected, Ring}
+use Rattle.graph.specs.Matrix.{Edge, Matrix}
+use Rattle.graph.specs.EdgeCount.{edgeCount as matrixEdges}
+use Rattle.breakdown.specs.Breakdown.{Among, Handle, Breakdown}
+use Rattle.breakdown.specs.Building.{row}
+use Rattle.breakdown.specs.Answer.{Answer}
+use Rattle.floor.specs.FloorAnswer.{Joins}
+use Rattle.floor.specs.FloorMatrix.{edge-joins, biConnected-matrix, filled-is, filled-matrix}
+use Rattle.floor.specs.EdgesCounted.{ring-matrix}
+use Rattle.inspection.specs.Inspection.{LaidOut, Shown, Breaks, Inspected}
+
+module _ {E D : ℕ → ℕ → Type 0} (more : (a b : ℕ) → E a b → D a b) where
+  handle-along : {at : ℕ → ℕ} {s e u v : ℕ} → Handle E at s e u v → Handle D at s e u v
+  handle-along h =
+      record {
+        inner = h .inner;
+        first = more _ _ (h .first);
+        joined = λ j a b. more _ _ (h .joined j a b);
+        last = more _ _ (h .last);
+        ends = h .ends;
+        left = h .left;
+        right = h .right;
+      }
+
+  pub breakdown-along : {n r c : ℕ} {at start left right : ℕ → ℕ} → Breakdown n E r c at start left right → Breakdown n D r c at start left right
+  breakdown-along b =
+      record {
+        ring-three = b .ring-three;
+        ring-less = b .ring-less;
+        ring-joined = λ i l. more _ _ (b .ring-joined i l);
+        ring-closed = more _ _ (b .ring-closed);
+        begins = b .begins;
+        handle = λ i l. handle-along (b .handle i l);
+        stops = b .stops;
+        below = b .below;
+        distinct = b .distinct;
+        every = b .every;
+      }
+
+-- each handle has an inner position, so that the handles' places go up by one at least
+module _ {n r c : ℕ} {E : ℕ → ℕ → Type 0} {at start left right : ℕ → ℕ} (b : Breakdown n E r c at start left right) where
+  start-up : (i : ℕ) → i ≤ c → r + i ≤ start i
+  start-up zero l = let z = b .begins in omega arith
+  start-up (suc i) l =
+      let r = start-up i (omega arith) in
+      let h = b .handle i (omega arith) .inner in
+      let s : start (i + 1) ≡ start (suc i) = ap start (add-one i) in
+      omega arith
+
+  pub handles-few : r + c ≤ n
+  handles-few = let u = start-up c (omega arith) in let s = b .stops in omega arith
+
+-- nothing is shown
+nothing-shown : (o old : List ℕ) → (Breaks o old → ⊥) → Inspected o old old 0
+nothing-shown o old f =
+    record { shown = λ l. absurd (none l); none = λ e. refl; exactly = (λ l. absurd (none l), λ b. absurd (f b)) }
+  where
+    none : {x : ℕ} → x < 0 → ⊥
+    none h = omega arith
+
+pub short : (o old : List ℕ) → length old < 256 → Inspected o old old 0
+short o old l = nothing-shown o old (λ b. let r = b .room in omega arith)
+
+pub order-refused : (o old : List ℕ) (number place : ℕ) → refused number place ≡ orderAnswer o → Inspected o old old 0
+order-refused o old number place f = nothing-shown o old (λ b. never (f ∙ accepted-is o (b .order-right)))
+  where
+    never : refused number place ≡ accepted (counts o) → ⊥
+    never e = let z : _≡_ {A = ℕ} 0 1 = cc in omega arith
+
+module _ (o : List ℕ) (n e m : ℕ) (a : accepted (n ∷ e ∷ m ∷ []) ≡ orderAnswer o) (g : List ℕ) (filled : g ≡ marked (replicate 4096 0) (pairs (take (length o - 3) (drop 3 o)) 0 e)) where
+  pub gave : OrderGave o n e m
+  gave = order-gave o n e m a
+
+  pub matrix-right : Matrix n g
+  matrix-right = filled-matrix o n e m gave g filled
+
+  module _ (r c : ℕ) (row₁ row₂ row₃ row₄ : List ℕ) (answer : Answer n g r c row₁ row₂ row₃ row₄) where
+    -- by the floor's own edges
+    on-floor : Answer (floorOf o .positions) (matrixOf (floorOf o)) r c row₁ row₂ row₃ row₄
+    on-floor = rw (gave .positions-are, filled-is o n e m gave g filled) at answer
+
+    exact : (0 < r) ↔ (BiConnected (floorOf o .positions) (Joins (floorOf o)) × (Ring (floorOf o .positions) (Joins (floorOf o)) (length (floorOf o .edges)) → ⊥))
+    exact =
+        let w = gave .placed-well in
+        let bi = biConnected-matrix (floorOf o) (w .few-positions) (w .edges-below) (w .edges-right) in
+        let ring = ring-matrix (floorOf o) (w .few-positions) (w .edges-below) (w .edges-right) in (
+          λ l. let x = on-floor .exactly .0 l in (bi .0 (x .0), λ k. x .1 (ring .1 k)),
+          λ x. on-floor .exactly .1 (bi .1 (x .0), λ k. x .1 (ring .0 k)),
+        )
+
+    pub not-found : (old : List ℕ) → r ≡ 0 → Inspected o old old 0
+    not-found old z = nothing-shown o old (λ b. let l = exact .1 (b .biConnected, b .noRing) in omega arith)
+
+    module _ (some : 0 < r) where
+      broken : Breakdown (floorOf o .positions) (Joins (floorOf o)) r c (row row₁) (row row₂) (row row₃) (row row₄)
+      broken =
+          let w = gave .placed-well in
+          breakdown-along (edge-joins (floorOf o) (w .few-positions) (w .edges-below) (w .edges-right)) (on-floor .found some)
+
+      -- so that the answer fits
+      pub small : r + c ≤ 64
+      small = let f = handles-few broken in let w = gave .placed-well .few-positions in omega arith
+
+      pub found : (old new : List ℕ) → 256 ≤ length old → LaidOut (row row₁) (row row₂) (row row₃) (row row₄) old new → Inspected o old new (r + c * 256)
+      found old new room rows =
+          record {
+            shown = λ l.
+                record {
+                  ring = r;
+                  handles = c;
+                  order = row row₁;
+                  start = row row₂;
+                  left = row row₃;
+                  right = row row₄;
+                  counts = refl;
+                  small = let s = small in omega arith;
+                  breakdown = broken;
+                  rows = rows;
+                };
+            none = λ z. absurd (never z);
+            exactly = (
+              λ l. record { order-right = gave .right; room = room; biConnected = exact .0 some .0; noRing = exact .0 some .1 },
+              λ b. omega arith,
+            );
+          }
+        where
+          never : r + c * 256 ≡ 0 → ⊥
+          never z = omega arith

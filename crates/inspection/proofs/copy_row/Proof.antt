@@ -1,0 +1,59 @@
+-- `inspection::copy_row` meets its contract. The invariant: the first i bytes are copied. Assumes nothing.
+use Prim.Native.Nat.{_+_, _-_, _≤_}
+use native.Mathlib.Omega.{arith}
+use lib.ListN.{length}
+use Rattle.inspection.specs.Inspection.{Copied}
+use Rattle.inspection.proofs.CopyLaws.{copied-none, copied-more, copied-all}
+use Rattle.inspection.proofs.copy_row.Statement.{statement}
+use Rattle.inspection.proofs.copy_row.Tie as tie
+
+abbrev Inv-loop : tie.InvT-loop
+Inv-loop bytes at buffer₀ i₀ buffer i = (i ≤ 64) × (at + 64 ≤ length buffer₀) × Copied bytes at i buffer₀ buffer
+
+abbrev μ-loop : tie.MeasureT-loop
+μ-loop bytes at buffer₀ i₀ buffer i = 64 - i
+
+loop-holds : tie.Need-loop-holds Inv-loop μ-loop
+loop-holds c = (omega arith, c .pre, copied-none _ _ _)
+
+element-copy-out-buffer : tie.Need-element-copy-out-buffer Inv-loop μ-loop
+element-copy-out-buffer c = omega arith
+
+add-buffer : tie.Need-add-buffer Inv-loop μ-loop
+add-buffer c = omega arith
+
+slice-write-buffer : tie.Need-slice-write-buffer Inv-loop μ-loop
+slice-write-buffer c = omega (arith, c .before .before .loop .inv .2 .same-length)
+
+add-i : tie.Need-add-i Inv-loop μ-loop
+add-i c = omega arith
+
+loop-less : tie.Need-loop-less Inv-loop μ-loop
+loop-less c = omega arith
+
+loop-again : tie.Need-loop-again Inv-loop μ-loop
+loop-again c =
+    let inv = c .before .before .loop .inv in
+    (omega arith, inv .1, copied-more _ _ _ _ _ (omega arith) (inv .2))
+
+same-length : tie.Need-same-length Inv-loop μ-loop
+same-length c = c .before .loop .inv .2 .same-length
+
+returns : tie.Need-returns Inv-loop μ-loop
+returns c = copied-all _ _ _ _ _ (omega arith) (c .before .loop .inv .2)
+
+pub copy-row-spec : {M : Type 1} → statement M
+copy-row-spec =
+    tie.close
+    (tie.spec
+    Inv-loop
+    μ-loop
+    loop-holds
+    element-copy-out-buffer
+    add-buffer
+    slice-write-buffer
+    add-i
+    loop-less
+    loop-again
+    same-length
+    returns)

@@ -1,0 +1,35 @@
+-- `inspection::lay_out` meets its contract: four rows are copied, none over another. Assumes nothing.
+use Rattle.inspection.proofs.CopyLaws.{laid-out}
+use borrow.Author.Needs.{needs}
+use Rattle.inspection.proofs.lay_out.Statement.{statement}
+use Rattle.inspection.proofs.lay_out.Tie as tie
+
+copy-row-requires : tie.Need-copy-row-requires
+copy-row-requires c κs = search needs
+
+copy-row-requires-2 : tie.Need-copy-row-requires-2
+copy-row-requires-2 c κs = search needs
+
+copy-row-requires-3 : tie.Need-copy-row-requires-3
+copy-row-requires-3 c κs = search needs
+
+copy-row-requires-4 : tie.Need-copy-row-requires-4
+copy-row-requires-4 c κs = search needs
+
+same-length : tie.Need-same-length
+same-length c = search needs
+
+returns : tie.Need-returns
+returns c =
+    laid-out _ _ _ _ _ _ _ _ _ (c .before .before .before .before .before .before .before .before .before .before .before .before .before .before .before .before .before .copy-row .ensures) (c .before .before .before .before .before .before .before .before .before .before .before .before .copy-row2 .ensures) (c .before .before .before .before .before .before .before .copy-row3 .ensures) (c .before .before .copy-row4 .ensures)
+
+pub lay-out-spec : {M : Type 1} → statement M
+lay-out-spec =
+    tie.close
+    (tie.spec
+    copy-row-requires
+    copy-row-requires-2
+    copy-row-requires-3
+    copy-row-requires-4
+    same-length
+    returns)

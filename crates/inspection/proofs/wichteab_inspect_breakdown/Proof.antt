@@ -1,0 +1,102 @@
+-- `inspection::wichteab_inspect_breakdown` meets its contract: `ShownLaws` has what each answer shows. Assumes nothing.
+use Prim.Native.Nat.{ℕ}
+use mathlib.Core.Path.{_≡_, ap, sym, _∙_}
+use mathlib.Core.List.{List, [], _∷_}
+use native.Mathlib.Omega.{arith}
+use Rattle.answers.specs.Answer.{accepted}
+use Rattle.order.specs.Order.{orderAnswer}
+use Rattle.order.specs.Verdict.{answerOf}
+use Rattle.order.specs.declared.Counts.{Counts}
+use Rattle.tables.specs.Accepted.{order-gave}
+use Rattle.inspection.proofs.ShownLaws.{short, order-refused, matrix-right, not-found, small, found}
+use borrow.Author.Needs.{needs}
+use Rattle.inspection.proofs.wichteab_inspect_breakdown.Statement.{statement}
+use Rattle.inspection.proofs.wichteab_inspect_breakdown.Tie as tie
+
+-- the order's bytes, the counts that the order reader gave, and that it accepted with them
+abbrev bytes : tie.After-known-told → List ℕ
+bytes k = k .before .before .before .before .before .before .before .args .order .now
+
+abbrev told : tie.After-known-told → Counts
+told k = k .before .below .given .0 .0
+
+accepted-by : (k : tie.After-known-told) → accepted (told k .positions ∷ told k .edges ∷ told k .racks ∷ []) ≡ orderAnswer (bytes k)
+accepted-by k = ap answerOf (sym (k .before .below .given .1)) ∙ k .before .before .before .read .ensures
+
+returns : tie.Need-returns
+returns c = short _ _ (c .if1 .taken)
+
+read-requires : tie.Need-read-requires
+read-requires c κs = search needs
+
+enum-known-below : tie.Need-enum-known-below
+enum-known-below c = search needs
+
+enum-told : tie.Need-enum-told
+enum-told c = search needs
+
+returns-2 : tie.Need-returns-2
+returns-2 c =
+    order-refused _ _ _ _ (sym (ap answerOf (c .enum-told .given .1)) ∙ c .before .before .read .ensures)
+
+sub-mark-edges : tie.Need-sub-mark-edges
+sub-mark-edges c =
+    order-gave (bytes (c)) (told (c) .positions) (told (c) .edges) (told (c) .racks) (accepted-by (c)) .head-there
+
+part-mark-edges-start : tie.Need-part-mark-edges-start
+part-mark-edges-start c =
+    order-gave (bytes (c)) (told (c) .positions) (told (c) .edges) (told (c) .racks) (accepted-by (c)) .head-there
+
+part-mark-edges-end : tie.Need-part-mark-edges-end
+part-mark-edges-end c = search needs
+
+mark-edges-requires : tie.Need-mark-edges-requires
+mark-edges-requires c κs =
+    omega (arith, order-gave (bytes (c .before .before)) (told (c .before .before) .positions) (told (c .before .before) .edges) (told (c .before .before) .racks) (accepted-by (c .before .before)))
+
+break-down-requires : tie.Need-break-down-requires
+break-down-requires c κs =
+    matrix-right (bytes (c .before .before .before .before)) (told (c .before .before .before .before) .positions) (told (c .before .before .before .before) .edges) (told (c .before .before .before .before) .racks) (accepted-by (c .before .before .before .before)) (c .before .mark-edges .last .1 .1 .0) (c .before .mark-edges .ensures)
+
+returns-3 : tie.Need-returns-3
+returns-3 c =
+    not-found (bytes (c .before .before .before .before .before .before)) (told (c .before .before .before .before .before .before) .positions) (told (c .before .before .before .before .before .before) .edges) (told (c .before .before .before .before .before .before) .racks) (accepted-by (c .before .before .before .before .before .before)) (c .before .before .before .mark-edges .last .1 .1 .0) (c .before .before .before .mark-edges .ensures) (c .before .break-down .result .ring) (c .before .break-down .result .handles) (c .before .break-down .result .order) (c .before .break-down .result .start) (c .before .break-down .result .left) (c .before .break-down .result .right) (c .before .break-down .ensures) _ (c .if2 .taken)
+
+lay-out-requires : tie.Need-lay-out-requires
+lay-out-requires c κs = search needs
+
+mul-result : tie.Need-mul-result
+mul-result c =
+    omega (arith, small (bytes (c .before .before .before .before .before .before .before .before .before .before)) (told (c .before .before .before .before .before .before .before .before .before .before) .positions) (told (c .before .before .before .before .before .before .before .before .before .before) .edges) (told (c .before .before .before .before .before .before .before .before .before .before) .racks) (accepted-by (c .before .before .before .before .before .before .before .before .before .before)) (c .before .before .before .before .before .before .before .mark-edges .last .1 .1 .0) (c .before .before .before .before .before .before .before .mark-edges .ensures) (c .before .before .before .before .before .break-down .result .ring) (c .before .before .before .before .before .break-down .result .handles) (c .before .before .before .before .before .break-down .result .order) (c .before .before .before .before .before .break-down .result .start) (c .before .before .before .before .before .break-down .result .left) (c .before .before .before .before .before .break-down .result .right) (c .before .before .before .before .before .break-down .ensures) (omega arith))
+
+add-result : tie.Need-add-result
+add-result c =
+    omega (arith, small (bytes (c .before .before .before .before .before .before .before .before .before .before)) (told (c .before .before .before .before .before .before .before .before .before .before) .positions) (told (c .before .before .before .before .before .before .before .before .before .before) .edges) (told (c .before .before .before .before .before .before .before .before .before .before) .racks) (accepted-by (c .before .before .before .before .before .before .before .before .before .before)) (c .before .before .before .before .before .before .before .mark-edges .last .1 .1 .0) (c .before .before .before .before .before .before .before .mark-edges .ensures) (c .before .before .before .before .before .break-down .result .ring) (c .before .before .before .before .before .break-down .result .handles) (c .before .before .before .before .before .break-down .result .order) (c .before .before .before .before .before .break-down .result .start) (c .before .before .before .before .before .break-down .result .left) (c .before .before .before .before .before .break-down .result .right) (c .before .before .before .before .before .break-down .ensures) (omega arith))
+
+same-length : tie.Need-same-length
+same-length c = search needs
+
+returns-4 : tie.Need-returns-4
+returns-4 c =
+    found (bytes (c .before .before .before .before .before .before .before .before .before .before)) (told (c .before .before .before .before .before .before .before .before .before .before) .positions) (told (c .before .before .before .before .before .before .before .before .before .before) .edges) (told (c .before .before .before .before .before .before .before .before .before .before) .racks) (accepted-by (c .before .before .before .before .before .before .before .before .before .before)) (c .before .before .before .before .before .before .before .mark-edges .last .1 .1 .0) (c .before .before .before .before .before .before .before .mark-edges .ensures) (c .before .before .before .before .before .break-down .result .ring) (c .before .before .before .before .before .break-down .result .handles) (c .before .before .before .before .before .break-down .result .order) (c .before .before .before .before .before .break-down .result .start) (c .before .before .before .before .before .break-down .result .left) (c .before .before .before .before .before .break-down .result .right) (c .before .before .before .before .before .break-down .ensures) (omega arith) _ _ (c .before .before .before .before .before .before .before .before .before .before .before .before .before .before .if1 .left) (c .before .before .lay-out .ensures)
+
+pub wichteab-inspect-breakdown-spec : {M : Type 1} → statement M
+wichteab-inspect-breakdown-spec =
+    tie.close
+    (tie.spec
+    returns
+    read-requires
+    enum-known-below
+    enum-told
+    returns-2
+    sub-mark-edges
+    part-mark-edges-start
+    part-mark-edges-end
+    mark-edges-requires
+    break-down-requires
+    returns-3
+    lay-out-requires
+    mul-result
+    add-result
+    same-length
+    returns-4)

@@ -1,0 +1,62 @@
+// For the tests: a breakdown as bytes, through C's conventions. This is no part of the product's interface, and include/wichteab.h does not
+// declare it.
+use breakdown::Breakdown;
+use order::OrderVerdict;
+ghost use Prim.Native.Nat.{_+_, _≤_};
+ghost use lib.ListN.{length};
+ghost use Rattle.breakdown.specs.Building.{row};
+ghost use Rattle.inspection.specs.Inspection.{Copied, LaidOut, Inspected};
+
+// Copies 64 bytes into the buffer from byte `at` on.
+fn copy_row(bytes: &[u8; 64], at: usize, buffer: &mut [u8])
+    requires { ⌜ at + 64 ≤ length (now buffer) ⌝ }
+    ensures { λ r. ⌜ Copied (now (bytes .entry)) at 64 (now (buffer .entry)) (now (buffer .exit)) ⌝ }
+{
+    let mut i: usize = 0;
+    while i < 64 {
+        buffer[at + i] = bytes[i];
+        i += 1;
+    }
+}
+
+// The four rows of a breakdown, one after another.
+fn lay_out(b: Breakdown, buffer: &mut [u8])
+    requires { ⌜ 256 ≤ length (now buffer) ⌝ }
+    ensures { λ r. ⌜ LaidOut (row (b .order)) (row (b .start)) (row (b .left)) (row (b .right)) (now (buffer .entry)) (now (buffer .exit)) ⌝ }
+{
+    let order = b.order;
+    let start = b.start;
+    let left = b.left;
+    let right = b.right;
+    copy_row(&order, 0, buffer);
+    copy_row(&start, 64, buffer);
+    copy_row(&left, 128, buffer);
+    copy_row(&right, 192, buffer);
+}
+
+// The breakdown of an order's floor: the answer has the size of its ring in the low 8 bits and the number of its handles above them, and its rows
+// stand in the first 256 bytes of the buffer. 0, and nothing written, where there is none, or the order is refused, or the buffer is shorter.
+#[no_mangle]
+pub extern "C" fn wichteab_inspect_breakdown(order: &[u8], buffer: &mut [u8]) -> u64
+    ensures { λ r. ⌜ Inspected (now (order .entry)) (now (buffer .entry)) (now (buffer .exit)) r ⌝ }
+{
+    if buffer.len() < 256 {
+        return 0;
+    }
+    let below = order::read(order);
+    let OrderVerdict::Accepted(counts) = below else {
+        return 0;
+    };
+    let n = counts.positions;
+    let e = counts.edges;
+    let mut matrix = [0u8; 4096];
+    order::mark_edges(&order[3..], e, &mut matrix);
+    let found = breakdown::break_down(&matrix, n);
+    let ring = found.ring;
+    let handles = found.handles;
+    if ring == 0 {
+        return 0;
+    }
+    lay_out(found, buffer);
+    (ring + handles * 256) as u64
+}
