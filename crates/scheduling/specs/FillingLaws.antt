@@ -1,5 +1,4 @@
--- Laws of a pass: for a plan whose moves are each legal at its turn, from a sound start, the tables give the steps that the making rule gives,
--- and the window holds the steps that it makes.
+-- Laws of a pass over any moves: no step is above the number of moves so far, and the window's entries are positions.
 --
 --     set-most                a table whose entries are at most b, with one more entry of at most b
 --     Early j P               no step is above j
@@ -18,6 +17,7 @@ use lib.ListN.{length, getD, set, replicate}
 use lib.Dec.{ltb}
 use Rattle.field.specs.RecordLaws.{BelowPairs, none₂, more₂}
 use Rattle.motion.specs.Test.{cond-either}
+use Rattle.tables.specs.TableLaws.{zeros-at}
 use Rattle.scheduling.specs.Rows.{EntriesFit}
 use Rattle.scheduling.specs.Filling.{Pass, started, stepBy, noted, passed, pass, emptyWindow, windowOf, latest}
 
@@ -27,11 +27,6 @@ set-most b (x ∷ l) zero v h k zero = k
 set-most b (x ∷ l) zero v h k (suc p) = h (suc p)
 set-most b (x ∷ l) (suc i) v h k zero = h 0
 set-most b (x ∷ l) (suc i) v h k (suc p) = set-most b l i v (λ q. h (suc q)) k p
-
-pub zeros-at : (n p : ℕ) → _≡_ {A = ℕ} (getD (replicate n 0) p 0) 0
-zeros-at zero p = refl
-zeros-at (suc n) zero = refl
-zeros-at (suc n) (suc p) = zeros-at n p
 
 pub record Early (j : ℕ) (P : Pass) : Type 0 where
   pub arrivals : (p : ℕ) → getD (P .arrived) p 0 ≤ j

@@ -14,3 +14,4 @@ pub mod Tabled
 pub mod TabledSteps
 pub mod RecordBytes
 pub mod MakerLaws
+pub mod MakerCases

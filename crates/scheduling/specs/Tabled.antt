@@ -29,11 +29,11 @@ use Rattle.motion.specs.Sound.{Sound, move-sound}
 use Rattle.motion.specs.Test.{equal?}
 use Rattle.motion.specs.ListLaws.{by-member}
 use Rattle.motion.specs.StepTests.{left}
+use Rattle.tables.specs.TableLaws.{zeros-at}
 use Rattle.scheduling.specs.Making.{Timed, rackAt, ofRack, ofLeaving, stepFor, timed, greatest, inStep}
 use Rattle.scheduling.specs.Timing.{stepFor-bounds, ofRack-same, ofRack-other, ofLeaving-same, ofLeaving-other, inStep-same, inStep-other}
 use Rattle.scheduling.specs.Schedule.{rackAt-finds}
 use Rattle.scheduling.specs.Filling.{Pass, started, stepBy, noted, passed, pass, emptyWindow}
-use Rattle.scheduling.specs.FillingLaws.{zeros-at}
 
 unfoldable pub entryOf : List Timed → ℕ → ℕ → ℕ
 entryOf [] i p = 0
