@@ -1,16 +1,19 @@
 // The C interface: include/wichteab.h says the same in C's words. Every function takes byte strings as pointer and length and
-// returns one number; none changes a byte that it was lent to read.
+// returns one number; none changes a byte that it was lent to read, and a refusal changes no byte at all.
 use answers::Fault;
 use floor::FloorVerdict;
 use order::OrderVerdict;
 use plan::PlanVerdict;
+use scheduling::MakerVerdict;
 use timetable::StepVerdict;
 use timetable::TimetableVerdict;
 ghost use mathlib.Core.Path.{_≡_};
+ghost use lib.ListN.{length};
 ghost use Rattle.answers.specs.Answer.{refusedBy};
 ghost use Rattle.order.specs.Order.{orderAnswer};
 ghost use Rattle.floor.specs.FloorAnswer.{floorAnswer};
 ghost use Rattle.plan.specs.Plan.{planAnswer};
+ghost use Rattle.scheduling.specs.Maker.{makerAnswer, bufferAfter};
 ghost use Rattle.timetable.specs.Timetable.{timetableAnswer, stepAnswer};
 ghost use Rattle.controller.specs.Packed.{packed, nothing, oneCount, stepsAndMoves, lengthAndOffset};
 
@@ -63,6 +66,19 @@ pub extern "C" fn wichteab_timetable_check(order: &[u8], timetable: &[u8]) -> u6
         TimetableVerdict::Accepted { steps, moves } => ((steps as u64) + (moves as u64) * 4194304)
             * 256,
         TimetableVerdict::Refused(fault, place) => refusal(fault, place),
+    }
+}
+
+// Makes the timetable of a plan for an order and writes it to the front of the buffer, judged by 10 to 14, 30 to 33 and 44. Accepted, it gives
+// the timetable's steps.
+#[no_mangle]
+pub extern "C" fn wichteab_timetable_make(order: &[u8], plan: &[u8], buffer: &mut [u8]) -> u64
+    ensures { λ r. ⌜ r ≡ packed oneCount (makerAnswer (now (order .entry)) (now (plan .entry)) (length (now (buffer .entry)))) ⌝ }
+    ensures { λ _. ⌜ now (buffer .exit) ≡ bufferAfter (now (order .entry)) (now (plan .entry)) (now (buffer .entry)) ⌝ }
+{
+    match scheduling::make(order, plan, buffer) {
+        MakerVerdict::Accepted(steps) => (steps as u64) * 256,
+        MakerVerdict::Refused(fault, place) => refusal(fault, place),
     }
 }
 

@@ -15,3 +15,4 @@ pub mod TabledSteps
 pub mod RecordBytes
 pub mod MakerLaws
 pub mod MakerCases
+pub mod SizeLaws

@@ -1,0 +1,54 @@
+-- `controller::wichteab_timetable_make` meets its contract: the verdict's answer, packed, and the buffer as the maker leaves it. Assumes nothing.
+use mathlib.Core.Path.{ap, sym, _∙_}
+use native.Mathlib.Omega.{arith}
+use lib.ListN.{length}
+use Rattle.scheduling.specs.Maker.{answerOf}
+use Rattle.scheduling.specs.SizeLaws.{steps-small}
+use Rattle.controller.specs.Packed.{packed, oneCount}
+use borrow.Author.Needs.{needs}
+use Rattle.controller.proofs.wichteab_timetable_make.Statement.{statement}
+use Rattle.controller.proofs.wichteab_timetable_make.Tie as tie
+
+make-requires : tie.Need-make-requires
+make-requires c κs = search needs
+
+enum-known-steps : tie.Need-enum-known-steps
+enum-known-steps c = search needs
+
+mul-result : tie.Need-mul-result
+mul-result c =
+    omega (arith, steps-small (c .before .before .before .before .before .before .before .before .before .before .args .order .now) (c .before .before .before .before .before .before .before .before .before .before .args .plan .now) (length (c .before .before .before .before .before .before .before .before .before .before .args .buffer .now)) (c .before .steps .given .0 .0) (ap answerOf (sym (c .before .steps .given .1)) ∙ c .before .before .before .before .before .make .ensures .0))
+
+enum-known-fault : tie.Need-enum-known-fault
+enum-known-fault c = search needs
+
+refusal-requires : tie.Need-refusal-requires
+refusal-requires c κs = search needs
+
+same-length : tie.Need-same-length
+same-length c = search needs
+
+returns : tie.Need-returns
+returns c =
+    (ap (packed oneCount) (ap answerOf (sym (c .before .steps .given .1)) ∙ c .before .before .before .before .before .make .ensures .0), c .before .before .before .before .before .make .ensures .1)
+
+same-length-2 : tie.Need-same-length-2
+same-length-2 c = search needs
+
+returns-2 : tie.Need-returns-2
+returns-2 c =
+    (c .refusal .ensures ∙ ap (packed oneCount) (ap answerOf (sym (c .before .before .fault .given .1)) ∙ c .before .before .before .before .before .before .make .ensures .0), c .before .before .before .before .before .before .make .ensures .1)
+
+pub wichteab-timetable-make-spec : {M : Type 1} → statement M
+wichteab-timetable-make-spec =
+    tie.close
+    (tie.spec
+    make-requires
+    enum-known-steps
+    mul-result
+    enum-known-fault
+    refusal-requires
+    same-length
+    returns
+    same-length-2
+    returns-2)
