@@ -175,6 +175,14 @@ static inline size_t wichteab_step_length(uint64_t answer)
 uint64_t wichteab_order_check(const uint8_t *order, size_t order_length);
 
 /*
+ * wichteab_floor_check: can this order be planned at all?
+ *
+ * Takes an order; it is only read. Accepted: the answer is 0, and wichteab_plan_make with a buffer that is
+ * long enough makes a plan. Refused: 10 to 14 and 20 to 22, place 0.
+ */
+uint64_t wichteab_floor_check(const uint8_t *order, size_t order_length);
+
+/*
  * wichteab_plan_check: does this plan bring every rack of the order to its goal?
  *
  * Takes an order, on a floor of any shape, and a plan; both are only read. A move is legal if both positions

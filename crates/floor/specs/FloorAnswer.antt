@@ -1,6 +1,7 @@
 -- The planner's judgement of an order as far as 22, from document 01, "The floor" and "Returned numbers".
 --
 --     Joins F a b        an edge of the floor F joins a and b
+--     passes? t          the test t passes or not
 --     biConnected? F     the floor F is bi-connected or not
 --     ring? F            the floor F is a ring or not
 --     holds d            the decision d says yes

@@ -5,8 +5,10 @@
 --     Through E P k a b       a is b, or an edge or a way leads from a to b whose inner positions are allowed by P and below k
 --     through-way             from one allowed position to another it is a way
 --     through-on              two of them that meet at an allowed position below k are one
+--     through?                it leads there or not
 --     walk-through            where the allowed positions are below n, every walk is one
 --     whole?                  a set of positions below n is whole or not
+--     except?                 a position of the floor is another than x or not
 --     decideBiConnected       a floor is bi-connected or not
 -- Assumes nothing.
 use Prim.Native.Nat.{ℕ, zero, suc, _≤_, _<_}

@@ -10,7 +10,8 @@
         feature = "plan_make",
         feature = "timetable_check",
         feature = "timetable_step",
-        feature = "timetable_make"
+        feature = "timetable_make",
+        feature = "inspection"
     )),
     allow(dead_code, unused_imports)
 )]
@@ -37,6 +38,8 @@ fn main() {
     order_check();
     #[cfg(feature = "floor_check")]
     floor_check();
+    #[cfg(feature = "inspection")]
+    breakdown();
     #[cfg(feature = "plan_check")]
     plan_check();
     #[cfg(feature = "timetable_check")]
@@ -142,6 +145,43 @@ fn floor_check() {
     };
     line("8 by 8 grid", &grid);
     line(&format!("complete, {} positions", floor.n), &complete);
+}
+
+/// The time on the 8 by 8 grid, and how long rings and handles come out on random floors. Both are read from
+/// an order; which of the shortest handles is taken is left open, so only the ring's size is the same.
+#[cfg(feature = "inspection")]
+fn breakdown() {
+    use compare::breakdowns::{longest_handle, proved_breakdown, ROWS};
+    use second::breakdown::{find, Breakdown};
+
+    let found = |order: &[u8]| find(&second::order::read(order).ok()?.floor);
+    let mut random = Random::new(0xBE_0006);
+    let grid = orders::order_on(&mut random, &floors::grid(8, 8), 62).record();
+    let mut buffer = [0; ROWS];
+    compare_speed(
+        "breakdown",
+        "8 by 8 grid",
+        20,
+        || proved::inspect_breakdown(black_box(&grid), &mut buffer) & 0xFF,
+        || found(black_box(&grid)).map_or(0, |breakdown| breakdown.ring.len() as u64),
+    );
+    let many: Vec<Vec<u8>> = (0..1000)
+        .map(|_| {
+            let n = random.between(4, 64);
+            let floor = floors::bi_connected(&mut random, n);
+            orders::order_on(&mut random, &floor, 0).record()
+        })
+        .collect();
+    let sums = |found: &dyn Fn(&[u8]) -> Option<Breakdown>| {
+        let breakdowns: Vec<Breakdown> = many.iter().filter_map(|order| found(order)).collect();
+        let rings: usize = breakdowns.iter().map(|breakdown| breakdown.ring.len()).sum();
+        let longest: usize = breakdowns.iter().map(longest_handle).sum();
+        format!("{rings} and {longest}")
+    };
+    println!(
+        "breakdown        1000 random floors, the sums of the ring sizes and of the inner positions of the"
+    );
+    println!("                 longest handles: proved {}, second {}", sums(&proved_breakdown), sums(&found));
 }
 
 /// A plan of so many moves on an 8 by 8 grid, and its order.

@@ -9,11 +9,14 @@
 //! | `random`     | the generator of random numbers                                    |
 //! | `write`      | records written from their fields, sound or not                    |
 //! | `floors`     | floors of every shape                                              |
+//! | `breakdowns` | the proved breakdown of a floor                                    |
 //! | `orders`     | orders on them, and damage                                         |
 //! | `racks`      | an arrangement, random moves and random steps on it                |
 //! | `plans`      | plans, and damage                                                  |
 //! | `timetables` | timetables, and damage                                             |
 
+#[cfg(feature = "inspection")]
+pub mod breakdowns;
 pub mod floors;
 pub mod orders;
 pub mod packed;

@@ -1,4 +1,4 @@
-//! The functions of include/wichteab.h. A byte string passes as a pointer and then its length; every
+//! The functions of include/wichteab.h, and the one of crates/inspection. A byte string passes as a pointer and then its length; every
 //! function returns one 64-bit number.
 
 mod symbols {
@@ -34,6 +34,13 @@ mod symbols {
             order_length: usize,
             plan: *const u8,
             plan_length: usize,
+            buffer: *mut u8,
+            buffer_length: usize,
+        ) -> u64;
+        #[cfg(feature = "inspection")]
+        pub fn wichteab_inspect_breakdown(
+            order: *const u8,
+            order_length: usize,
             buffer: *mut u8,
             buffer_length: usize,
         ) -> u64;
@@ -89,4 +96,11 @@ pub fn timetable_make(order: &[u8], plan: &[u8], buffer: &mut [u8]) -> u64 {
 #[cfg(feature = "timetable_step")]
 pub fn timetable_step(timetable: &[u8], number: u64) -> u64 {
     unsafe { symbols::wichteab_timetable_step(timetable.as_ptr(), timetable.len(), number) }
+}
+
+#[cfg(feature = "inspection")]
+pub fn inspect_breakdown(order: &[u8], buffer: &mut [u8]) -> u64 {
+    unsafe {
+        symbols::wichteab_inspect_breakdown(order.as_ptr(), order.len(), buffer.as_mut_ptr(), buffer.len())
+    }
 }
