@@ -66,6 +66,26 @@ static inline size_t wichteab_plan_length(uint32_t moves)
     return 3 + (3 * (size_t)moves + 1) / 2;
 }
 
+/* The length that wichteab_timetable_make asks of its buffer, for a plan of so many moves. */
+static inline size_t wichteab_timetable_buffer_length(uint32_t moves)
+{
+    return 3 * (size_t)moves + 3;
+}
+
+/*
+ * The length of the timetable of so many steps that `bytes` begins with, or 0 if a step runs past
+ * `length`. It tells where the record ends that wichteab_timetable_make has written.
+ */
+static inline size_t wichteab_timetable_length(const uint8_t *bytes, size_t length, uint32_t steps)
+{
+    size_t end = 3;
+    while (steps > 0 && end < length) {
+        end += 1 + (3 * (size_t)bytes[end] + 1) / 2;
+        steps--;
+    }
+    return steps == 0 && end <= length ? end : 0;
+}
+
 /*
  * Answers
  *
@@ -206,6 +226,20 @@ uint64_t wichteab_plan_check(const uint8_t *order, size_t order_length, const ui
  */
 uint64_t wichteab_timetable_check(const uint8_t *order, size_t order_length, const uint8_t *timetable,
                                   size_t timetable_length);
+
+/*
+ * wichteab_timetable_make: writes the timetable of a plan.
+ *
+ * Takes an order and a plan, which are only read, and a buffer of at least 3 bytes more than three for each
+ * move of the plan (see wichteab_timetable_buffer_length), whatever it holds. The moves are taken in plan
+ * order. A move's step is the greater of one more than the step of the same rack's previous move, and the
+ * step of the latest earlier move that left the position now entered; with neither, it is 1. Accepted:
+ * wichteab_timetable_steps gives the greatest step, or 0 with no moves; the timetable is at the front of the
+ * buffer, as long as wichteab_timetable_length says, and wichteab_timetable_check accepts it with these
+ * steps and the plan's moves. Refused: as wichteab_plan_check, and 44, place 0; the buffer is as it was.
+ */
+uint64_t wichteab_timetable_make(const uint8_t *order, size_t order_length, const uint8_t *plan,
+                                 size_t plan_length, uint8_t *buffer, size_t buffer_length);
 
 /*
  * wichteab_timetable_step: finds one step of a timetable.
