@@ -12,7 +12,8 @@
 --     bitsOf-injective                      two byte strings of the same bits are the same
 --     length-positionBits, length-pairBits, positionBits-are, pairBits-are    the bits that are written
 --     bits-zero, zeros-at                   zero bits
---     join-part                             two parts that follow each other
+--     join                                  two runs of bits that follow each other
+--     padded-by                             the pad, by its length
 --     up-to-byte                            bits and their pad are whole bytes
 --     rest-is                               the part of a byte string from byte k on
 -- Assumes nothing.
@@ -227,6 +228,10 @@ bits-zero (suc w) = ap₂ (λ (b : ℕ) (l : List ℕ). b ∷ l) (ap (λ (n : �
 pub zeros-at : (s : List ℕ) (i w : ℕ) → i + w ≤ 8 * length s → field s i w ≡ 0 → replicate w 0 ≡ take w (drop i (bitsOf s))
 zeros-at s i w h e = sym (bits-zero w) ∙ ap (bits w) (sym e) ∙ bits-field s i w h
 
--- the first i bits and the w bits that follow them
-pub join-part : (s : List ℕ) (i w : ℕ) → take i (bitsOf s) ++ take w (drop i (bitsOf s)) ≡ take (i + w) (bitsOf s)
-join-part s i w = sym (take-add i w (bitsOf s))
+-- a run of bits that begins where the first i bits end
+pub join : (s : List ℕ) (i w : ℕ) {a b : List ℕ} → a ≡ take i (bitsOf s) → b ≡ take w (drop i (bitsOf s)) → a ++ b ≡ take (i + w) (bitsOf s)
+join s i w p q = ap₂ (λ (x y : List ℕ). x ++ y) p q ∙ sym (take-add i w (bitsOf s))
+
+pub padded-by : (l : List ℕ) (k : ℕ) → pad (length l) ≡ k → padded l ≡ l ++ replicate k 0
+unfolding padded
+padded-by l k e = rw e refl

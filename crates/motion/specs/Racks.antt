@@ -3,12 +3,10 @@
 --     getD-in          an element of the list is a member
 --     place, rack      a rack is one more than a place of the list
 --     own              a rack of an arrangement of m racks is one of as many as the list is long
---     stands-suc       rack i + 1 stands at the list's element i
 --     stands-place     a rack stands at the list's element at its place
 --     stands-in        where a rack stands is one of the arrangement's positions
 --     rack-at          at each of them a rack stands
 --     same-positions   arrangements that agree on each rack are the same
---     length-after     moves keep the number of racks
 --     stands-after     where a rack stands after moves made all at once
 --     valid-same       in a valid arrangement a position holds one rack only
 --     valid-rack       at each of its positions a rack stands
@@ -34,6 +32,8 @@ use lib.Seq.{ext-getD}
 use lib.Dec.{T, ltb, ltb→lt, lt→ltb}
 use mir.Facts.{and-yes, yes-and}
 use Rattle.order.specs.Floor.{Floor}
+use Rattle.motion.specs.ArrangementLaws.{stands-index}
+use Rattle.motion.specs.MoveLaws.{after-length}
 use Rattle.motion.specs.Arrangement.{Arrangement, stands, vacant}
 use Rattle.motion.specs.Move.{goesTo, after}
 use Rattle.motion.specs.Step.{every}
@@ -84,25 +84,17 @@ rack h = (omega arith, h)
 pub own : {m a : ℕ} (A : Arrangement) → length A ≡ m → IsRack m a → IsRack (length A) a
 own {m} {a} A e r = subst (λ (n : ℕ). IsRack n a) (sym e) r
 
-pub stands-suc : (A : Arrangement) (i : ℕ) → stands A (suc i) ≡ getD A i 0
-unfolding stands
-stands-suc A i = ap (λ (k : ℕ). getD A k 0) (omega arith)
-
 pub stands-place : (A : Arrangement) {m a : ℕ} (r : IsRack m a) → stands A a ≡ getD A (place r .0) 0
-stands-place A r = let w = place r in ap (stands A) (w .1) ∙ stands-suc A (w .0)
+stands-place A r = let w = place r in ap (stands A) (w .1) ∙ stands-index A (w .0)
 
 pub stands-in : {A : Arrangement} {a : ℕ} → IsRack (length A) a → List·Memᴰ (stands A a) A
 stands-in {A} r = let w = place r in Memᴰ·cast (stands-place A r) (getD-in A (w .0) (w .2))
 
 pub rack-at : {A : Arrangement} {p : ℕ} → List·Memᴰ p A → (a : ℕ) × IsRack (length A) a × (stands A a ≡ p)
-rack-at {A} k = let w = in-getD A k in (suc (w .0), rack (w .1), stands-suc A (w .0) ∙ w .2)
+rack-at {A} k = let w = in-getD A k in (suc (w .0), rack (w .1), stands-index A (w .0) ∙ w .2)
 
 pub same-positions : (A B : Arrangement) → length A ≡ length B → ((a : ℕ) → IsRack (length A) a → stands A a ≡ stands B a) → A ≡ B
-same-positions A B e h = ext-getD 0 A B e (λ i l. sym (stands-suc A i) ∙ h (suc i) (rack l) ∙ stands-suc B i)
-
-pub length-after : (A : Arrangement) (ms : List (ℕ × ℕ)) → length (after A ms) ≡ length A
-unfolding after
-length-after A ms = length-map A (goesTo ms)
+same-positions A B e h = ext-getD 0 A B e (λ i l. sym (stands-index A i) ∙ h (suc i) (rack l) ∙ stands-index B i)
 
 pub stands-after : (A : Arrangement) (ms : List (ℕ × ℕ)) {a : ℕ} → IsRack (length A) a → stands (after A ms) a ≡ goesTo ms (stands A a)
 unfolding after
@@ -128,7 +120,7 @@ module _ {F : Floor} {m : ℕ} {A : Arrangement} (valid : UniquelyInvertible F m
       (λ i j p q e.
       let a : IsRack m (suc i) = rack (omega (arith, valid .racks)) in
       let b : IsRack m (suc j) = rack (omega (arith, valid .racks)) in
-      omega (arith, valid-same a b (stands-suc A i ∙ e ∙ sym (stands-suc A j))))
+      omega (arith, valid-same a b (stands-index A i ∙ e ∙ sym (stands-index A j))))
 
   pub valid-fits : m ≤ F .positions
   valid-fits = omega (arith, pigeonhole-below A (F .positions) valid-nodup (λ p. valid-below), valid .racks)

@@ -32,7 +32,8 @@ use Rattle.motion.specs.StepTests.{left, entered, Ascends, EnteredOnce, 
 use Rattle.motion.specs.StepTests.{Goes, taken, stays, goesTo-cases, goesTo-takes, goesTo-stays}
 use Rattle.motion.specs.Trains.{train-member}
 use Rattle.motion.specs.LegalStep.{LegalStep, legal-move}
-use Rattle.motion.specs.Racks.{own, stands-in, same-positions, length-after, stands-after}
+use Rattle.motion.specs.Racks.{own, stands-in, same-positions, stands-after}
+use Rattle.motion.specs.MoveLaws.{after-length}
 use Rattle.motion.specs.Racks.{valid-same, valid-rack, valid-below, valid-nodup}
 use Rattle.motion.specs.StepOf.{stepOf, Taken, stepOf-iff, stepOf-ascends, ascending-same}
 
@@ -137,7 +138,7 @@ module _ {F : Floor} {m : ℕ} {A : Arrangement} {ms : List (ℕ × ℕ)} (valid
   pub legal-valid : UniquelyInvertible F m (after A ms)
   legal-valid =
       record {
-        racks = length-after A ms ∙ valid .racks;
+        racks = after-length A ms ∙ valid .racks;
         within = λ a r. subst (λ (p : ℕ). p < F .positions) (sym (goes r)) (below (standing r));
         apart = λ a b r t ne e. ne (valid-same valid r t (goesTo-same (standing r) (standing t) (sym (goes r) ∙ e ∙ goes t)));
       }
@@ -192,7 +193,7 @@ module _ {F : Floor} {m : ℕ} {A : Arrangement} {ms : List (ℕ × ℕ)} (valid
   legal-stepOf =
       ascending-same ms (stepOf A (after A ms)) (s .ascending) (stepOf-ascends A (after A ms) (valid-nodup valid))
       (λ x.
-      let e = stepOf-iff A (after A ms) x (sym (length-after A ms)) in
+      let e = stepOf-iff A (after A ms) x (sym (after-length A ms)) in
       (λ k. e .1 (step-has x k), λ k. step-only x (e .0 k)))
 
 -- from a change to the legal step that makes it
@@ -298,9 +299,9 @@ module _ {F : Floor} {m : ℕ} {A B : Arrangement} (valid : UniquelyInvertible F
 
   pub change-after : after A (stepOf A B) ≡ B
   change-after =
-      same-positions (after A (stepOf A B)) B (length-after A (stepOf A B) ∙ as-many)
+      same-positions (after A (stepOf A B)) B (after-length A (stepOf A B) ∙ as-many)
       (λ a r.
-      let r′ : IsRack (length A) a = subst (λ (n : ℕ). IsRack n a) (length-after A (stepOf A B)) r in
+      let r′ : IsRack (length A) a = subst (λ (n : ℕ). IsRack n a) (after-length A (stepOf A B)) r in
       stands-after A (stepOf A B) r′ ∙ taken-along (subst (λ (n : ℕ). IsRack n a) (valid .racks) r′))
 
 pub step-iff : (F : Floor) (m : ℕ) (A B : Arrangement) (ms : List (ℕ × ℕ)) → UniquelyInvertible F m A

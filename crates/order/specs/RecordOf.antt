@@ -12,7 +12,7 @@ use lib.ListN.{length, take, drop, replicate, length-append}
 use lib.Seq.{take-all}
 use Rattle.field.specs.Bits.{bits, bitsOf, field, pairs, positions, pairBits, positionBits, pad, padded, toBytes}
 use Rattle.field.specs.BitLaws.{Below, Bits, Bytes, below-append, bits-are, bits-field, length-bits, length-bitsOf}
-use Rattle.field.specs.RecordLaws.{length-pairs, length-positions, bits-pairs, bits-positions, length-pairBits, length-positionBits, pairBits-are, positionBits-are, zeros-at, join-part, up-to-byte, toBytes-from}
+use Rattle.field.specs.RecordLaws.{length-pairs, length-positions, bits-pairs, bits-positions, length-pairBits, length-positionBits, pairBits-are, positionBits-are, zeros-at, join, padded-by, up-to-byte, toBytes-from}
 use Rattle.field.specs.UnitLaws.{Fitting, Clean, cleanly, pad-after-head}
 use Rattle.order.specs.Order.{Order, orderBits, orderRecord, positionCount, edgeCount, rackCount, unitCount, floorOf, startsOf, goalsOf, orderOf, paddingSet, WellFormed}
 use Rattle.order.specs.OrderLaws.{RightHead, right-head}
@@ -25,10 +25,6 @@ orderBits-are o =
     (below-append (below-append (below-append (below-append (bits-are 7 _) (bits-are 8 _)) (bits-are 7 _)) (bits-are 2 0)) (pairBits-are (o .floor .edges)))
     (positionBits-are (o .starts)))
     (positionBits-are (o .goals))
-
--- a run of bits that ends where another begins
-join : (s : List ℕ) (i w : ℕ) {a b : List ℕ} → a ≡ take i (bitsOf s) → b ≡ take w (drop i (bitsOf s)) → a ++ b ≡ take (i + w) (bitsOf s)
-join s i w p q = ap₂ (λ (x y : List ℕ). x ++ y) p q ∙ join-part s i w
 
 module _ (s : List ℕ) (e m : ℕ) (ee : e ≡ edgeCount s) (em : m ≡ rackCount s) (room : 24 + 12 * (e + m) + pad (12 * (e + m)) ≡ 8 * length s) where
   -- the fields of s, one after another, are the bits of s
@@ -64,10 +60,6 @@ pub length-orderBits : (o : Order) → length (orderBits o) ≡ 24 + 12 * length
 unfolding orderBits
 length-orderBits o =
     simp (length-append, length-bits, length-pairBits, length-positionBits)
-
-pub padded-by : (l : List ℕ) (k : ℕ) → pad (length l) ≡ k → padded l ≡ l ++ replicate k 0
-unfolding padded
-padded-by l k e = rw e refl
 
 pub record-of : (s : List ℕ) → Bytes s → WellFormed s → s ≡ orderRecord (orderOf s)
 unfolding orderRecord

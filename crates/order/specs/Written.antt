@@ -15,13 +15,13 @@ use lib.ListN.{length, replicate, length-append}
 use lib.Dec.{leb}
 use Rattle.field.specs.Bits.{bits, bitsOf, field, pairs, positions, pairBits, positionBits, pad, padded, toBytes}
 use Rattle.field.specs.BitLaws.{Below, Bits, Bytes, length-bits, field-at}
-use Rattle.field.specs.RecordLaws.{BelowPairs, none₂, more₂, pairs-at, positions-at, length-pairBits, length-positionBits, bits-zero, bitsOf-toBytes, length-toBytes}
+use Rattle.field.specs.RecordLaws.{BelowPairs, none₂, more₂, pairs-at, positions-at, length-pairBits, length-positionBits, bits-zero, bitsOf-toBytes, length-toBytes, padded-by}
 use Rattle.field.specs.UnitLaws.{fits, clean, pad-after-head, or-left, or-right}
 use Rattle.order.specs.Floor.{Floor}
 use Rattle.order.specs.Order.{Order, orderBits, orderRecord, positionCount, edgeCount, rackCount, unitCount, floorOf, startsOf, goalsOf, orderOf, wrongLength, wrongPositions, paddingSet, some, badEdge, wrongEdges, ascending, wrongPlaces, wrongRacks, WellFormed}
 use Rattle.order.specs.OrderLaws.{right-positions}
 use Rattle.order.specs.PlaceLaws.{places-below, below-more, few-places}
-use Rattle.order.specs.RecordOf.{orderBits-are, length-orderBits, padded-by}
+use Rattle.order.specs.RecordOf.{orderBits-are, length-orderBits}
 
 pub record SoundOrder (o : Order) : Type 0 where
   pub some-position : 1 ≤ o .floor .positions

@@ -16,7 +16,7 @@ use lib.Seq.{take-all}
 use lib.Pow.{pow-pos}
 use Rattle.field.specs.Bits.{bits, bitsOf, field, pairBits, pad, padded}
 use Rattle.field.specs.BitLaws.{Bits, Bytes, below-append, bits-are, bits-field, length-bits, length-bitsOf, field-at}
-use Rattle.field.specs.RecordLaws.{BelowPairs, length-pairs, length-pairBits, pairBits-are, bits-pairs, pairs-at, bits-zero, zeros-at, join-part, up-to-byte, length-toBytes, toBytes-are, bitsOf-toBytes, toBytes-from}
+use Rattle.field.specs.RecordLaws.{BelowPairs, length-pairs, length-pairBits, pairBits-are, bits-pairs, pairs-at, bits-zero, zeros-at, join, padded-by, up-to-byte, length-toBytes, toBytes-are, bitsOf-toBytes, toBytes-from}
 use Rattle.field.specs.UnitLaws.{Fitting, fitting, fits, Clean, cleanly, clean, pad-after-head}
 use Rattle.plan.specs.Plan.{planBits, planRecord, moveCount, planMoves, wrongPlanLength, planPaddingSet}
 
@@ -32,9 +32,9 @@ planBits-are : (ms : List (ℕ × ℕ)) → Bits (planBits ms)
 unfolding planBits
 planBits-are ms = below-append (below-append (bits-are 22 (length ms)) (bits-are 2 0)) (pairBits-are ms)
 
-padded-by : (ms : List (ℕ × ℕ)) → padded (planBits ms) ≡ planBits ms ++ replicate (pad (12 * length ms)) 0
+planBits-padded : (ms : List (ℕ × ℕ)) → padded (planBits ms) ≡ planBits ms ++ replicate (pad (12 * length ms)) 0
 unfolding padded
-padded-by ms = rw (length-planBits ms, pad-after-head (12 * length ms)) refl
+planBits-padded ms = padded-by (planBits ms) (pad (12 * length ms)) (ap pad (length-planBits ms) ∙ pad-after-head (12 * length ms))
 
 pub record Written (ms : List (ℕ × ℕ)) : Type 0 where
   pub are-bytes : Bytes (planRecord ms)
@@ -47,7 +47,7 @@ module _ (ms : List (ℕ × ℕ)) (few : length ms < 2 ^ 22) (small : BelowPairs
   -- the record's bits, parted before the count, the spare bits, the moves and the pad
   at-count : bitsOf (planRecord ms) ≡ bits 22 (length ms) ++ (bits 2 0 ++ (pairBits ms ++ replicate (pad (12 * length ms)) 0))
   unfolding planRecord planBits
-  at-count = bitsOf-toBytes (planBits-are ms) ∙ padded-by ms ∙ simp append-assoc
+  at-count = bitsOf-toBytes (planBits-are ms) ∙ planBits-padded ms ∙ simp append-assoc
 
   at-moves : bitsOf (planRecord ms) ≡ (bits 22 (length ms) ++ bits 2 0) ++ (pairBits ms ++ replicate (pad (12 * length ms)) 0)
   at-moves = at-count ∙ sym (append-assoc (bits 22 (length ms)) (bits 2 0) (pairBits ms ++ replicate (pad (12 * length ms)) 0))
@@ -86,10 +86,6 @@ module _ (ms : List (ℕ × ℕ)) (few : length ms < 2 ^ 22) (small : BelowPairs
         moves-are = rw count (pairs-at (planRecord ms) (bits 22 (length ms) ++ bits 2 0) ms (replicate (pad (12 * length ms)) 0) 24 at-moves head-length small);
       }
 
--- a run of bits that ends where another begins
-join : (s : List ℕ) (i w : ℕ) {a b : List ℕ} → a ≡ take i (bitsOf s) → b ≡ take w (drop i (bitsOf s)) → a ++ b ≡ take (i + w) (bitsOf s)
-join s i w p q = ap₂ (λ (x y : List ℕ). x ++ y) p q ∙ join-part s i w
-
 module _ (p : List ℕ) (b : Bytes p) (l : wrongPlanLength p ≡ false) (c : planPaddingSet p ≡ false) where
   room : 24 + 12 * moveCount p + pad (12 * moveCount p) ≡ 8 * length p
   unfolding wrongPlanLength
@@ -116,4 +112,4 @@ module _ (p : List ℕ) (b : Bytes p) (l : wrongPlanLength p ≡ false) (c : pla
   record-read = sym (toBytes-from b (planBits-are (planMoves p)) (sym all))
     where
       all : padded (planBits (planMoves p)) ≡ bitsOf p
-      all = padded-by (planMoves p) ∙ (unfold planBits in rw (moves-counted p) read-bits)
+      all = planBits-padded (planMoves p) ∙ (unfold planBits in rw (moves-counted p) read-bits)
