@@ -1,5 +1,5 @@
 -- How the base ring and the handles are chosen: among the pairs of joined positions (a, b) that can begin one, the pair from which the way on
--- from b, avoiding a, is shortest; the lowest pair on a tie. Pairs are gone through by their place a * 64 + b in the matrix.
+-- from b, avoiding a, is shortest. Pairs are gone through by their place a * 64 + b in the matrix.
 --
 --     Beside E a b t              t is joined to a and is not b: where the way of a ring ends that begins with a, b
 --     Leaves E s u w              an edge leads from u, which is settled, to w, which is not: where a handle can begin

@@ -6,6 +6,7 @@ ghost use mathlib.Core.Path.{_≡_};
 ghost use Prim.Native.Nat.{ℕ, _+_, _*_, _≤_, _<_};
 ghost use lib.ListN.{getD};
 ghost use Rattle.graph.specs.Connected.{Whole, Connected, ConnectedWithout, BiConnected, Ring};
+ghost use Rattle.graph.specs.EdgeCount.{edgeCount};
 ghost use Rattle.graph.specs.Matrix.{Edge, Free, Marked, Only, Matrix};
 ghost use Rattle.graph.specs.Zeros.{Blank};
 ghost use Rattle.graph.specs.Levels.{Beginning, Begins, Grows, Spread, Descent, Traced};
@@ -345,8 +346,8 @@ pub fn is_biconnected(edges: &[u8; 4096], n: usize) -> bool
 
 // Is the floor a ring? `e` is the number of its edges.
 pub fn is_ring(edges: &[u8; 4096], n: usize, e: usize) -> bool
-    requires { ⌜ Matrix n (now edges) ⌝ }
-    ensures { λ r. ⌜ (r ≡ true) ↔ Ring n (Edge n (now (edges .entry))) e ⌝ }
+    requires { ⌜ Matrix n (now edges) ⌝ ∗ ⌜ e ≡ edgeCount (now edges) n ⌝ }
+    ensures { λ r. ⌜ (r ≡ true) ↔ Ring n (Edge n (now (edges .entry))) (edgeCount (now (edges .entry)) n) ⌝ }
 {
     if e != n {
         return false;
