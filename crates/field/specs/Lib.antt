@@ -4,3 +4,4 @@ pub mod RecordLaws
 pub mod Units
 pub mod UnitLaws
 pub mod Packing
+pub mod WholeBytes

@@ -1,0 +1,49 @@
+-- `timetable::find_step` meets its contract: `StepReader` has the answers above that of 45. Assumes nothing.
+use mathlib.Core.Path.{ap, sym, _∙_}
+use Rattle.timetable.specs.Reading.{answerOfReading}
+use Rattle.timetable.proofs.StepReader.{not-found, found}
+use Rattle.timetable.specs.HandedOut.{number-gave}
+use borrow.Author.Needs.{needs}
+use Rattle.timetable.proofs.find_step.Statement.{statement}
+use Rattle.timetable.proofs.find_step.Tie as tie
+
+read-number-requires : tie.Need-read-number-requires
+read-number-requires c κs = search needs
+
+enum-known-fault : tie.Need-enum-known-fault
+enum-known-fault c = search needs
+
+enum-told : tie.Need-enum-told
+enum-told c = search needs
+
+offset-of-requires : tie.Need-offset-of-requires
+offset-of-requires c κs =
+    let g = (number-gave (c .before .before .before .before .args .timetable .now) (c .before .before .before .before .args .number) _ (sym (c .before .before .read-number .ensures) ∙ ap answerOfReading (c .enum-told .given .1))) in
+    (g .length-right, g .low, g .high)
+
+shared-slice-read-step-length : tie.Need-shared-slice-read-step-length
+shared-slice-read-step-length c = search needs
+
+step-length-requires : tie.Need-step-length-requires
+step-length-requires c κs = search needs
+
+returns : tie.Need-returns
+returns c =
+    not-found (c .before .before .before .before .before .args .timetable .now) (c .before .before .before .before .before .args .number) _ _ _ (c .before .before .before .read-number .ensures) (ap answerOfReading (c .before .fault .given .1))
+
+returns-2 : tie.Need-returns-2
+returns-2 c =
+    found (c .before .before .before .before .before .before .before .args .timetable .now) (c .before .before .before .before .before .before .before .args .number) (number-gave (c .before .before .before .before .before .before .before .args .timetable .now) (c .before .before .before .before .before .before .before .args .number) _ (sym (c .before .before .before .before .before .read-number .ensures) ∙ ap answerOfReading (c .before .before .before .enum-told .given .1))) _ _ (c .before .before .offset-of .ensures .0) (c .step-length .ensures .size-is) _ _ (c .before .before .before .before .before .read-number .ensures) (ap answerOfReading (c .before .before .before .enum-told .given .1))
+
+pub find-step-spec : {M : Type 1} → statement M
+find-step-spec =
+    tie.close
+    (tie.spec
+    read-number-requires
+    enum-known-fault
+    enum-told
+    offset-of-requires
+    shared-slice-read-step-length
+    step-length-requires
+    returns
+    returns-2)

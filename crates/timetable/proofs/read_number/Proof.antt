@@ -1,0 +1,41 @@
+-- `timetable::read_number` meets its contract: a refusal of the reading is passed up, and `StepReader` has 45 above its acceptance.
+-- Assumes nothing.
+use native.Mathlib.Omega.{arith}
+use mathlib.Core.Path.{ap, sym, _∙_}
+use Rattle.answers.specs.AnswerLaws.{passUp-refused}
+use Rattle.timetable.specs.Reading.{answerOfReading, numberAnswer}
+use Rattle.timetable.proofs.StepReader.{step-zero, step-above, step-there}
+use borrow.Author.Needs.{needs}
+use Rattle.timetable.proofs.read_number.Statement.{statement}
+use Rattle.timetable.proofs.read_number.Tie as tie
+
+read-requires : tie.Need-read-requires
+read-requires c κs = search needs
+
+enum-known-reading : tie.Need-enum-known-reading
+enum-known-reading c = search needs
+
+enum-told : tie.Need-enum-told
+enum-told c = search needs
+
+returns : tie.Need-returns
+unfolding numberAnswer
+returns c =
+    c .before .before .read .ensures ∙ passUp-refused _ _ _ _ (sym (c .before .before .read .ensures) ∙ ap answerOfReading (c .enum-told .given .1))
+
+returns-2 : tie.Need-returns-2
+returns-2 c =
+    step-zero (c .before .before .before .before .before .before .args .timetable .now) (c .before .before .before .before .before .before .args .number) (c .before .before .reading .given .0 .0) (c .before .before .reading .given .0 .1 .0) (ap answerOfReading (sym (c .before .before .reading .given .1)) ∙ c .before .before .before .before .read .ensures) (omega arith)
+
+returns-3 : tie.Need-returns-3
+returns-3 c =
+    step-above (c .before .before .before .before .before .before .before .args .timetable .now) (c .before .before .before .before .before .before .before .args .number) (c .before .before .before .reading .given .0 .0) (c .before .before .before .reading .given .0 .1 .0) (ap answerOfReading (sym (c .before .before .before .reading .given .1)) ∙ c .before .before .before .before .before .read .ensures) (omega arith)
+
+returns-4 : tie.Need-returns-4
+returns-4 c =
+    step-there (c .before .before .before .before .before .before .before .args .timetable .now) (c .before .before .before .before .before .before .before .args .number) (c .before .before .before .reading .given .0 .0) (c .before .before .before .reading .given .0 .1 .0) (ap answerOfReading (sym (c .before .before .before .reading .given .1)) ∙ c .before .before .before .before .before .read .ensures) (c .before .if1 .left) (omega arith)
+
+pub read-number-spec : {M : Type 1} → statement M
+read-number-spec =
+    tie.close
+    (tie.spec read-requires enum-known-reading enum-told returns returns-2 returns-3 returns-4)

@@ -1,0 +1,119 @@
+-- `timetable::read_steps` meets its contract. The loop's invariant: what is left to judge decides, given the moves and the pads so far. A
+-- step is at least as long as it has moves, so the moves are at most the bytes. Assumes nothing.
+use mathlib.Core.Path.{refl, sym, ap, _∙_}
+use mathlib.Core.Bool.{Bool, _||_}
+use mathlib.Core.Logic.{⊎-elim}
+use lib.ListN.{getD}
+use Rattle.timetable.specs.Timetable.{stepLength}
+use Prim.Native.Nat.{_≤_, _-_}
+use native.Mathlib.Omega.{arith}
+use borrow.Author.Needs.{needs}
+use lib.ListN.{length}
+use Rattle.timetable.proofs.Reading.{Left, left-first, remembered, kept, past, runs-past, part-length, left-next, left-over, pads-set, left-none}
+use Rattle.timetable.proofs.read_steps.Statement.{statement}
+use Rattle.timetable.proofs.read_steps.Tie as tie
+
+abbrev Inv-loop : tie.InvT-loop
+Inv-loop timetable count at₀ moves₀ seen₀ i₀ at moves seen i = (i ≤ count) × (moves ≤ at) × (at ≤ length timetable) × Left timetable count at moves seen i
+
+abbrev μ-loop : tie.MeasureT-loop
+μ-loop timetable count at₀ moves₀ seen₀ i₀ at moves seen i = count - i
+
+loop-holds : tie.Need-loop-holds Inv-loop μ-loop
+loop-holds c = (omega arith, omega arith, omega arith, left-first _ _)
+
+returns : tie.Need-returns Inv-loop μ-loop
+returns c =
+    past (c .before .before .before .before .args .timetable .now) (c .before .before .before .before .args .count) (c .before .before .loop .at) (c .before .before .loop .moves) (c .before .before .loop .pad-seen) (c .before .before .loop .i) (c .before .before .loop .inv .3) (omega arith) (omega arith)
+
+shared-slice-read-c : tie.Need-shared-slice-read-c Inv-loop μ-loop
+shared-slice-read-c c = omega arith
+
+step-length-requires : tie.Need-step-length-requires Inv-loop μ-loop
+step-length-requires c κs = search needs
+
+sub-if2 : tie.Need-sub-if2 Inv-loop μ-loop
+sub-if2 c = omega arith
+
+returns-2 : tie.Need-returns-2 Inv-loop μ-loop
+returns-2 c =
+    runs-past (c .before .before .before .before .before .before .before .args .timetable .now) (c .before .before .before .before .before .before .before .args .count) (c .before .before .before .before .before .loop .at) (c .before .before .before .before .before .loop .moves) (c .before .before .before .before .before .loop .pad-seen) (c .before .before .before .before .before .loop .i) (c .before .before .before .before .before .loop .inv .3) (omega arith) (getD (c .before .before .before .before .before .before .before .args .timetable .now) (c .before .before .before .before .before .loop .at) 0) (c .before .step-length .result) refl (c .before .step-length .ensures .size-is) (omega arith) (omega arith)
+
+add-next : tie.Need-add-next Inv-loop μ-loop
+add-next c = omega arith
+
+sub-pad-set : tie.Need-sub-pad-set Inv-loop μ-loop
+sub-pad-set c = omega arith
+
+part-pad-set-start : tie.Need-part-pad-set-start Inv-loop μ-loop
+part-pad-set-start c = omega arith
+
+part-pad-set-end : tie.Need-part-pad-set-end Inv-loop μ-loop
+part-pad-set-end c = omega arith
+
+pad-set-requires : tie.Need-pad-set-requires Inv-loop μ-loop
+pad-set-requires c κs =
+    part-length (c .before .before .before .before .before .before .before .before .args .timetable .now) (c .before .before .before .before .before .before .before .before .args .count) (c .before .before .before .before .before .before .loop .at) (c .before .before .before .before .before .before .loop .moves) (c .before .before .before .before .before .before .loop .pad-seen) (c .before .before .before .before .before .before .loop .i) (c .before .before .before .before .before .before .loop .inv .3) (omega arith) (getD (c .before .before .before .before .before .before .before .before .args .timetable .now) (c .before .before .before .before .before .before .loop .at) 0) (c .before .before .step-length .result) refl (c .before .before .step-length .ensures .size-is) (omega arith) (omega arith)
+
+wide-requires : tie.Need-wide-requires Inv-loop μ-loop
+wide-requires c κs = search needs
+
+add-moves : tie.Need-add-moves Inv-loop μ-loop
+add-moves c = omega arith
+
+add-i : tie.Need-add-i Inv-loop μ-loop
+add-i c = omega arith
+
+loop-less : tie.Need-loop-less Inv-loop μ-loop
+loop-less c = omega arith
+
+loop-again : tie.Need-loop-again Inv-loop μ-loop
+loop-again c = (
+  omega arith,
+  omega arith,
+  omega arith,
+  left-next (c .before .before .before .before .before .before .before .before .before .before .before .args .timetable .now) (c .before .before .before .before .before .before .before .before .before .before .before .args .count) (c .before .before .before .before .before .before .before .before .before .loop .at) (c .before .before .before .before .before .before .before .before .before .loop .moves) (c .before .before .before .before .before .before .before .before .before .loop .pad-seen) (c .before .before .before .before .before .before .before .before .before .loop .i) (c .before .before .before .before .before .before .before .before .before .loop .inv .3) (omega arith) (c .wide .result) (c .before .before .before .before .before .step-length .result) (c .wide .ensures .0) (c .before .before .before .before .before .step-length .ensures .size-is ∙ ap stepLength (sym (c .wide .ensures .0))) (omega arith) (omega arith) (c .before .if3 .pad-seen)
+      (⊎-elim
+      (λ w. remembered _ (c .before .before .before .before .before .before .before .before .before .loop .pad-seen) (c .before .before .pad-set .result) (w .1) (w .0 .taken))
+      (λ w. kept _ (c .before .before .before .before .before .before .before .before .before .loop .pad-seen) (c .before .before .pad-set .result) (w .1) (w .0 .left))
+      (c .before .if3 .came)
+      ∙ ap (λ (b : Bool). c .before .before .before .before .before .before .before .before .before .loop .pad-seen || b) (c .before .before .pad-set .ensures)),
+)
+
+returns-3 : tie.Need-returns-3 Inv-loop μ-loop
+returns-3 c =
+    left-over (c .before .before .before .before .args .timetable .now) (c .before .before .before .before .args .count) (c .before .before .loop .at) (c .before .before .loop .moves) (c .before .before .loop .pad-seen) (c .before .before .loop .i) (c .before .before .loop .inv .3) (omega arith) (omega arith)
+
+returns-4 : tie.Need-returns-4 Inv-loop μ-loop
+returns-4 c =
+    pads-set (c .before .before .before .before .before .args .timetable .now) (c .before .before .before .before .before .args .count) (c .before .before .before .loop .at) (c .before .before .before .loop .moves) (c .before .before .before .loop .pad-seen) (c .before .before .before .loop .i) (c .before .before .before .loop .inv .3) (omega arith) (omega arith) (c .if5 .taken)
+
+returns-5 : tie.Need-returns-5 Inv-loop μ-loop
+returns-5 c =
+    left-none (c .before .before .before .before .before .args .timetable .now) (c .before .before .before .before .before .args .count) (c .before .before .before .loop .at) (c .before .before .before .loop .moves) (c .before .before .before .loop .pad-seen) (c .before .before .before .loop .i) (c .before .before .before .loop .inv .3) (omega arith) (omega arith) (c .if5 .left)
+
+pub read-steps-spec : {M : Type 1} → statement M
+read-steps-spec =
+    tie.close
+    (tie.spec
+    Inv-loop
+    μ-loop
+    loop-holds
+    returns
+    shared-slice-read-c
+    step-length-requires
+    sub-if2
+    returns-2
+    add-next
+    sub-pad-set
+    part-pad-set-start
+    part-pad-set-end
+    pad-set-requires
+    wide-requires
+    add-moves
+    add-i
+    loop-less
+    loop-again
+    returns-3
+    returns-4
+    returns-5)

@@ -1,0 +1,66 @@
+-- `timetable::step` meets its contract: `StepReader` has the part that is given back. Assumes nothing.
+use native.Mathlib.Omega.{arith}
+use mathlib.Core.Path.{sym, ap, _∙_}
+use Rattle.timetable.specs.Reading.{answerOfStep}
+use Rattle.timetable.proofs.StepReader.{part-given}
+use Rattle.timetable.specs.HandedOut.{given-none, end-within}
+use borrow.Author.Needs.{needs}
+use Rattle.timetable.proofs.step.Statement.{statement}
+use Rattle.timetable.proofs.step.Tie as tie
+
+find-step-requires : tie.Need-find-step-requires
+find-step-requires c κs = search needs
+
+enum-known-found : tie.Need-enum-known-found
+enum-known-found c = search needs
+
+enum-told : tie.Need-enum-told
+enum-told c = search needs
+
+sub-result : tie.Need-sub-result
+sub-result c = search needs
+
+part-result-start : tie.Need-part-result-start
+part-result-start c = search needs
+
+part-result-end : tie.Need-part-result-end
+part-result-end c = search needs
+
+returns : tie.Need-returns
+returns c =
+    sym (given-none (c .before .before .before .before .before .args .timetable .now) (c .before .before .before .before .before .args .number) _ _ (sym (c .before .before .before .find-step .ensures) ∙ ap answerOfStep (c .before .enum-told .given .1)))
+
+add-end : tie.Need-add-end
+add-end c =
+    omega (arith, end-within (c .before .before .before .before .before .args .timetable .now) (c .before .before .before .before .before .args .number) (c .before .found .given .0 .0) (c .before .found .given .0 .1 .0) (sym (c .before .before .before .find-step .ensures) ∙ ap answerOfStep (c .before .found .given .1)))
+
+sub-result-2 : tie.Need-sub-result-2
+sub-result-2 c = search needs
+
+part-result-start-2 : tie.Need-part-result-start-2
+part-result-start-2 c = search needs
+
+part-result-end-2 : tie.Need-part-result-end-2
+part-result-end-2 c =
+    end-within (c .before .before .before .before .before .args .timetable .now) (c .before .before .before .before .before .args .number) (c .before .found .given .0 .0) (c .before .found .given .0 .1 .0) (sym (c .before .before .before .find-step .ensures) ∙ ap answerOfStep (c .before .found .given .1))
+
+returns-2 : tie.Need-returns-2
+returns-2 c =
+    part-given (c .before .before .before .before .before .before .args .timetable .now) (c .before .before .before .before .before .before .args .number) (c .before .before .found .given .0 .0) (c .before .before .found .given .0 .1 .0) (sym (c .before .before .before .before .find-step .ensures) ∙ ap answerOfStep (c .before .before .found .given .1))
+
+pub step-spec : {M : Type 1} → statement M
+step-spec =
+    tie.close
+    (tie.spec
+    find-step-requires
+    enum-known-found
+    enum-told
+    sub-result
+    part-result-start
+    part-result-end
+    returns
+    add-end
+    sub-result-2
+    part-result-start-2
+    part-result-end-2
+    returns-2)

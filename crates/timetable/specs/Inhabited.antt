@@ -1,0 +1,159 @@
+-- Inhabitants: each hypothesis of the laws of timetables holds of something, computed on document 01's case book.
+--
+--     timetable₁, steps₁             the timetable of the first case, 00 00 08 02 00 10 C2 02 04 30 80, and its steps
+--     parts₁, moves₁, record₁        its parts, its steps read and its steps written
+--     bytes₁, packable₁, packed₁     it is a byte string, its steps can be packed, and neither 40 nor 41 applies
+--     string₁                        each of its bytes is below 256, as a lent slice has it
+--     second-stands, second-part     after one step what is left begins at byte 7, with a part that is a step
+--     reading₁                       the reading's counts
+--     step-zero, .., step-three      the step reader's answers for 0, 1, 2 and 3; step 2 is 02 04 30 80 at offset 7
+--     second-given, none-given       the part of step 2, and the empty part of step 3
+--     cut-short, .., pad-bit         40 and 41, each by the damage that meets it
+--     answer₁                        the first case: accepted, 2 steps and 4 moves
+--     ring-turned, swapped           the third case: a full ring turned, and two neighbours exchanged, are 42, step 1
+-- Assumes nothing.
+use Prim.Native.Nat.{ℕ}
+use mathlib.Core.Path.{_≡_, refl}
+use mathlib.Core.List.{List, [], _∷_}
+use lib.Dec.{lit<, lit≤}
+use Rattle.answers.specs.Answer.{accepted, refused}
+use Rattle.field.specs.Bits.{bits, number, bitsOf, field, positions, pairs, pairBits, pad, padded, bytes, toBytes}
+use Rattle.field.specs.BitLaws.{Bytes, none, more}
+use Rattle.field.specs.RecordLaws.{none₂, more₂}
+use Rattle.field.specs.WholeBytes.{below-each}
+use Rattle.field.specs.Units.{unitsLength, misfits, unclean}
+use Rattle.order.specs.Floor.{isPair, among, joined}
+use Rattle.order.specs.Order.{positionCount, edgeCount, rackCount, unitCount, floorOf, startsOf, goalsOf, orderOf, wrongLength, wrongPositions, paddingSet, some, badEdge, precedes, ascending, wrongEdges, repeats, wrongPlaces, wrongRacks, counts, orderAnswer}
+use Rattle.motion.specs.Arrangement.{occupied, vacant}
+use Rattle.motion.specs.Move.{onFloor, goesTo, after}
+use Rattle.motion.specs.Step.{every, ascends, leaves, enters, enteredOnce, led, legalStep}
+use Rattle.motion.specs.Replay.{replayFrom, replaySteps}
+use Rattle.motion.specs.Judgement.{misplaced, judged}
+use Rattle.timetable.specs.Timetable.{stepBits, allStepBits, timetableBits, timetableRecord, stepLength, stepCount, wrongSteps, stepParts, partsOf, wrongTimetableLength, stepPadSet, timetablePaddingSet, stepMoves, stepsOf, total, timetableAnswer, lengthOf, offset, stepPart, stepAnswer}
+use Rattle.timetable.specs.Reading.{readingAnswer, WellPacked, partGiven}
+use Rattle.timetable.specs.ReadingLaws.{Stands, stands-at}
+use Rattle.timetable.specs.SizeLaws.{ByteString}
+use Rattle.timetable.specs.StepRecord.{Part}
+use Rattle.timetable.specs.TimetableRecord.{no-steps, one-step, Packable}
+
+abbrev pub timetable₁ : List ℕ
+timetable₁ = 0x00 ∷ 0x00 ∷ 0x08 ∷ 0x02 ∷ 0x00 ∷ 0x10 ∷ 0xC2 ∷ 0x02 ∷ 0x04 ∷ 0x30 ∷ 0x80 ∷ []
+
+abbrev pub steps₁ : List (List (ℕ × ℕ))
+steps₁ = ((0, 1) ∷ (3, 2) ∷ []) ∷ ((1, 3) ∷ (2, 0) ∷ []) ∷ []
+
+pub parts₁ : partsOf timetable₁ ≡ (0x02 ∷ 0x00 ∷ 0x10 ∷ 0xC2 ∷ []) ∷ (0x02 ∷ 0x04 ∷ 0x30 ∷ 0x80 ∷ []) ∷ []
+unfolding partsOf stepParts stepLength stepCount field number bitsOf bits
+parts₁ = refl
+
+pub moves₁ : stepsOf timetable₁ ≡ steps₁
+unfolding stepsOf stepMoves pairs partsOf stepParts stepLength stepCount field number bitsOf bits
+moves₁ = refl
+
+pub record₁ : timetableRecord steps₁ ≡ timetable₁
+unfolding timetableRecord timetableBits allStepBits stepBits pairBits padded pad toBytes bytes number bits
+record₁ = refl
+
+pub bytes₁ : Bytes timetable₁
+bytes₁ =
+    more (lit< tt) (more (lit< tt) (more (lit< tt) (more (lit< tt) (more (lit< tt) (more (lit< tt)
+    (more (lit< tt) (more (lit< tt) (more (lit< tt) (more (lit< tt) (more (lit< tt) none))))))))))
+
+pub packable₁ : Packable steps₁
+packable₁ = record {
+  few-steps = lit< tt;
+  steps-fit =
+      one-step (lit≤ tt) (more₂ (lit< tt) (lit< tt) (more₂ (lit< tt) (lit< tt) none₂))
+      (one-step (lit≤ tt) (more₂ (lit< tt) (lit< tt) (more₂ (lit< tt) (lit< tt) none₂)) no-steps);
+}
+
+pub packed₁ : WellPacked timetable₁
+unfolding wrongTimetableLength timetablePaddingSet wrongSteps some stepPadSet pad partsOf stepParts stepLength stepCount field number bitsOf bits
+packed₁ = record { length-right = refl; padding-clear = refl }
+
+pub string₁ : ByteString timetable₁
+string₁ = below-each (lit< tt) bytes₁
+
+pub second-stands : Stands timetable₁ 1 7
+unfolding lengthOf partsOf stepParts stepLength stepCount field number bitsOf bits
+second-stands = stands-at timetable₁ (packed₁ .length-right) 1 (lit≤ tt)
+
+pub second-part : Part (0x02 ∷ 0x04 ∷ 0x30 ∷ 0x80 ∷ [])
+unfolding stepLength stepPadSet pad field number bitsOf bits
+second-part = record { bytes-are = more (lit< tt) (more (lit< tt) (more (lit< tt) (more (lit< tt) none))); length-is = refl; pad-clear = refl }
+
+pub reading₁ : readingAnswer timetable₁ ≡ accepted (2 ∷ 4 ∷ [])
+unfolding readingAnswer total wrongTimetableLength timetablePaddingSet wrongSteps some stepPadSet pad partsOf stepParts stepLength stepCount field number bitsOf bits
+reading₁ = refl
+
+pub step-zero : stepAnswer timetable₁ 0 ≡ refused 45 0
+unfolding stepAnswer wrongTimetableLength timetablePaddingSet wrongSteps some stepPadSet pad partsOf stepParts stepLength stepCount field number bitsOf bits
+step-zero = refl
+
+pub step-one : stepAnswer timetable₁ 1 ≡ accepted (3 ∷ 4 ∷ [])
+unfolding stepAnswer offset lengthOf stepPart wrongTimetableLength timetablePaddingSet wrongSteps some stepPadSet pad partsOf stepParts stepLength stepCount field number bitsOf bits
+step-one = refl
+
+pub step-two : stepAnswer timetable₁ 2 ≡ accepted (7 ∷ 4 ∷ [])
+unfolding stepAnswer offset lengthOf stepPart wrongTimetableLength timetablePaddingSet wrongSteps some stepPadSet pad partsOf stepParts stepLength stepCount field number bitsOf bits
+step-two = refl
+
+pub step-three : stepAnswer timetable₁ 3 ≡ refused 45 0
+unfolding stepAnswer wrongTimetableLength timetablePaddingSet wrongSteps some stepPadSet pad partsOf stepParts stepLength stepCount field number bitsOf bits
+step-three = refl
+
+pub second-given : partGiven timetable₁ 2 ≡ 0x02 ∷ 0x04 ∷ 0x30 ∷ 0x80 ∷ []
+unfolding partGiven stepAnswer offset lengthOf stepPart wrongTimetableLength timetablePaddingSet wrongSteps some stepPadSet pad partsOf stepParts stepLength stepCount field number bitsOf bits
+second-given = refl
+
+pub none-given : partGiven timetable₁ 3 ≡ []
+unfolding partGiven stepAnswer wrongTimetableLength timetablePaddingSet wrongSteps some stepPadSet pad partsOf stepParts stepLength stepCount field number bitsOf bits
+none-given = refl
+
+-- 40, by a byte too few and by a byte too many: the last step runs past the end, a byte is left over
+pub cut-short : readingAnswer (0x00 ∷ 0x00 ∷ 0x04 ∷ 0x02 ∷ 0x00 ∷ 0x10 ∷ []) ≡ refused 40 0
+unfolding readingAnswer wrongTimetableLength wrongSteps stepLength stepCount field number bitsOf bits
+cut-short = refl
+
+pub left-over : readingAnswer (0x00 ∷ 0x00 ∷ 0x04 ∷ 0x02 ∷ 0x00 ∷ 0x10 ∷ 0xC2 ∷ 0x00 ∷ []) ≡ refused 40 0
+unfolding readingAnswer wrongTimetableLength wrongSteps stepLength stepCount field number bitsOf bits
+left-over = refl
+
+-- 41, by a spare bit of the head and by a pad bit of a step of one move
+pub spare-bit : readingAnswer (0x00 ∷ 0x00 ∷ 0x05 ∷ 0x00 ∷ []) ≡ refused 41 0
+unfolding readingAnswer wrongTimetableLength timetablePaddingSet wrongSteps some stepPadSet pad partsOf stepParts stepLength stepCount field number bitsOf bits
+spare-bit = refl
+
+pub pad-bit : readingAnswer (0x00 ∷ 0x00 ∷ 0x04 ∷ 0x01 ∷ 0x00 ∷ 0x11 ∷ []) ≡ refused 41 0
+unfolding readingAnswer wrongTimetableLength timetablePaddingSet wrongSteps some stepPadSet pad partsOf stepParts stepLength stepCount field number bitsOf bits
+pad-bit = refl
+
+-- the order of document 01, "Programs": on F, racks at 0 and 3 with goals 3 and 0
+abbrev pub order₁ : List ℕ
+order₁ = 0x08 ∷ 0x0A ∷ 0x08 ∷ 0x00 ∷ 0x10 ∷ 0x02 ∷ 0x04 ∷ 0x20 ∷ 0x43 ∷ 0x08 ∷ 0x30 ∷ 0x03 ∷ 0x0C ∷ 0x00 ∷ []
+
+-- "On F, racks at 0, 1, 2: a first step 0>1, 1>2, 2>0", with the goals that it would reach
+abbrev pub ringOrder : List ℕ
+ringOrder = 0x08 ∷ 0x0A ∷ 0x0C ∷ 0x00 ∷ 0x10 ∷ 0x02 ∷ 0x04 ∷ 0x20 ∷ 0x43 ∷ 0x08 ∷ 0x30 ∷ 0x01 ∷ 0x08 ∷ 0x10 ∷ 0x80 ∷ []
+
+abbrev pub ringTimetable : List ℕ
+ringTimetable = 0x00 ∷ 0x00 ∷ 0x04 ∷ 0x03 ∷ 0x00 ∷ 0x10 ∷ 0x42 ∷ 0x08 ∷ 0x00 ∷ []
+
+-- "A first step 0>1, 1>0", with the goals that it would reach
+abbrev pub swapOrder : List ℕ
+swapOrder = 0x08 ∷ 0x0A ∷ 0x0C ∷ 0x00 ∷ 0x10 ∷ 0x02 ∷ 0x04 ∷ 0x20 ∷ 0x43 ∷ 0x08 ∷ 0x30 ∷ 0x01 ∷ 0x08 ∷ 0x10 ∷ 0x02 ∷ []
+
+abbrev pub swapTimetable : List ℕ
+swapTimetable = 0x00 ∷ 0x00 ∷ 0x04 ∷ 0x02 ∷ 0x00 ∷ 0x10 ∷ 0x40 ∷ []
+
+pub answer₁ : timetableAnswer order₁ timetable₁ ≡ accepted (2 ∷ 4 ∷ [])
+unfolding timetableAnswer judged misplaced replaySteps replayFrom legalStep every ascends leaves enters enteredOnce led occupied vacant onFloor goesTo after joined among isPair orderAnswer counts wrongRacks wrongPlaces repeats wrongEdges ascending precedes badEdge paddingSet wrongPositions wrongLength unitCount floorOf startsOf goalsOf orderOf positionCount edgeCount rackCount unclean misfits unitsLength positions total stepsOf stepMoves pairs wrongTimetableLength timetablePaddingSet wrongSteps some stepPadSet pad partsOf stepParts stepLength stepCount field number bitsOf bits
+answer₁ = refl
+
+pub ring-turned : timetableAnswer ringOrder ringTimetable ≡ refused 42 1
+unfolding timetableAnswer judged misplaced replaySteps replayFrom legalStep every ascends leaves enters enteredOnce led occupied vacant onFloor goesTo after joined among isPair orderAnswer counts wrongRacks wrongPlaces repeats wrongEdges ascending precedes badEdge paddingSet wrongPositions wrongLength unitCount floorOf startsOf goalsOf orderOf positionCount edgeCount rackCount unclean misfits unitsLength positions total stepsOf stepMoves pairs wrongTimetableLength timetablePaddingSet wrongSteps some stepPadSet pad partsOf stepParts stepLength stepCount field number bitsOf bits
+ring-turned = refl
+
+pub swapped : timetableAnswer swapOrder swapTimetable ≡ refused 42 1
+unfolding timetableAnswer judged misplaced replaySteps replayFrom legalStep every ascends leaves enters enteredOnce led occupied vacant onFloor goesTo after joined among isPair orderAnswer counts wrongRacks wrongPlaces repeats wrongEdges ascending precedes badEdge paddingSet wrongPositions wrongLength unitCount floorOf startsOf goalsOf orderOf positionCount edgeCount rackCount unclean misfits unitsLength positions total stepsOf stepMoves pairs wrongTimetableLength timetablePaddingSet wrongSteps some stepPadSet pad partsOf stepParts stepLength stepCount field number bitsOf bits
+swapped = refl

@@ -1,0 +1,68 @@
+-- The answers of the timetable's readers, from document 01, "Returned numbers" and "Shape of the answers": 40 and 41, which the timetable
+-- checker and the step reader share, and the step that is handed out.
+--
+--     StepSize c n           n is the length in bytes of a step of c moves, which a count byte keeps below 385
+--     stepsAnswer k t        40 and 41 of the k steps of t alone
+--     readingAnswer s        40 and 41 of the timetable s; accepted, the counts are s and the sum of the bytes c
+--     WellPacked s           neither 40 nor 41 applies to s
+--     moveCount l            the moves of the steps l, in all
+--     numberAnswer s i       what the reading refused, else 45
+--     partGiven s i          the part that the step reader gives back: the step, or the empty part where the step is refused
+--     answerOfReading r      the verdict r on a timetable's structure as an answer
+--     answerOfStep r         the step reader's verdict r as an answer
+-- Assumes nothing.
+use Prim.Native.Nat.{ℕ, _+_, _≤_}
+use mathlib.Core.Path.{_≡_}
+use mathlib.Core.Bool.{false, _||_}
+use mathlib.Core.List.{List, [], _∷_}
+use lib.ListN.{length}
+use lib.Dec.{ltb, eqb}
+use Rattle.answers.specs.Answer.{Answer, accepted, refused, refuse, refusedBy, passUp}
+use Rattle.order.specs.Order.{some}
+use Rattle.timetable.specs.Timetable.{stepLength, wrongSteps, stepParts, stepPadSet, total, partsOf, stepCount, wrongTimetableLength, timetablePaddingSet, stepAnswer, stepPart}
+use Rattle.timetable.specs.declared.TimetableReading.{TimetableReading}
+use Rattle.timetable.specs.declared.TimetableReading.the-variants.{Accepted, Refused}
+use Rattle.timetable.specs.declared.StepVerdict.{StepVerdict}
+use Rattle.timetable.specs.declared.StepVerdict.the-variants.{Found, Refused as StepRefused}
+
+pub record StepSize (c n : ℕ) : Type 0 where
+  pub size-is : n ≡ stepLength c
+  pub some-bytes : 1 ≤ n
+  pub moves-within : c ≤ n
+  pub few-bytes : n ≤ 384
+
+unfoldable pub stepsAnswer : ℕ → List ℕ → Answer
+stepsAnswer k t =
+    refuse (wrongSteps k t) 40 0 (refuse (some stepPadSet (stepParts k t)) 41 0 (accepted (k ∷ total (stepParts k t) ∷ [])))
+
+unfoldable pub readingAnswer : List ℕ → Answer
+readingAnswer s =
+    refuse (wrongTimetableLength s) 40 0 (refuse (timetablePaddingSet s) 41 0 (accepted (stepCount s ∷ total (partsOf s) ∷ [])))
+
+pub record WellPacked (s : List ℕ) : Type 0 where
+  pub length-right : wrongTimetableLength s ≡ false
+  pub padding-clear : timetablePaddingSet s ≡ false
+
+unfoldable pub moveCount : List (List (ℕ × ℕ)) → ℕ
+moveCount [] = 0
+moveCount (ms ∷ l) = length ms + moveCount l
+
+unfoldable pub numberAnswer : List ℕ → ℕ → Answer
+numberAnswer s i = passUp (readingAnswer s) (refuse (eqb i 0 || ltb (stepCount s) i) 45 0 (readingAnswer s))
+
+-- the part p where the answer is accepted
+abbrev pub givenBy : Answer → List ℕ → List ℕ
+givenBy (accepted counts) p = p
+givenBy (refused number place) p = []
+
+-- "Reading one step gives back that part of the lent timetable itself, its count byte first and its pad last."
+unfoldable pub partGiven : List ℕ → ℕ → List ℕ
+partGiven s i = givenBy (stepAnswer s i) (stepPart s i)
+
+abbrev pub answerOfReading : TimetableReading → Answer
+answerOfReading (Accepted steps moves) = accepted (steps ∷ moves ∷ [])
+answerOfReading (Refused f place) = refusedBy f place
+
+abbrev pub answerOfStep : StepVerdict → Answer
+answerOfStep (Found offset len) = accepted (offset ∷ len ∷ [])
+answerOfStep (StepRefused f place) = refusedBy f place
