@@ -5,22 +5,22 @@ use Rattle.answers.proofs.family_word.Statement.{statement}
 use Rattle.answers.proofs.family_word.Tie as tie
 
 returns : tie.Need-returns
-returns c = word-order (c .before .before .args .number) (omega arith) (omega arith)
+returns c = (word-order (c .before .before .args .number) (omega arith) (omega arith), omega arith)
 
 returns-2 : tie.Need-returns-2
-returns-2 c = word-floor (c .before .before .before .args .number) (omega arith) (omega arith)
+returns-2 c = (word-floor (c .before .before .before .args .number) (omega arith) (omega arith), omega arith)
 
 returns-3 : tie.Need-returns-3
-returns-3 c = word-plan (c .before .before .before .before .args .number) (omega arith) (omega arith)
+returns-3 c = (word-plan (c .before .before .before .before .args .number) (omega arith) (omega arith), omega arith)
 
 returns-4 : tie.Need-returns-4
-returns-4 c = word-timetable (c .before .before .before .before .before .args .number) (omega arith) (omega arith)
+returns-4 c = (word-timetable (c .before .before .before .before .before .args .number) (omega arith) (omega arith), omega arith)
 
 returns-5 : tie.Need-returns-5
-returns-5 c = word-under (c .before .args .number) (omega arith)
+returns-5 c = (word-under (c .before .args .number) (omega arith), omega arith)
 
 returns-6 : tie.Need-returns-6
-returns-6 c = word-over (c .before .before .before .before .before .args .number) (omega arith)
+returns-6 c = (word-over (c .before .before .before .before .before .args .number) (omega arith), omega arith)
 
 pub family-word-spec : {M : Type 1} → statement M
 family-word-spec = tie.close (tie.spec returns returns-2 returns-3 returns-4 returns-5 returns-6)
