@@ -1,3 +1,4 @@
 pub mod Decimal
 pub mod Loops
 pub mod Counts
+pub mod Passing

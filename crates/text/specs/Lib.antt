@@ -1,5 +1,7 @@
 pub mod Writing
 pub mod Text
 pub mod TextLaws
+pub mod Sizes
+pub mod Front
 pub mod Split
 pub mod Examples

@@ -13,6 +13,7 @@ ghost use Rattle.timetable.specs.Reading.{WellPacked};
 ghost use Rattle.text.specs.Writing.{Fits, Wrote};
 ghost use Rattle.text.specs.Text.{decimal, moveText, movesText, stepLine, stepLines, firstLine, timetableText, refusalLine};
 ghost use Rattle.text.specs.Split.{orderEnd};
+ghost use Rattle.text.specs.Front.{recordEnd};
 
 fn put_byte(byte: u8, out: &mut [u8], at: usize) -> usize
     requires { ⌜ Fits (now out) at (byte ∷ []) ⌝ }
@@ -162,4 +163,19 @@ pub fn order_end(input: &[u8]) -> usize
         return input.len();
     }
     end
+}
+
+// Where the timetable at the front of a buffer ends.
+pub fn record_end(buffer: &[u8]) -> usize
+    requires { ⌜ recordEnd (now buffer) ≤ length (now buffer) ⌝ }
+    ensures { λ r. ⌜ r ≡ recordEnd (now (buffer .entry)) ⌝ }
+{
+    let count = field::count_at_head(buffer);
+    let mut at = 3;
+    let mut i = 0;
+    while i < count {
+        at += timetable::step_length(buffer[at]);
+        i += 1;
+    }
+    at
 }
