@@ -60,6 +60,12 @@ static inline size_t wichteab_order_length(const uint8_t *order)
     return 3 + (3 * (edges + racks) + 1) / 2;
 }
 
+/* The length of a plan of so many moves. */
+static inline size_t wichteab_plan_length(uint32_t moves)
+{
+    return 3 + (3 * (size_t)moves + 1) / 2;
+}
+
 /*
  * Answers
  *
@@ -126,6 +132,36 @@ static inline const char *wichteab_family(uint32_t number)
     }
 }
 
+/* Of wichteab_plan_check or wichteab_plan_make, accepted: the plan's moves. */
+static inline uint32_t wichteab_plan_moves(uint64_t answer)
+{
+    return (uint32_t)(answer >> 8);
+}
+
+/* Of wichteab_timetable_check or wichteab_timetable_make, accepted: the timetable's steps. */
+static inline uint32_t wichteab_timetable_steps(uint64_t answer)
+{
+    return (uint32_t)(answer >> 8 & 0x3FFFFF);
+}
+
+/* Of wichteab_timetable_check, accepted: the moves of all steps. */
+static inline uint32_t wichteab_timetable_moves(uint64_t answer)
+{
+    return (uint32_t)(answer >> 30);
+}
+
+/* Of wichteab_timetable_step, accepted: the step's first byte, as an offset in the timetable. */
+static inline size_t wichteab_step_offset(uint64_t answer)
+{
+    return (size_t)(answer >> 24);
+}
+
+/* Of wichteab_timetable_step, accepted: the step's length in bytes. */
+static inline size_t wichteab_step_length(uint64_t answer)
+{
+    return (size_t)(answer >> 8 & 0xFFFF);
+}
+
 /*
  * Functions
  */
@@ -137,6 +173,41 @@ static inline const char *wichteab_family(uint32_t number)
  * Time in proportion to the length that the order's counts give, at most 576 bytes.
  */
 uint64_t wichteab_order_check(const uint8_t *order, size_t order_length);
+
+/*
+ * wichteab_plan_check: does this plan bring every rack of the order to its goal?
+ *
+ * Takes an order, on a floor of any shape, and a plan; both are only read. A move is legal if both positions
+ * are below n, an edge joins them, the first holds a rack and the second is vacant. Accepted: every move is
+ * legal at its turn, after the last one every rack stands at its goal, and wichteab_plan_moves gives the
+ * number of moves. Refused: 10 to 14 and 30 to 33; the place of 32 is the move, that of 33 the rack.
+ */
+uint64_t wichteab_plan_check(const uint8_t *order, size_t order_length, const uint8_t *plan,
+                             size_t plan_length);
+
+/*
+ * wichteab_timetable_check: does this timetable bring every rack of the order to its goal?
+ *
+ * Takes an order, on a floor of any shape, and a timetable; both are only read. A step is legal if its moves
+ * ascend strictly by position left; both positions of each are below n and joined by an edge; each position
+ * left holds a rack; no position is entered twice; and each move belongs to a train with a leader: followed
+ * from rack to rack, its chain ends at a move into a position that was vacant before the step. Accepted:
+ * every step is legal at its turn, after the last one every rack stands at its goal, and
+ * wichteab_timetable_steps and wichteab_timetable_moves give the counts. Refused: 10 to 14 and 40 to 43; the
+ * place of 42 is the step, that of 43 the rack.
+ */
+uint64_t wichteab_timetable_check(const uint8_t *order, size_t order_length, const uint8_t *timetable,
+                                  size_t timetable_length);
+
+/*
+ * wichteab_timetable_step: finds one step of a timetable.
+ *
+ * Takes a timetable, which is only read, and the number of a step, from 1. Accepted: wichteab_step_offset
+ * and wichteab_step_length give the part of the timetable that is this step, its count byte first and its
+ * pad last. No order is taken, so the step is not judged: wichteab_timetable_check does that. Refused: 40,
+ * 41 and 45, place 0. Time in proportion to the timetable's length.
+ */
+uint64_t wichteab_timetable_step(const uint8_t *timetable, size_t timetable_length, uint64_t number);
 
 #ifdef __cplusplus
 }

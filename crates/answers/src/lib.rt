@@ -1,6 +1,5 @@
 // The answers of the entry points: one fault for each number of document 01's table, its number, and its family word.
 ghost use mathlib.Core.Path.{_≡_};
-ghost use Prim.Native.Nat.{_≤_};
 ghost use lib.ListN.{length, take};
 ghost use Rattle.answers.specs.Answer.{numberOf};
 ghost use Rattle.answers.specs.Family.{familyWord};
@@ -82,7 +81,7 @@ pub struct Word {
 
 // The family word of a refusal number.
 pub fn family_word(number: u64) -> Word
-    ensures { λ r. ⌜ (take (r .len) (r .bytes) ≡ familyWord number) × (r .len ≤ length (r .bytes)) ⌝ }
+    ensures { λ r. ⌜ (r .len ≡ length (familyWord number)) × (take (r .len) (r .bytes) ≡ familyWord number) ⌝ }
 {
     match number {
         10..=19 => Word {

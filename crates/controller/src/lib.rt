@@ -2,10 +2,15 @@
 // returns one number; none changes a byte that it was lent to read.
 use answers::Fault;
 use order::OrderVerdict;
+use plan::PlanVerdict;
+use timetable::StepVerdict;
+use timetable::TimetableVerdict;
 ghost use mathlib.Core.Path.{_≡_};
 ghost use Rattle.answers.specs.Answer.{refusedBy};
 ghost use Rattle.order.specs.Order.{orderAnswer};
-ghost use Rattle.controller.specs.Packed.{packed, nothing};
+ghost use Rattle.plan.specs.Plan.{planAnswer};
+ghost use Rattle.timetable.specs.Timetable.{timetableAnswer, stepAnswer};
+ghost use Rattle.controller.specs.Packed.{packed, nothing, oneCount, stepsAndMoves, lengthAndOffset};
 
 // A refusal as one number.
 fn refusal(fault: Fault, place: u32) -> u64
@@ -22,5 +27,39 @@ pub extern "C" fn wichteab_order_check(order: &[u8]) -> u64
     match order::read(order) {
         OrderVerdict::Accepted(_) => 0,
         OrderVerdict::Refused(fault, place) => refusal(fault, place),
+    }
+}
+
+// Judges a plan for an order by 10 to 14 and 30 to 33. Accepted, it gives the plan's moves.
+#[no_mangle]
+pub extern "C" fn wichteab_plan_check(order: &[u8], plan: &[u8]) -> u64
+    ensures { λ r. ⌜ r ≡ packed oneCount (planAnswer (now (order .entry)) (now (plan .entry))) ⌝ }
+{
+    match plan::check(order, plan) {
+        PlanVerdict::Accepted(moves) => (moves as u64) * 256,
+        PlanVerdict::Refused(fault, place) => refusal(fault, place),
+    }
+}
+
+// Judges a timetable for an order by 10 to 14 and 40 to 43. Accepted, it gives the timetable's steps and moves.
+#[no_mangle]
+pub extern "C" fn wichteab_timetable_check(order: &[u8], timetable: &[u8]) -> u64
+    ensures { λ r. ⌜ r ≡ packed stepsAndMoves (timetableAnswer (now (order .entry)) (now (timetable .entry))) ⌝ }
+{
+    match timetable::check(order, timetable) {
+        TimetableVerdict::Accepted { steps, moves } => ((steps as u64) + (moves as u64) * 4194304)
+            * 256,
+        TimetableVerdict::Refused(fault, place) => refusal(fault, place),
+    }
+}
+
+// Finds a step of a timetable, judged by 40, 41 and 45. Accepted, it gives the step's length and where it begins.
+#[no_mangle]
+pub extern "C" fn wichteab_timetable_step(timetable: &[u8], number: u64) -> u64
+    ensures { λ r. ⌜ r ≡ packed lengthAndOffset (stepAnswer (now (timetable .entry)) number) ⌝ }
+{
+    match timetable::find_step(timetable, number as usize) {
+        StepVerdict::Found { offset, len } => ((len as u64) + (offset as u64) * 65536) * 256,
+        StepVerdict::Refused(fault, place) => refusal(fault, place),
     }
 }

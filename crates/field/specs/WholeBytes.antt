@@ -1,13 +1,11 @@
 -- Laws of runs of bits that are whole bytes: records that are put together of parts, each of which begins on a byte.
 --
---     bits-zero                        the bits of 0
 --     bitsOf-append                    the bits of two byte strings, one after the other
 --     padded-whole, padded-append      whole bytes have no pad
 --     toBytes-append                   whole bytes and what follows them, as byte strings
 --     toBytes-whole, length-whole      the bits and the length of a byte string of whole bytes
 --     below-getD, below-each, each-below    the numbers of a list one by one
 --     byte-field                       a byte is a field of 8 bits
---     pairBits-are, length-pairBits    the bits of a run of pairs
 -- Assumes nothing.
 use Prim.Native.Nat.{ℕ, zero, suc, _+_, _-_, _*_, _%_, _^_, _<_}
 use mathlib.Core.Path.{_≡_, refl, sym, ap, ap₂, _∙_}
@@ -18,11 +16,6 @@ use lib.ListN.{length, getD, replicate, length-append}
 use Rattle.field.specs.Bits.{bits, bitsOf, field, pairBits, pad, padded, toBytes}
 use Rattle.field.specs.BitLaws.{Below, none, more, Bits, Bytes, below-append, length-bits, bits-are, field-in-byte}
 use Rattle.field.specs.RecordLaws.{bitsOf-toBytes, length-toBytes, toBytes-are, toBytes-from}
-
-pub bits-zero : (w : ℕ) → bits w 0 ≡ replicate w 0
-unfolding bits
-bits-zero zero = refl
-bits-zero (suc w) = ap₂ (λ (b : ℕ) (l : List ℕ). (b % 2) ∷ l) (zero-div (2 ^ w)) (bits-zero w)
 
 pub bitsOf-append : (s t : List ℕ) → bitsOf (s ++ t) ≡ bitsOf s ++ bitsOf t
 unfolding bitsOf
@@ -79,16 +72,3 @@ byte-field {s} b k h =
     ∙ field-in-byte s k 0 8 0 h refl
     ∙ ap (λ (x : ℕ). x % 256) (div-one (getD s k 0))
     ∙ mod-eq-of-lt (below-getD b k h)
-
-pub pairBits-are : (l : List (ℕ × ℕ)) → Bits (pairBits l)
-unfolding pairBits
-pairBits-are [] = none
-pairBits-are (p ∷ l) = below-append (below-append (bits-are 6 (p .0)) (bits-are 6 (p .1))) (pairBits-are l)
-
-pub length-pairBits : (l : List (ℕ × ℕ)) → length (pairBits l) ≡ 12 * length l
-unfolding pairBits
-length-pairBits [] = refl
-length-pairBits (p ∷ l) =
-    length-append (bits 6 (p .0) ++ bits 6 (p .1)) (pairBits l)
-    ∙ ap₂ _+_ (length-append (bits 6 (p .0)) (bits 6 (p .1)) ∙ ap₂ _+_ (length-bits 6 (p .0)) (length-bits 6 (p .1))) (length-pairBits l)
-    ∙ omega arith

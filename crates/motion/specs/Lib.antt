@@ -3,6 +3,7 @@ pub mod Move
 pub mod Step
 pub mod Replay
 pub mod Judgement
+pub mod JudgementLaws
 pub mod Lawful
 pub mod Test
 pub mod ArrangementLaws

@@ -9,19 +9,16 @@ use Prim.Native.Nat.{ℕ, _+_, _-_, _*_, _/_, _≤_, _<_}
 use mathlib.Core.Path.{_≡_, refl, sym, ap, ap₂, _∙_}
 use mathlib.Core.Bool.{Bool, true, false, not, _||_, or-true}
 use mathlib.Core.List.{List, [], _∷_}
-use native.Mathlib.Omega.{arith}
-use native.Mathlib.Nat.{add-assoc}
-use lib.ListN.{length, take, drop, length-drop}
+use lib.ListN.{length, take, drop}
 use borrow.Author.Tests.{not-true, not-false}
 use Rattle.answers.specs.Answer.{Answer, accepted, refused, refuse, passUp}
 use Rattle.answers.specs.AnswerLaws.{refuse-not, refuse-else, passUp-low, passUp-high, passUp-accepted}
 use Rattle.field.specs.Bits.{field, pairs, positions}
 use Rattle.field.specs.BitLaws.{field-lt}
-use Rattle.field.specs.UnitLaws.{tail-units}
-use Rattle.field.specs.RecordLaws.{rest-is, pairs-drop, positions-drop}
 use Rattle.order.specs.Floor.{Floor}
-use Rattle.order.specs.Order.{positionCount, edgeCount, rackCount, unitCount, floorOf, startsOf, goalsOf, orderOf, counts, wrongLength, wrongPositions, paddingSet, wrongEdges, wrongPlaces, wrongRacks, orderAnswer}
+use Rattle.order.specs.Order.{positionCount, edgeCount, rackCount, floorOf, startsOf, goalsOf, orderOf, counts, wrongLength, wrongPositions, paddingSet, wrongEdges, wrongPlaces, wrongRacks, orderAnswer}
 use Rattle.order.specs.OrderLaws.{RightHead, right-head}
+use Rattle.order.specs.TailLaws
 use Rattle.order.specs.Readers.{headAnswer, edgesAnswer}
 
 -- what the head reader's acceptance with n, e and m tells
@@ -60,12 +57,11 @@ module _ (s : List ℕ) (n e m : ℕ) (gave : HeadGave s n e m) where
   tail-there = gave .head .fit .head-there
 
   pub tail-room : 12 * (e + m) ≤ 8 * length (take (length s - 3) (drop 3 s))
-  unfolding unitCount
-  tail-room = omega (arith, tail-units s (unitCount s) (gave .head .fit), gave .edges-are, gave .racks-are)
+  tail-room = TailLaws.tail-room s e m (gave .edges-are) (gave .racks-are) (gave .head .fit)
 
   floor-is : record { positions = n; edges = pairs (take (length s - 3) (drop 3 s)) 0 e } ≡ floorOf s
   unfolding floorOf
-  floor-is = rw (rest-is 3 s, ← pairs-drop s 3 0 e, gave .positions-are, gave .edges-are) refl
+  floor-is = λ i. record { positions = gave .positions-are i; edges = TailLaws.tail-edges s e m (gave .edges-are) (gave .racks-are) i }
 
   counts-are : n ∷ e ∷ m ∷ [] ≡ counts s
   unfolding counts
@@ -124,23 +120,9 @@ module _ (s : List ℕ) (n e m : ℕ) (a : accepted (n ∷ e ∷ m ∷ []) ≡ e
   over-edges : orderAnswer s ≡ refuse (wrongRacks (orderOf s)) 14 0 (accepted (counts s))
   over-edges = order-is s ∙ passUp-accepted (edgesAnswer s) (refuse (wrongRacks (orderOf s)) 14 0 (accepted (counts s))) (n ∷ e ∷ m ∷ []) (sym a)
 
-  -- the starts and the goals, read from the part that begins at the fourth byte
-  starts-are : positions (take (length s - 3) (drop 3 s)) (6 * (2 * e)) m ≡ startsOf s
-  unfolding startsOf
-  starts-are =
-      let at : 6 * (2 * e) ≡ 12 * edgeCount s = omega (arith, gave .edges-are) in
-      rw (rest-is 3 s, at, ← positions-drop s 3 (12 * edgeCount s) m, gave .racks-are) refl
-
-  goals-are : positions (take (length s - 3) (drop 3 s)) (6 * (2 * e + m)) m ≡ goalsOf s
-  unfolding goalsOf
-  goals-are =
-      let at : 6 * (2 * e + m) ≡ 12 * edgeCount s + 6 * rackCount s = omega (arith, gave .edges-are, gave .racks-are) in
-      rw (rest-is 3 s, at, ← positions-drop s 3 (12 * edgeCount s + 6 * rackCount s) m, gave .racks-are)
-      (ap (λ (i : ℕ). positions s i (rackCount s)) (sym (add-assoc 24 (12 * edgeCount s) (6 * rackCount s))))
-
   module _ (r : Bool) (t : r ≡ not (wrongPlaces n (positions (take (length s - 3) (drop 3 s)) (6 * (2 * e)) m))) where
     starts-test : r ≡ not (wrongPlaces (positionCount s) (startsOf s))
-    starts-test = t ∙ ap not (ap₂ wrongPlaces (gave .positions-are) starts-are)
+    starts-test = t ∙ ap not (ap₂ wrongPlaces (gave .positions-are) (TailLaws.tail-starts s e m (gave .edges-are) (gave .racks-are)))
 
     pub starts-wrong : r ≡ false → refused 14 0 ≡ orderAnswer s
     unfolding wrongRacks orderOf floorOf
@@ -148,7 +130,7 @@ module _ (s : List ℕ) (n e m : ℕ) (a : accepted (n ∷ e ∷ m ∷ []) ≡ e
 
     module _ (q : Bool) (u : q ≡ not (wrongPlaces n (positions (take (length s - 3) (drop 3 s)) (6 * (2 * e + m)) m))) where
       goals-test : q ≡ not (wrongPlaces (positionCount s) (goalsOf s))
-      goals-test = u ∙ ap not (ap₂ wrongPlaces (gave .positions-are) goals-are)
+      goals-test = u ∙ ap not (ap₂ wrongPlaces (gave .positions-are) (TailLaws.tail-goals s e m (gave .edges-are) (gave .racks-are)))
 
       pub goals-wrong : q ≡ false → refused 14 0 ≡ orderAnswer s
       unfolding wrongRacks orderOf floorOf

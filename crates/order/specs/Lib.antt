@@ -11,3 +11,4 @@ pub mod Written
 pub mod Theorems
 pub mod Readers
 pub mod Tables
+pub mod TailLaws

@@ -1,2 +1,5 @@
 pub mod Reading
 pub mod StepReader
+pub mod Turns
+pub mod Judging
+pub mod Layers

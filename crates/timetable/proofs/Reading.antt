@@ -23,7 +23,7 @@ use Rattle.field.specs.RecordLaws.{rest-is, up-to-byte}
 use Rattle.order.specs.Order.{some}
 use Rattle.timetable.specs.Timetable.{stepLength, wrongSteps, stepParts, stepPadSet, total, partsOf, stepCount, wrongTimetableLength, timetablePaddingSet}
 use Rattle.timetable.specs.Reading.{stepsAnswer, readingAnswer}
-use Rattle.timetable.specs.StepLaws.{partAt, nextAt, parts-next, parts-none, Room, wrong-past, wrong-short, wrong-next, wrong-left, right-end, length-partAt, head-partAt}
+use Rattle.timetable.specs.StepLaws.{partAt, nextAt, parts-next, parts-none, Room, wrong-past, wrong-short, wrong-next, wrong-left, right-end, head-partAt, cut-is, cut-length}
 
 module _ (p : List ℕ) (e : length p ≡ stepLength (getD p 0 0)) where
   pub pad-room : (c : ℕ) → c ≡ getD p 0 0 → 12 * c + pad (12 * c) ≤ 8 * length (take (length p - 1) (drop 1 p))
@@ -91,14 +91,8 @@ module _ (s : List ℕ) (k : ℕ) where
           count-is : c ≡ getD (partAt s at) 0 0
           count-is = ec ∙ sym (head-partAt s at)
 
-          -- the step as the part of the timetable that the code cuts out
-          pub part-is : take (at + n - at) (drop at s) ≡ partAt s at
-          part-is =
-              let e : at + n - at ≡ stepLength (getD s at 0) = omega (arith, size-is) in
-              ap (λ (m : ℕ). take m (drop at s)) e
-
           pub part-length : length (take (at + n - at) (drop at s)) ≡ stepLength (getD (take (at + n - at) (drop at s)) 0 0)
-          part-length = rw part-is (length-partAt s at room-there ∙ ap stepLength (sym (head-partAt s at)))
+          part-length = cut-length s at n size-is room-there
 
           pub left-next : (set : Bool) → set ≡ (seen || stepPadSet (take (at + n - at) (drop at s))) → Left s k (at + n) (moves + c) set (i + 1)
           unfolding total some
@@ -107,7 +101,7 @@ module _ (s : List ℕ) (k : ℕ) where
             moves-same =
                 rw (next-is, count-is) (add-assoc moves _ _ ∙ (rw (parts-next s at i k h) at (left .moves-same)));
             pads-same =
-                rw (e, part-is, next-is) (or-assoc seen _ _ ∙ (rw (parts-next s at i k h) at (left .pads-same)));
+                rw (e, cut-is s at n size-is, next-is) (or-assoc seen _ _ ∙ (rw (parts-next s at i k h) at (left .pads-same)));
           }
 
     module _ (h : k ≤ i) where

@@ -10,6 +10,8 @@
 --     second-given, none-given       the part of step 2, and the empty part of step 3
 --     cut-short, .., pad-bit         40 and 41, each by the damage that meets it
 --     answer₁                        the first case: accepted, 2 steps and 4 moves
+--     well-formed₁, accepted₁        its order is well formed, and what the acceptance means
+--     solution₁, only₁               its arrangements are a solution, and it is their one timetable
 --     ring-turned, swapped           the third case: a full ring turned, and two neighbours exchanged, are 42, step 1
 -- Assumes nothing.
 use Prim.Native.Nat.{ℕ}
@@ -23,11 +25,11 @@ use Rattle.field.specs.RecordLaws.{none₂, more₂}
 use Rattle.field.specs.WholeBytes.{below-each}
 use Rattle.field.specs.Units.{unitsLength, misfits, unclean}
 use Rattle.order.specs.Floor.{isPair, among, joined}
-use Rattle.order.specs.Order.{positionCount, edgeCount, rackCount, unitCount, floorOf, startsOf, goalsOf, orderOf, wrongLength, wrongPositions, paddingSet, some, badEdge, precedes, ascending, wrongEdges, repeats, wrongPlaces, wrongRacks, counts, orderAnswer}
+use Rattle.order.specs.Order.{positionCount, edgeCount, rackCount, unitCount, floorOf, startsOf, goalsOf, orderOf, wrongLength, wrongPositions, paddingSet, some, badEdge, precedes, ascending, wrongEdges, repeats, wrongPlaces, wrongRacks, counts, orderAnswer, WellFormed}
 use Rattle.motion.specs.Arrangement.{occupied, vacant}
 use Rattle.motion.specs.Move.{onFloor, goesTo, after}
 use Rattle.motion.specs.Step.{every, ascends, leaves, enters, enteredOnce, led, legalStep}
-use Rattle.motion.specs.Replay.{replayFrom, replaySteps}
+use Rattle.motion.specs.Replay.{replayFrom, replaySteps, trace}
 use Rattle.motion.specs.Judgement.{misplaced, judged}
 use Rattle.timetable.specs.Timetable.{stepBits, allStepBits, timetableBits, timetableRecord, stepLength, stepCount, wrongSteps, stepParts, partsOf, wrongTimetableLength, stepPadSet, timetablePaddingSet, stepMoves, stepsOf, total, timetableAnswer, lengthOf, offset, stepPart, stepAnswer}
 use Rattle.timetable.specs.Reading.{readingAnswer, WellPacked, partGiven}
@@ -35,6 +37,7 @@ use Rattle.timetable.specs.ReadingLaws.{Stands, stands-at}
 use Rattle.timetable.specs.SizeLaws.{ByteString}
 use Rattle.timetable.specs.StepRecord.{Part}
 use Rattle.timetable.specs.TimetableRecord.{no-steps, one-step, Packable}
+use Rattle.timetable.specs.Solutions.{SolutionOf, AcceptedTimetable, OnlyTimetable, timetable-solutions}
 
 abbrev pub timetable₁ : List ℕ
 timetable₁ = 0x00 ∷ 0x00 ∷ 0x08 ∷ 0x02 ∷ 0x00 ∷ 0x10 ∷ 0xC2 ∷ 0x02 ∷ 0x04 ∷ 0x30 ∷ 0x80 ∷ []
@@ -149,6 +152,21 @@ swapTimetable = 0x00 ∷ 0x00 ∷ 0x04 ∷ 0x02 ∷ 0x00 ∷ 0x10 ∷ 0x40 ∷ [
 pub answer₁ : timetableAnswer order₁ timetable₁ ≡ accepted (2 ∷ 4 ∷ [])
 unfolding timetableAnswer judged misplaced replaySteps replayFrom legalStep every ascends leaves enters enteredOnce led occupied vacant onFloor goesTo after joined among isPair orderAnswer counts wrongRacks wrongPlaces repeats wrongEdges ascending precedes badEdge paddingSet wrongPositions wrongLength unitCount floorOf startsOf goalsOf orderOf positionCount edgeCount rackCount unclean misfits unitsLength positions total stepsOf stepMoves pairs wrongTimetableLength timetablePaddingSet wrongSteps some stepPadSet pad partsOf stepParts stepLength stepCount field number bitsOf bits
 answer₁ = refl
+
+pub well-formed₁ : WellFormed order₁
+unfolding timetableAnswer judged misplaced replaySteps replayFrom legalStep every ascends leaves enters enteredOnce led occupied vacant onFloor goesTo after joined among isPair orderAnswer counts wrongRacks wrongPlaces repeats wrongEdges ascending precedes badEdge paddingSet wrongPositions wrongLength unitCount floorOf startsOf goalsOf orderOf positionCount edgeCount rackCount unclean misfits unitsLength positions total stepsOf stepMoves pairs wrongTimetableLength timetablePaddingSet wrongSteps some stepPadSet pad partsOf stepParts stepLength stepCount field number bitsOf bits
+well-formed₁ = record { length-right = refl; positions-right = refl; padding-clear = refl; edges-right = refl; racks-right = refl }
+
+pub accepted₁ : AcceptedTimetable order₁ timetable₁ (2 ∷ 4 ∷ [])
+accepted₁ = timetable-solutions order₁ .0 timetable₁ (2 ∷ 4 ∷ []) .0 answer₁
+
+-- the racks change sides in two steps, rack 1 over position 1 and rack 2 over position 2
+pub solution₁ : SolutionOf order₁ 2 ((0 ∷ 3 ∷ []) ∷ (1 ∷ 2 ∷ []) ∷ (3 ∷ 0 ∷ []) ∷ [])
+unfolding trace after goesTo startsOf edgeCount rackCount positions stepsOf stepMoves pairs partsOf stepParts stepLength stepCount field number bitsOf bits
+solution₁ = accepted₁ .solution
+
+pub only₁ : OnlyTimetable order₁ 2 ((0 ∷ 3 ∷ []) ∷ (1 ∷ 2 ∷ []) ∷ (3 ∷ 0 ∷ []) ∷ [])
+only₁ = timetable-solutions order₁ .1 well-formed₁ 2 _ (lit< tt) solution₁
 
 pub ring-turned : timetableAnswer ringOrder ringTimetable ≡ refused 42 1
 unfolding timetableAnswer judged misplaced replaySteps replayFrom legalStep every ascends leaves enters enteredOnce led occupied vacant onFloor goesTo after joined among isPair orderAnswer counts wrongRacks wrongPlaces repeats wrongEdges ascending precedes badEdge paddingSet wrongPositions wrongLength unitCount floorOf startsOf goalsOf orderOf positionCount edgeCount rackCount unclean misfits unitsLength positions total stepsOf stepMoves pairs wrongTimetableLength timetablePaddingSet wrongSteps some stepPadSet pad partsOf stepParts stepLength stepCount field number bitsOf bits

@@ -2,8 +2,10 @@ pub mod Timetable
 pub mod Reading
 pub mod StepLaws
 pub mod ReadingLaws
+pub mod Checking
 pub mod StepRecord
 pub mod TimetableRecord
+pub mod Solutions
 pub mod Inhabited
 pub mod SizeLaws
 pub mod HandedOut

@@ -6,11 +6,12 @@
 --     offset-small      a step of s begins below byte 2³¹
 --     length-small      and is at most 384 bytes long
 --     found-small       so are the values of the step reader's answer
+--     checked-small     and the counts of the timetable checker's
 -- Assumes nothing.
 use Prim.Native.Nat.{ℕ, zero, suc, _+_, _-_, _*_, _^_, _≤_, _<_}
 use mathlib.Core.Path.{_≡_, sym, subst}
 use mathlib.Core.Bool.{_||_}
-use mathlib.Core.List.{List, [], _∷_}
+use mathlib.Core.List.{List, [], _∷_, head-eq-of-cons-eq, tail-eq-of-cons-eq}
 use native.Mathlib.Omega.{arith}
 use native.Mathlib.Nat.{min-le-left, le-trans}
 use borrow.Author.Tests.{ltb-false}
@@ -21,8 +22,9 @@ use Rattle.answers.specs.Answer.{accepted, refuse}
 use Rattle.answers.specs.AnswerLaws.{refuse-not, refuse-else}
 use Rattle.field.specs.BitLaws.{field-lt}
 use Rattle.field.specs.UnitLaws.{or-right}
-use Rattle.timetable.specs.Timetable.{stepLength, stepParts, partsOf, stepCount, total, lengthOf, offset, stepPart, stepAnswer, wrongTimetableLength, timetablePaddingSet}
+use Rattle.timetable.specs.Timetable.{stepLength, stepParts, partsOf, stepCount, total, lengthOf, offset, stepPart, stepAnswer, wrongTimetableLength, timetablePaddingSet, timetableAnswer}
 use Rattle.timetable.specs.StepLaws.{stepLength-few, stepLength-some}
+use Rattle.timetable.specs.Solutions.{AcceptedTimetable, timetable-solutions}
 
 abbrev pub ByteString : List ℕ → Type 0
 ByteString s = (i : ℕ) → getD s i 0 < 256
@@ -62,6 +64,13 @@ module _ (s : List ℕ) (b : ByteString s) where
   pub total-small : total (partsOf s) < 2 ^ 30
   unfolding partsOf
   total-small = omega (arith, count-small s, total-parts (stepCount s) (drop 3 s) (dropped 3 s b))
+
+  pub checked-small : (o : List ℕ) (steps moves : ℕ) → accepted (steps ∷ moves ∷ []) ≡ timetableAnswer o s → (steps < 2 ^ 22) × (moves < 2 ^ 30)
+  checked-small o steps moves e =
+      let gave : AcceptedTimetable o s (steps ∷ moves ∷ []) = timetable-solutions o .0 s (steps ∷ moves ∷ []) .0 (sym e) in (
+        subst (λ (n : ℕ). n < 2 ^ 22) (head-eq-of-cons-eq (gave .counted)) (count-small s),
+        subst (λ (n : ℕ). n < 2 ^ 30) (head-eq-of-cons-eq (tail-eq-of-cons-eq (gave .counted))) total-small,
+      )
 
   module _ (i : ℕ) where
     pub offset-small : i ≤ stepCount s → offset s i < 2 ^ 31

@@ -9,6 +9,7 @@
 --     wrong-past, .., wrong-left, right-end    40, step by step: from the facts
 --     room, all-taken      and the facts from 40
 --     length-partAt, head-partAt    a step's length and its count byte
+--     cut-is, cut-length            the step as the part `&s[at..next]` that a loop cuts out
 --     length-moves                  it has as many moves as its count byte says
 --     moves-tail, moves-room        its moves, read from the part that begins at its second byte
 -- Assumes nothing.
@@ -138,6 +139,15 @@ module _ (s : List ℕ) (at : ℕ) (r : Room s at) where
 
 pub head-partAt : (s : List ℕ) (at : ℕ) → getD (partAt s at) 0 0 ≡ getD s at 0
 head-partAt s at = getD-take (stepLength (getD s at 0)) (drop at s) 0 0 (stepLength-some (getD s at 0)) ∙ first-byte s at
+
+module _ (s : List ℕ) (at n : ℕ) (size-is : n ≡ stepLength (getD s at 0)) where
+  pub cut-is : take (at + n - at) (drop at s) ≡ partAt s at
+  cut-is =
+      let e : at + n - at ≡ stepLength (getD s at 0) = omega (arith, size-is) in
+      ap (λ (m : ℕ). take m (drop at s)) e
+
+  pub cut-length : Room s at → length (take (at + n - at) (drop at s)) ≡ stepLength (getD (take (at + n - at) (drop at s)) 0 0)
+  cut-length r = rw cut-is (length-partAt s at r ∙ ap stepLength (sym (head-partAt s at)))
 
 module _ (p : List ℕ) where
   pub length-moves : length (stepMoves p) ≡ getD p 0 0

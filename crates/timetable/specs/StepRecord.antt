@@ -18,8 +18,8 @@ use lib.ListN.{length, getD, take, drop, replicate, length-append}
 use lib.Seq.{take-all, take-add, drop-drop}
 use Rattle.field.specs.Bits.{bits, bitsOf, field, pairBits, pad, padded, toBytes}
 use Rattle.field.specs.BitLaws.{Bits, Bytes, below-append, length-bits, bits-are, length-bitsOf, bits-field, field-at}
-use Rattle.field.specs.RecordLaws.{BelowPairs, padded-are, length-padded, toBytes-are, toBytes-from, pairs-at, bits-pairs, up-to-byte}
-use Rattle.field.specs.WholeBytes.{bits-zero, pad-after-whole, padded-whole, toBytes-whole, length-whole, byte-field, below-getD, pairBits-are, length-pairBits}
+use Rattle.field.specs.RecordLaws.{BelowPairs, padded-are, length-padded, toBytes-are, toBytes-from, pairs-at, bits-pairs, up-to-byte, bits-zero, pairBits-are, length-pairBits}
+use Rattle.field.specs.WholeBytes.{pad-after-whole, padded-whole, toBytes-whole, length-whole, byte-field, below-getD}
 use Rattle.timetable.specs.Timetable.{stepBits, stepLength, stepMoves, stepPadSet}
 use Rattle.timetable.specs.StepLaws.{stepLength-some, length-moves}
 

@@ -5,6 +5,7 @@
 --     record-bytes              the record is a byte string
 --     record-parts              the record is its head and the records of its steps
 --     stepsOf-record            a record's steps are those that it was made of
+--     moves-low                 the moves of a step have positions below 64
 --     record-well-packed        neither 40 nor 41 applies to a record
 --     record-stepsOf            a byte string to which neither applies is the record of its steps
 --     packable-stepsOf          and its steps can be packed
@@ -190,7 +191,7 @@ records-back : {l : List (List ℕ)} → Parts l → map stepRecord (map stepMov
 records-back no-parts = refl
 records-back (one-part {p = p} part rest) = ap₂ (λ (q : List ℕ) (r : List (List ℕ)). q ∷ r) (record-of-part p part) (records-back rest)
 
-moves-low : (p : List ℕ) → BelowPairs 64 (stepMoves p)
+pub moves-low : (p : List ℕ) → BelowPairs 64 (stepMoves p)
 unfolding stepMoves
 moves-low p = pairs-lt p 8 (getD p 0 0)
 

@@ -1,16 +1,31 @@
-// The timetable's record and the step reader: any byte string is judged by 40 and 41 of document 01's table, and a step of it is handed
-// out (45). specs/Timetable.antt says what a timetable record is and what each number means; specs/Reading.antt gives the verdicts
-// document 01's numbers and values. `read`, `find_step` and `step` are the entry points.
+// The timetable checker and the step reader: any byte string is judged by 40 and 41 of document 01's table, for an order by 10 to 14, 42
+// and 43 too, and a step of it is handed out (45). specs/Timetable.antt says what a timetable record is and what each number means;
+// specs/Reading.antt and specs/Checking.antt give the verdicts document 01's numbers and values. `check`, `read`, `find_step` and `step`
+// are the entry points.
 use answers::Fault;
+use order::OrderVerdict;
 ghost use mathlib.Core.Path.{_≡_};
 ghost use mathlib.Core.Bool.{false};
-ghost use Prim.Native.Nat.{_+_, _≤_, _<_};
+ghost use mathlib.Core.List.{[], _∷_};
+ghost use Prim.Native.Nat.{_+_, _*_, _^_, _≤_, _<_};
 ghost use lib.ListN.{length, getD, drop};
-ghost use Rattle.timetable.specs.Timetable.{stepLength, stepPadSet, wrongTimetableLength, stepCount, offset, stepAnswer};
+ghost use Rattle.answers.specs.Answer.{accepted, passUp};
+ghost use Rattle.order.specs.Verdict.{answerOf as orderAnswerOf};
+ghost use Rattle.tables.specs.Ending.{Ends};
+ghost use Rattle.trains.specs.StepOn.{legalStepOn, ranOn};
+ghost use Rattle.trains.specs.StepsOn.{replayStepsOn};
+ghost use Rattle.timetable.specs.Timetable.{stepLength, stepPadSet, wrongTimetableLength, stepCount, stepMoves, stepsOf, timetableAnswer, offset, stepAnswer};
 ghost use Rattle.timetable.specs.Reading.{StepSize, stepsAnswer, readingAnswer, numberAnswer, partGiven, answerOfReading, answerOfStep};
+ghost use Rattle.timetable.specs.Checking.{tableAnswer, answerOfCheck};
 
 // The verdict on a timetable's structure, with the counts of an accepted one.
 pub enum TimetableReading {
+    Accepted { steps: usize, moves: usize },
+    Refused(Fault, u32),
+}
+
+// The verdict on a timetable for an order, with the counts of an accepted one.
+pub enum TimetableVerdict {
     Accepted { steps: usize, moves: usize },
     Refused(Fault, u32),
 }
@@ -153,4 +168,97 @@ pub fn step<'a>(timetable: &'a [u8], number: usize) -> &'a [u8]
     };
     let end = offset + len;
     &timetable[offset..end]
+}
+
+// The order reader's refusal as the timetable checker's: the same fault at the same place.
+fn order_refusal(order: OrderVerdict) -> TimetableVerdict
+    ensures { λ r. ⌜ answerOfCheck r ≡ passUp (orderAnswerOf order) (accepted (0 ∷ 0 ∷ [])) ⌝ }
+{
+    let OrderVerdict::Refused(fault, place) = order else {
+        return TimetableVerdict::Accepted { steps: 0, moves: 0 };
+    };
+    TimetableVerdict::Refused(fault, place)
+}
+
+// The same of the refusal by 40 or 41.
+fn reading_refusal(reading: TimetableReading) -> TimetableVerdict
+    ensures { λ r. ⌜ answerOfCheck r ≡ passUp (answerOfReading reading) (accepted (0 ∷ 0 ∷ [])) ⌝ }
+{
+    let TimetableReading::Refused(fault, place) = reading else {
+        return TimetableVerdict::Accepted { steps: 0, moves: 0 };
+    };
+    TimetableVerdict::Refused(fault, place)
+}
+
+// Judges a step by a matrix of the floor's edges and the rack at each position, and makes it if it is legal. The step is the whole part,
+// from its count byte to its pad.
+fn run_part(step: &[u8], matrix: &[u8; 4096], racks: &mut [u8; 64]) -> bool
+    requires { ⌜ length (now step) ≡ stepLength (getD (now step) 0 0) ⌝ }
+    ensures judged { λ r. ⌜ r ≡ legalStepOn (now (matrix .entry)) (now (racks .entry)) (stepMoves (now (step .entry))) ⌝ }
+    ensures made { λ _. ⌜ now (racks .exit) ≡ ranOn (now (matrix .entry)) (now (racks .entry)) (stepMoves (now (step .entry))) ⌝ }
+{
+    trains::run_step(&step[1..], field::wide(step[0]), matrix, racks)
+}
+
+// Replays the steps of a timetable on the table of racks: the number of the first that is not legal, or 0.
+fn replay(timetable: &[u8], count: usize, matrix: &[u8; 4096], racks: &mut [u8; 64]) -> usize
+    requires { ⌜ (wrongTimetableLength (now timetable) ≡ false) × (count ≡ stepCount (now timetable)) ⌝ }
+    ensures { λ r. ⌜ Ends (replayStepsOn (now (matrix .entry)) (now (racks .entry)) (stepsOf (now (timetable .entry)))) count r (now (racks .exit)) ⌝ }
+{
+    let mut at = 3;
+    let mut i = 0;
+    while i < count {
+        let next = at + step_length(timetable[at]);
+        if !run_part(&timetable[at..next], matrix, racks) {
+            return i + 1;
+        }
+        at = next;
+        i += 1;
+    }
+    0
+}
+
+// 42 and 43, by tables: a matrix of the floor's edges, and the rack at each position.
+fn judge(
+    order: &[u8],
+    e: usize,
+    m: usize,
+    timetable: &[u8],
+    steps: usize,
+    moves: usize,
+) -> TimetableVerdict
+    requires { ⌜ (e < 256) × (m ≤ 64) × (12 * (e + m) ≤ 8 * length (now order)) ⌝ }
+    requires { ⌜ (wrongTimetableLength (now timetable) ≡ false) × (steps ≡ stepCount (now timetable)) × (steps < 2 ^ 22) ⌝ }
+    ensures { λ r. ⌜ answerOfCheck r ≡ tableAnswer (now (order .entry)) e m (now (timetable .entry)) (steps ∷ moves ∷ []) ⌝ }
+{
+    let mut matrix = [0u8; 4096];
+    order::mark_edges(order, e, &mut matrix);
+    let mut racks = [0u8; 64];
+    order::place_racks(order, 2 * e, m, &mut racks);
+    let illegal = replay(timetable, steps, &matrix, &mut racks);
+    if illegal != 0 {
+        return TimetableVerdict::Refused(Fault::TimetableStep, illegal as u32);
+    }
+    let rack = tables::misplaced(order, 2 * e + m, m, &racks);
+    if rack != 0 {
+        return TimetableVerdict::Refused(Fault::TimetableGoal, rack as u32);
+    }
+    TimetableVerdict::Accepted { steps, moves }
+}
+
+// 10 to 14 and 40 to 43: the verdict on any byte string as a timetable for any byte string as an order.
+pub fn check(order: &[u8], timetable: &[u8]) -> TimetableVerdict
+    ensures { λ r. ⌜ answerOfCheck r ≡ timetableAnswer (now (order .entry)) (now (timetable .entry)) ⌝ }
+{
+    let below = order::read(order);
+    let OrderVerdict::Accepted(counts) = below else {
+        return order_refusal(below);
+    };
+    let reading = read(timetable);
+    let TimetableReading::Accepted { steps, moves } = reading else {
+        return reading_refusal(reading);
+    };
+    let e = counts.edges;
+    let m = counts.racks;
+    judge(&order[3..], e, m, timetable, steps, moves)
 }

@@ -38,6 +38,7 @@ pub fn part(answer: Answer<Part>) -> u64 {
 
 /// A count answer taken apart again.
 pub fn to_count(answer: u64) -> Answer<u32> {
+    assert!(answer >> 40 == 0, "bits above the answer's are set: {answer:#x}");
     match (answer & 0xFF) as u8 {
         0 => Ok((answer >> 8) as u32),
         number => Err(Refusal { number, place: (answer >> 8) as u32 }),

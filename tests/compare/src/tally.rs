@@ -37,8 +37,20 @@ impl Tally {
         self.met.iter().sum()
     }
 
+    /// Prints, and sees that there were enough cases.
+    #[track_caller]
+    pub fn close(&self, least_cases: u64) {
+        self.print();
+        assert!(self.cases() >= least_cases, "{}: under {least_cases} cases", self.name);
+    }
+
+    /// Counts an answer that was judged by rules and not compared.
+    pub fn count(&mut self, answer: u64) {
+        self.met[(answer & 0xFF) as usize] += 1;
+    }
+
     /// Prints how many cases there were, and how often each number was met.
-    pub fn print(&self) {
+    fn print(&self) {
         println!("{}: {} cases compared", self.name, self.cases());
         for (number, met) in self.met.iter().enumerate().filter(|(_, &met)| met > 0) {
             match number {
@@ -52,8 +64,7 @@ impl Tally {
     /// at least 1,000 times, and that no other was met.
     #[track_caller]
     pub fn finish(&self, least_cases: u64, numbers: &[u8]) {
-        self.print();
-        assert!(self.cases() >= least_cases, "{}: under {least_cases} cases", self.name);
+        self.close(least_cases);
         for number in 0..=255 {
             let met = self.met[usize::from(number)];
             if numbers.contains(&number) {

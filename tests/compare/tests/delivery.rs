@@ -10,7 +10,7 @@ use compare::tally::Hex;
 #[test]
 fn plan_then_timetable_then_check() {
     let mut random = Random::new(0x5EED_8001);
-    let (mut all_moves, mut all_steps) = (0, 0);
+    let (mut delivered, mut all_moves, mut all_steps) = (0, 0, 0);
     for _ in 0..3_000 {
         let n = if random.one_in(20) { random.between(20, 64) } else { random.between(4, 12) };
         let floor = floors::bi_connected(&mut random, n);
@@ -31,8 +31,10 @@ fn plan_then_timetable_then_check() {
         let end = (0..steps).fold(3, |at, _| at + second::timetable::step_length(timetable[at]));
         timetable.truncate(end);
         assert_eq!(proved::timetable_check(&order, &timetable), steps << 8 | moves << 30, "{}", Hex(&order));
+        delivered += 1;
         all_moves += moves;
         all_steps += steps;
     }
-    println!("delivery: {all_moves} moves in {all_steps} steps");
+    println!("delivery: {delivered} orders, {all_moves} moves in {all_steps} steps");
+    assert!(delivered >= 1_000, "{delivered} orders only");
 }

@@ -27,8 +27,7 @@ fn every_floor_of_up_to_six_positions() {
             }
         }
     }
-    tally.print();
-    assert!(tally.cases() >= 200_000);
+    tally.close(200_000);
 }
 
 #[test]
@@ -63,8 +62,7 @@ fn floors_with_an_edge_less() {
             }
         }
     }
-    tally.print();
-    assert!(tally.cases() >= 100_000);
+    tally.close(100_000);
 }
 
 #[test]

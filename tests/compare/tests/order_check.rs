@@ -96,7 +96,7 @@ fn every_bit_and_every_length_of_the_case_books_order() {
     for length in 0..order.len() {
         compare(&mut tally, &order[..length]);
     }
-    tally.print();
+    tally.close(12_558);
 }
 
 #[test]
@@ -109,7 +109,7 @@ fn every_head() {
         compare(&mut tally, &record[..3]);
         compare(&mut tally, &record[..length]);
     }
-    tally.print();
+    tally.close(33_554_432);
 }
 
 #[test]
@@ -174,5 +174,5 @@ fn boundaries_by_hand() {
     for (number, record) in cases {
         assert_eq!(compare(&mut tally, record), u64::from(*number), "{}", Hex(record));
     }
-    tally.print();
+    tally.close(43);
 }

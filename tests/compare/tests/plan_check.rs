@@ -46,7 +46,7 @@ fn every_move_as_the_first_on_floors_of_three_positions() {
             }
         }
     }
-    tally.print();
+    tally.close(163_840);
 }
 
 /// Rack 1 goes to and fro between two positions.
@@ -71,7 +71,7 @@ fn the_longest_plans() {
             compare(&mut tally, &order, &plan[..last]);
         }
     }
-    tally.print();
+    tally.close(28);
 }
 
 #[test]
@@ -85,5 +85,5 @@ fn long_plans_on_large_floors() {
             compare(&mut tally, &case.order, &case.plan);
         }
     }
-    tally.print();
+    tally.close(10);
 }

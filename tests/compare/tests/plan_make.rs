@@ -16,8 +16,7 @@ fn judge(tally: &mut Tally, order: &[u8], buffer: &mut [u8]) -> usize {
     if let Some(fault) = second::planning::fault(order, &before, buffer, answer) {
         panic!("{fault}, on {}", Hex(order));
     }
-    let expected = packed::count(answer);
-    tally.compare(expected, expected, &[order]);
+    tally.count(packed::count(answer));
     answer.unwrap_or(0) as usize
 }
 
@@ -56,7 +55,7 @@ fn plans_for_random_orders() {
         let mut buffer = random.bytes(length);
         judge(&mut tally, &order, &mut buffer);
     }
-    tally.print();
+    tally.close(20_000);
 }
 
 #[test]
@@ -101,7 +100,7 @@ fn the_same_plan_whatever_the_buffer_held() {
             assert!(k == moves[0] && &buffer[..plan.len()] == plan, "another plan, on {}", Hex(&order));
         }
     }
-    tally.print();
+    tally.close(1_500);
 }
 
 #[test]
@@ -127,7 +126,7 @@ fn every_order_of_two_racks_on_every_floor_of_four_positions() {
             }
         }
     }
-    tally.print();
+    tally.close(9_216);
 }
 
 #[test]
@@ -145,5 +144,5 @@ fn grids_with_two_vacancies() {
             }
         }
     }
-    tally.print();
+    tally.close(79);
 }

@@ -61,7 +61,7 @@ fn trains_of_every_length() {
             }
         }
     }
-    tally.print();
+    tally.close(248);
 }
 
 #[test]
@@ -79,7 +79,7 @@ fn many_steps() {
         compare(&mut tally, &order.record(), &timetable);
         compare(&mut tally, &order.record(), &timetable[..timetable.len() - 1]);
     }
-    tally.print();
+    tally.close(16);
 }
 
 #[test]
@@ -94,5 +94,5 @@ fn long_timetables_on_large_floors() {
             compare(&mut tally, &sample.order.record(), &sample.timetable.record());
         }
     }
-    tally.print();
+    tally.close(24);
 }

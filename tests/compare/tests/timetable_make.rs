@@ -74,7 +74,7 @@ fn long_plans() {
             compare(&mut tally, &sample.order.record(), &plan.record(), &mut buffer);
         }
     }
-    tally.print();
+    tally.close(12);
 }
 
 #[test]
@@ -86,5 +86,5 @@ fn the_limit_of_the_longest_plan() {
     let mut tally = Tally::new("timetable_make, 4194303 moves and a buffer one byte short");
     let mut buffer = vec![0xAA; 3 * most + 2];
     assert_eq!(compare(&mut tally, &order.record(), &plan.record(), &mut buffer), 44);
-    tally.print();
+    tally.close(1);
 }

@@ -93,5 +93,5 @@ fn the_last_of_the_most_steps() {
     for number in [0, 1, 2, (1 << 22) - 2, (1 << 22) - 1, 1 << 22, u64::MAX] {
         compare(&mut tally, &record, number);
     }
-    tally.print();
+    tally.close(7);
 }

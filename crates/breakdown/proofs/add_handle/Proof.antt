@@ -1,0 +1,93 @@
+-- `breakdown::add_handle` meets its contract. What the way makes is in `LayLaws` and `BuildingLaws`.
+-- Assumes nothing.
+use mathlib.Core.Path.{refl}
+use native.Mathlib.Omega.{arith}
+use borrow.Author.Needs.{needs}
+use Rattle.breakdown.proofs.BuildingLaws.{building-add}
+use Rattle.breakdown.proofs.LayLaws.{handle-way, handle-fresh}
+use Rattle.breakdown.proofs.add_handle.Statement.{statement}
+use Rattle.breakdown.proofs.add_handle.Tie as tie
+
+array-read-m : tie.Need-array-read-m
+array-read-m c = search needs
+
+cast-m : tie.Need-cast-m
+cast-m c = search needs
+
+way-round-requires : tie.Need-way-round-requires
+way-round-requires c κs =
+    let s = c .before .before .before .before .before in
+    let e = s .pre .1 .1 .0 .pair (s .pre .1 .0) .edge in
+    (s .pre .0, (e .from, e .to))
+
+sub-inner : tie.Need-sub-inner
+sub-inner c =
+    let s = c .before .before .before .before .before .before .before .before in
+    let w = c .before .before .way-round in
+    handle-way (s .args .settled .now) (s .args .pair .from) (s .args .pair .to) (s .args .pair .size) (w .result .size) (w .result .at) (s .pre .0) (s .pre .1 .0) (s .pre .1 .1 .0) (w .ensures)
+
+extend-requires : tie.Need-extend-requires
+extend-requires c κs =
+    let s = c .before .before .before .before .before .before .before .before .before .before .before in
+    let w = c .before .before .before .before .before .way-round in
+    (s .pre .1 .1 .1 .settled, handle-fresh (s .args .settled .now) (s .args .pair .from) (s .args .pair .to) (s .args .pair .size) (w .result .size) (w .result .at) (s .pre .0) (s .pre .1 .0) (s .pre .1 .1 .0) (w .ensures))
+
+add-start : tie.Need-add-start
+add-start c = search needs
+
+cast-start : tie.Need-cast-start
+cast-start c = search needs
+
+add-start-2 : tie.Need-add-start-2
+add-start-2 c = search needs
+
+array-write-start : tie.Need-array-write-start
+array-write-start c = search needs
+
+cast-left : tie.Need-cast-left
+cast-left c =
+    let s = c .before .before .before .before .before .before .before .before .before .before .before .before in
+    let m = s .pre .0 .small in
+    let e = s .pre .1 .1 .0 .pair (s .pre .1 .0) .edge .from in
+    omega arith
+
+array-write-left : tie.Need-array-write-left
+array-write-left c = search needs
+
+array-read-right : tie.Need-array-read-right
+array-read-right c = search needs
+
+array-write-right : tie.Need-array-write-right
+array-write-right c = search needs
+
+add-t24 : tie.Need-add-t24
+add-t24 c = search needs
+
+returns : tie.Need-returns
+returns c =
+    let s = c .before .before .before .before .before .before .before .before .before .before .before .before in
+    let w = c .before .before .before .before .before .before .way-round in
+    let pair = s .pre .1 .1 .0 .pair (s .pre .1 .0) in
+    let some = handle-way (s .args .settled .now) (s .args .pair .from) (s .args .pair .to) (s .args .pair .size) (w .result .size) (w .result .at) (s .pre .0) (s .pre .1 .0) (s .pre .1 .1 .0) (w .ensures) in
+    let next = building-add (s .pre .1 .1 .1) (s .args .pair .from) (s .args .pair .to) (w .result .size) (w .result .at) _ _ (pair .edge .from) pair (w .ensures) some (c .extend .ensures) in
+    (next .0, (refl, next .1))
+
+pub add-handle-spec : {M : Type 1} → statement M
+add-handle-spec =
+    tie.close
+    (tie.spec
+    array-read-m
+    cast-m
+    way-round-requires
+    sub-inner
+    extend-requires
+    add-start
+    cast-start
+    add-start-2
+    array-write-start
+    cast-left
+    array-write-left
+    array-read-right
+    array-write-right
+    add-t24
+    returns)

@@ -1,0 +1,51 @@
+-- `breakdown::break_down` meets its contract. On a bi-connected floor there is a ring to choose (`ExistLaws`), and one through every position is the whole floor (`RingLaws`).
+-- Assumes nothing.
+use native.Mathlib.Omega.{arith}
+use borrow.Author.Needs.{needs}
+use Rattle.graph.specs.Zeros.{blank}
+use Rattle.breakdown.proofs.AnswerLaws.{answer-found, answer-none}
+use Rattle.breakdown.proofs.RingLaws.{ring-counts}
+use Rattle.breakdown.proofs.ExistLaws.{ring-exists}
+use Rattle.breakdown.proofs.break_down.Statement.{statement}
+use Rattle.breakdown.proofs.break_down.Tie as tie
+
+choose-ring-requires : tie.Need-choose-ring-requires
+choose-ring-requires c κs = search needs
+
+nothing-requires : tie.Need-nothing-requires
+nothing-requires c κs = search needs
+
+returns : tie.Need-returns
+returns c =
+    answer-none (c .nothing .ensures) (λ bi ring. ring-exists (c .before .before .before .before .pre) bi _ _ _ (c .before .before .before .choose-ring .ensures) (c .before .if1 .taken))
+
+lay-ring-requires : tie.Need-lay-ring-requires
+lay-ring-requires c κs = (c .before .before .before .before .pre, (omega arith, (c .before .before .before .choose-ring .ensures, blank)))
+
+nothing-requires-2 : tie.Need-nothing-requires-2
+nothing-requires-2 c κs = search needs
+
+returns-2 : tie.Need-returns-2
+returns-2 c =
+    let l = c .before .before .before .lay-ring in
+    answer-none (c .nothing2 .ensures) (λ bi ring. ring (record { biConnected = bi; count = ring-counts _ _ _ _ _ _ (c .before .before .before .before .before .before .before .before .pre) (l .ensures .0) (c .before .before .before .before .before .before .before .choose-ring .ensures) (l .ensures .1) (omega arith) }))
+
+add-handles-requires : tie.Need-add-handles-requires
+add-handles-requires c κs = search needs
+
+returns-3 : tie.Need-returns-3
+returns-3 c =
+    answer-found (c .before .before .before .before .before .before .before .before .before .pre) (c .add-handles .ensures)
+
+pub break-down-spec : {M : Type 1} → statement M
+break-down-spec =
+    tie.close
+    (tie.spec
+    choose-ring-requires
+    nothing-requires
+    returns
+    lay-ring-requires
+    nothing-requires-2
+    returns-2
+    add-handles-requires
+    returns-3)

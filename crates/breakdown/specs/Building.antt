@@ -1,0 +1,52 @@
+-- A breakdown while it is made. The row of positions is a list o of bytes, and s has a byte for each position, not 0 where it is settled: in the
+-- row already.
+--
+--     row o                       the row as a function of the place
+--     Settled m o s               the first m of the row are different positions, and those are settled, no others
+--     Fresh f k s                 the first k of f are different positions that are not settled
+--     Extended f k m o s o′ s′    the first k of f stand in the row from place m on, and are settled; what came before stands as it stood
+--     Building n E r c o start left right s    a base ring of r positions and c handles are in the row, and nothing else
+-- Assumes nothing.
+use Prim.Native.Nat.{ℕ, _+_, _-_, _≤_, _<_}
+use mathlib.Core.Path.{_≡_}
+use mathlib.Core.List.{List}
+use mathlib.Core.Logic.{_≢_}
+use lib.ListN.{getD, length}
+use Rattle.graph.specs.Matrix.{Marked}
+use Rattle.graph.specs.Zeros.{zeros}
+use Rattle.breakdown.specs.Breakdown.{Among, Handle}
+
+abbrev pub row : List ℕ → ℕ → ℕ
+row o i = getD o i 0
+
+pub record Settled (m : ℕ) (o s : List ℕ) : Type 0 where
+  pub long : length o ≡ 64
+  pub wide : length s ≡ 64
+  pub small : (i : ℕ) → i < m → row o i < 64
+  pub distinct : (i j : ℕ) → i < j → j < m → row o i ≢ row o j
+  pub marked : (i : ℕ) → i < m → Marked s (row o i)
+  pub among : (p : ℕ) → Marked s p → Among (row o) m p
+  pub count : m + zeros s ≡ 64
+
+pub record Fresh (f : List ℕ) (k : ℕ) (s : List ℕ) : Type 0 where
+  pub small : (i : ℕ) → i < k → row f i < 64
+  pub new : (i : ℕ) → i < k → getD s (row f i) 0 ≡ 0
+  pub distinct : (i j : ℕ) → i < j → j < k → row f i ≢ row f j
+
+pub record Extended (f : List ℕ) (k m : ℕ) (o s o′ s′ : List ℕ) : Type 0 where
+  pub settled : Settled (m + k) o′ s′
+  pub kept : (i : ℕ) → i < m → row o′ i ≡ row o i
+  pub new : (i : ℕ) → i < k → row o′ (m + i) ≡ row f i
+
+pub record Building (n : ℕ) (E : ℕ → ℕ → Type 0) (r c : ℕ) (o start left right s : List ℕ) : Type 0 where
+  pub settled : Settled (row start c) o s
+  pub below : (i : ℕ) → i < row start c → row o i < n
+  pub room : c + r ≤ row start c
+  pub ring-three : 3 ≤ r
+  pub ring-joined : (i : ℕ) → i + 1 < r → E (row o i) (row o (i + 1))
+  pub ring-closed : E (row o (r - 1)) (row o 0)
+  pub begins : row start 0 ≡ r
+  pub handle : (i : ℕ) → i < c → Handle E (row o) (row start i) (row start (i + 1)) (row left i) (row right i)
+  pub starts : length start ≡ 64
+  pub lefts : length left ≡ 64
+  pub rights : length right ≡ 64

@@ -1,0 +1,45 @@
+-- `controller::wichteab_plan_check` meets its contract: the verdict's answer, packed; a plan's moves are fewer than 2 ^ 22. Assumes nothing.
+use mathlib.Core.Path.{ap, sym, _∙_}
+use native.Mathlib.Omega.{arith}
+use Rattle.plan.specs.Verdict.{answerOf}
+use Rattle.plan.specs.SizeLaws.{moves-small}
+use Rattle.controller.specs.Packed.{packed, oneCount}
+use borrow.Author.Needs.{needs}
+use Rattle.controller.proofs.wichteab_plan_check.Statement.{statement}
+use Rattle.controller.proofs.wichteab_plan_check.Tie as tie
+
+check-requires : tie.Need-check-requires
+check-requires c κs = search needs
+
+enum-known-moves : tie.Need-enum-known-moves
+enum-known-moves c = search needs
+
+mul-result : tie.Need-mul-result
+mul-result c =
+    omega (arith, moves-small (c .before .before .before .before .before .before .args .order .now) (c .before .before .before .before .before .before .args .plan .now) (c .before .moves .given .0 .0) (ap answerOf (sym (c .before .moves .given .1)) ∙ c .before .before .before .check .ensures))
+
+enum-known-fault : tie.Need-enum-known-fault
+enum-known-fault c = search needs
+
+refusal-requires : tie.Need-refusal-requires
+refusal-requires c κs = search needs
+
+returns : tie.Need-returns
+returns c =
+    ap (packed oneCount) (ap answerOf (sym (c .before .moves .given .1)) ∙ c .before .before .before .check .ensures)
+
+returns-2 : tie.Need-returns-2
+returns-2 c =
+    c .refusal .ensures ∙ ap (packed oneCount) (ap answerOf (sym (c .before .before .fault .given .1)) ∙ c .before .before .before .before .check .ensures)
+
+pub wichteab-plan-check-spec : {M : Type 1} → statement M
+wichteab-plan-check-spec =
+    tie.close
+    (tie.spec
+    check-requires
+    enum-known-moves
+    mul-result
+    enum-known-fault
+    refusal-requires
+    returns
+    returns-2)

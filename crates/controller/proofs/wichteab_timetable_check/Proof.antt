@@ -1,0 +1,55 @@
+-- `controller::wichteab_timetable_check` meets its contract: the verdict's answer, packed; `SizeLaws` has the bounds. Assumes nothing.
+use mathlib.Core.Path.{ap, sym, _∙_}
+use native.Mathlib.Omega.{arith}
+use Rattle.timetable.specs.Checking.{answerOfCheck}
+use Rattle.timetable.specs.SizeLaws.{checked-small}
+use Rattle.controller.specs.Packed.{packed, stepsAndMoves}
+use borrow.Author.Needs.{needs}
+use Rattle.controller.proofs.wichteab_timetable_check.Statement.{statement}
+use Rattle.controller.proofs.wichteab_timetable_check.Tie as tie
+
+check-requires : tie.Need-check-requires
+check-requires c κs = search needs
+
+enum-known-steps : tie.Need-enum-known-steps
+enum-known-steps c = search needs
+
+mul-result : tie.Need-mul-result
+mul-result c =
+    omega (arith, checked-small (c .before .before .before .before .before .before .args .timetable .now) (λ i. c .before .before .before .before .shared-slice-known2 .given i .fits) (c .before .before .before .before .before .before .args .order .now) (c .before .steps .given .0 .0) (c .before .steps .given .0 .1 .0) (ap answerOfCheck (sym (c .before .steps .given .1)) ∙ c .before .before .before .check .ensures))
+
+add-result : tie.Need-add-result
+add-result c =
+    omega (arith, checked-small (c .before .before .before .before .before .before .args .timetable .now) (λ i. c .before .before .before .before .shared-slice-known2 .given i .fits) (c .before .before .before .before .before .before .args .order .now) (c .before .steps .given .0 .0) (c .before .steps .given .0 .1 .0) (ap answerOfCheck (sym (c .before .steps .given .1)) ∙ c .before .before .before .check .ensures))
+
+mul-result-2 : tie.Need-mul-result-2
+mul-result-2 c =
+    omega (arith, checked-small (c .before .before .before .before .before .before .args .timetable .now) (λ i. c .before .before .before .before .shared-slice-known2 .given i .fits) (c .before .before .before .before .before .before .args .order .now) (c .before .steps .given .0 .0) (c .before .steps .given .0 .1 .0) (ap answerOfCheck (sym (c .before .steps .given .1)) ∙ c .before .before .before .check .ensures))
+
+enum-known-fault : tie.Need-enum-known-fault
+enum-known-fault c = search needs
+
+refusal-requires : tie.Need-refusal-requires
+refusal-requires c κs = search needs
+
+returns : tie.Need-returns
+returns c =
+    ap (packed stepsAndMoves) (ap answerOfCheck (sym (c .before .steps .given .1)) ∙ c .before .before .before .check .ensures)
+
+returns-2 : tie.Need-returns-2
+returns-2 c =
+    c .refusal .ensures ∙ ap (packed stepsAndMoves) (ap answerOfCheck (sym (c .before .before .fault .given .1)) ∙ c .before .before .before .before .check .ensures)
+
+pub wichteab-timetable-check-spec : {M : Type 1} → statement M
+wichteab-timetable-check-spec =
+    tie.close
+    (tie.spec
+    check-requires
+    enum-known-steps
+    mul-result
+    add-result
+    mul-result-2
+    enum-known-fault
+    refusal-requires
+    returns
+    returns-2)

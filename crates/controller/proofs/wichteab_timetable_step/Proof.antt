@@ -1,0 +1,55 @@
+-- `controller::wichteab_timetable_step` meets its contract: the verdict's answer, packed; `SizeLaws` has the bounds. Assumes nothing.
+use mathlib.Core.Path.{ap, sym, _∙_}
+use native.Mathlib.Omega.{arith}
+use Rattle.timetable.specs.Reading.{answerOfStep}
+use Rattle.timetable.specs.SizeLaws.{found-small}
+use Rattle.controller.specs.Packed.{packed, lengthAndOffset}
+use borrow.Author.Needs.{needs}
+use Rattle.controller.proofs.wichteab_timetable_step.Statement.{statement}
+use Rattle.controller.proofs.wichteab_timetable_step.Tie as tie
+
+find-step-requires : tie.Need-find-step-requires
+find-step-requires c κs = search needs
+
+enum-known-offset : tie.Need-enum-known-offset
+enum-known-offset c = search needs
+
+mul-result : tie.Need-mul-result
+mul-result c =
+    omega (arith, found-small (c .before .before .before .before .before .args .timetable .now) (λ i. c .before .before .before .before .shared-slice-known .given i .fits) (c .before .before .before .before .before .args .number) (c .before .offset .given .0 .0) (c .before .offset .given .0 .1 .0) (ap answerOfStep (sym (c .before .offset .given .1)) ∙ c .before .before .before .find-step .ensures))
+
+add-result : tie.Need-add-result
+add-result c =
+    omega (arith, found-small (c .before .before .before .before .before .args .timetable .now) (λ i. c .before .before .before .before .shared-slice-known .given i .fits) (c .before .before .before .before .before .args .number) (c .before .offset .given .0 .0) (c .before .offset .given .0 .1 .0) (ap answerOfStep (sym (c .before .offset .given .1)) ∙ c .before .before .before .find-step .ensures))
+
+mul-result-2 : tie.Need-mul-result-2
+mul-result-2 c =
+    omega (arith, found-small (c .before .before .before .before .before .args .timetable .now) (λ i. c .before .before .before .before .shared-slice-known .given i .fits) (c .before .before .before .before .before .args .number) (c .before .offset .given .0 .0) (c .before .offset .given .0 .1 .0) (ap answerOfStep (sym (c .before .offset .given .1)) ∙ c .before .before .before .find-step .ensures))
+
+enum-known-fault : tie.Need-enum-known-fault
+enum-known-fault c = search needs
+
+refusal-requires : tie.Need-refusal-requires
+refusal-requires c κs = search needs
+
+returns : tie.Need-returns
+returns c =
+    ap (packed lengthAndOffset) (ap answerOfStep (sym (c .before .offset .given .1)) ∙ c .before .before .before .find-step .ensures)
+
+returns-2 : tie.Need-returns-2
+returns-2 c =
+    c .refusal .ensures ∙ ap (packed lengthAndOffset) (ap answerOfStep (sym (c .before .before .fault .given .1)) ∙ c .before .before .before .before .find-step .ensures)
+
+pub wichteab-timetable-step-spec : {M : Type 1} → statement M
+wichteab-timetable-step-spec =
+    tie.close
+    (tie.spec
+    find-step-requires
+    enum-known-offset
+    mul-result
+    add-result
+    mul-result-2
+    enum-known-fault
+    refusal-requires
+    returns
+    returns-2)

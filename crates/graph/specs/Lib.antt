@@ -1,0 +1,14 @@
+pub mod Walk
+pub mod WalkLaws
+pub mod Connected
+pub mod ConnectedLaws
+pub mod Matrix
+pub mod Zeros
+pub mod MatrixLaws
+pub mod Levels
+pub mod Nearest
+pub mod NearestLaws
+pub mod Decision
+pub mod EdgeCount
+pub mod EdgeCountLaws
+pub mod Examples

@@ -1,0 +1,92 @@
+-- The plan checker's layers: the order reader, the record reader, and the judgement on tables.
+--
+--     plan-is           the table of document 01 as these layers
+--     RecordGave, record-gave  what an accepted record tells
+--     judgement-is      the judgement on tables is document 01's
+--     order-turned-down, record-turned-down, answer-is   the checker's answer at each return
+-- Assumes nothing.
+use Prim.Native.Nat.{ℕ, _-_, _*_, _^_, _≤_, _<_}
+use mathlib.Core.Path.{_≡_, refl, sym, ap, _∙_}
+use mathlib.Core.Bool.{Bool, true, false}
+use mathlib.Core.List.{List, [], _∷_}
+use native.Mathlib.Omega.{arith}
+use lib.ListN.{length, take, drop}
+use Rattle.answers.specs.Answer.{Answer, accepted, refused, refuse, passUp}
+use Rattle.answers.specs.AnswerLaws.{refuse-not, refuse-else, passUp-refused}
+use Rattle.field.specs.Bits.{field, pairs}
+use Rattle.field.specs.BitLaws.{field-lt}
+use Rattle.field.specs.UnitLaws.{Fitting, fitting, tail-units}
+use Rattle.field.specs.RecordLaws.{rest-is, pairs-drop, pairs-lt}
+use Rattle.order.specs.Order.{floorOf, startsOf, goalsOf, orderAnswer}
+use Rattle.order.specs.TailLaws.{tail-edges, tail-starts, tail-goals}
+use Rattle.motion.specs.Replay.{replayMoves}
+use Rattle.motion.specs.Judgement.{judged}
+use Rattle.tables.specs.Accepted.{OrderGave}
+use Rattle.tables.specs.Layers.{order-refused, record-refused, all-accepted}
+use Rattle.tables.specs.MovesOn.{matrixOf, tableOf, moves-judged}
+use Rattle.plan.specs.Plan.{moveCount, planMoves, wrongPlanLength, planPaddingSet, planAnswer}
+use Rattle.plan.specs.Readers.{recordAnswer, tableAnswer}
+
+-- 32, 33 and acceptance
+abbrev pub judgement : List ℕ → List ℕ → Answer
+judgement o p = judged 32 33 (goalsOf o) (moveCount p ∷ []) (replayMoves (floorOf o) (startsOf o) (planMoves p))
+
+pub plan-is : (o p : List ℕ) → planAnswer o p ≡ passUp (orderAnswer o) (passUp (recordAnswer p) (judgement o p))
+unfolding planAnswer recordAnswer
+plan-is o p = chain (wrongPlanLength p) (planPaddingSet p)
+  where
+    chain : (a b : Bool)
+        → passUp (orderAnswer o) (refuse a 30 0 (refuse b 31 0 (judgement o p)))
+        ≡ passUp (orderAnswer o) (passUp (refuse a 30 0 (refuse b 31 0 (accepted (moveCount p ∷ [])))) (judgement o p))
+    chain true b = refl
+    chain false true = refl
+    chain false false = refl
+
+pub record RecordGave (p : List ℕ) (k : ℕ) : Type 0 where
+  pub length-right : wrongPlanLength p ≡ false
+  pub padding-clear : planPaddingSet p ≡ false
+  pub fit : Fitting p (moveCount p)
+  pub count-is : k ≡ moveCount p
+  pub count-below : k < 2 ^ 22
+
+pub record-gave : (p : List ℕ) (k : ℕ) → accepted (k ∷ []) ≡ recordAnswer p → RecordGave p k
+unfolding recordAnswer moveCount wrongPlanLength
+record-gave p k a =
+    let a₁ = refuse (planPaddingSet p) 31 0 (accepted (field p 0 22 ∷ [])) in
+    let e₁ : a₁ ≡ accepted (k ∷ []) = refuse-else (wrongPlanLength p) 30 0 a₁ (k ∷ []) (sym a) in
+    let e₂ : accepted (field p 0 22 ∷ []) ≡ accepted (k ∷ []) = refuse-else (planPaddingSet p) 31 0 (accepted (field p 0 22 ∷ [])) (k ∷ []) e₁ in
+    let l : wrongPlanLength p ≡ false = refuse-not (wrongPlanLength p) 30 0 a₁ (k ∷ []) (sym a) in
+    let count : k ≡ field p 0 22 = cc e₂ in
+    record {
+      length-right = l;
+      padding-clear = refuse-not (planPaddingSet p) 31 0 (accepted (field p 0 22 ∷ [])) (k ∷ []) e₁;
+      fit = fitting p (field p 0 22) l;
+      count-is = count;
+      count-below = omega (arith, field-lt p 0 22);
+    }
+
+module _ (o : List ℕ) (n e m : ℕ) (gave : OrderGave o n e m) (p : List ℕ) (k : ℕ) (record-is : RecordGave p k) where
+  pub plan-room : 12 * k ≤ 8 * length (take (length p - 3) (drop 3 p))
+  plan-room = omega (arith, tail-units p (moveCount p) (record-is .fit), record-is .count-is)
+
+  moves-are : pairs (take (length p - 3) (drop 3 p)) 0 k ≡ planMoves p
+  unfolding planMoves
+  moves-are = rw (rest-is 3 p, ← pairs-drop p 3 0 k, record-is .count-is) refl
+
+  pub judgement-is : tableAnswer (take (length o - 3) (drop 3 o)) e m (take (length p - 3) (drop 3 p)) k ≡ judgement o p
+  unfolding tableAnswer planMoves
+  judgement-is =
+      rw (tail-edges o e m (gave .edges-are) (gave .racks-are), tail-starts o e m (gave .edges-are) (gave .racks-are), tail-goals o e m (gave .edges-are) (gave .racks-are), moves-are, record-is .count-is)
+      (unfold matrixOf tableOf in
+      moves-judged (floorOf o) (gave .placed-well .few-positions) (gave .placed-well .edges-below) (gave .placed-well .edges-right) (startsOf o) (gave .placed-well .starts-sound) (pairs-lt p 24 (moveCount p)) 32 33 (goalsOf o) (moveCount p ∷ []) (gave .placed-well .goals-length ∙ sym (gave .placed-well .starts-length)))
+
+  pub answer-is : accepted (n ∷ e ∷ m ∷ []) ≡ orderAnswer o → accepted (k ∷ []) ≡ recordAnswer p → tableAnswer (take (length o - 3) (drop 3 o)) e m (take (length p - 3) (drop 3 p)) k ≡ planAnswer o p
+  answer-is a b = judgement-is ∙ all-accepted (planAnswer o p) (orderAnswer o) (recordAnswer p) (judgement o p) (plan-is o p) (n ∷ e ∷ m ∷ []) a (k ∷ []) b
+
+-- a refusal below is the answer above
+pub order-turned-down : (o p : List ℕ) (below r : Answer) (number place : ℕ) → below ≡ orderAnswer o → below ≡ refused number place → r ≡ passUp below (accepted (0 ∷ [])) → r ≡ planAnswer o p
+order-turned-down o p below r = order-refused (planAnswer o p) (orderAnswer o) (recordAnswer p) (judgement o p) (plan-is o p) below r (accepted (0 ∷ []))
+
+pub record-turned-down : (o p counted : List ℕ) (head : Answer) (number place : ℕ) → accepted counted ≡ orderAnswer o → head ≡ recordAnswer p → head ≡ refused number place → head ≡ planAnswer o p
+record-turned-down o p counted head number place a is f =
+    record-refused (planAnswer o p) (orderAnswer o) (recordAnswer p) (judgement o p) (plan-is o p) counted a head head (accepted []) number place is f (passUp-refused head (accepted []) number place f)

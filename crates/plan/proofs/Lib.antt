@@ -1,0 +1,4 @@
+pub mod Record
+pub mod Turns
+pub mod Judging
+pub mod Layers

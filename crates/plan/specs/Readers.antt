@@ -1,0 +1,22 @@
+-- The answers of the plan checker's parts: the record reader judges 30 and 31, the replay 32 and 33 on tables.
+--
+--     recordAnswer p          30 and 31, else accepted with k
+--     tableAnswer s e m t k   32 and 33, where s is the order from its fourth byte on and t the plan from its fourth byte on
+-- Assumes nothing.
+use Prim.Native.Nat.{ℕ, _+_, _*_}
+use mathlib.Core.List.{List, [], _∷_}
+use lib.ListN.{replicate}
+use Rattle.answers.specs.Answer.{Answer, accepted, refuse}
+use Rattle.field.specs.Bits.{pairs, positions}
+use Rattle.order.specs.Tables.{marked, placed}
+use Rattle.tables.specs.Tables.{judgedOn}
+use Rattle.tables.specs.MovesOn.{replayOn}
+use Rattle.plan.specs.Plan.{moveCount, wrongPlanLength, planPaddingSet}
+
+unfoldable pub recordAnswer : List ℕ → Answer
+recordAnswer p = refuse (wrongPlanLength p) 30 0 (refuse (planPaddingSet p) 31 0 (accepted (moveCount p ∷ [])))
+
+unfoldable pub tableAnswer : List ℕ → ℕ → ℕ → List ℕ → ℕ → Answer
+tableAnswer s e m t k =
+    judgedOn 32 33 (positions s (6 * (2 * e + m)) m) (k ∷ [])
+    (replayOn (marked (replicate 4096 0) (pairs s 0 e)) (placed (replicate 64 0) 1 (positions s (6 * (2 * e)) m)) (pairs t 0 k))

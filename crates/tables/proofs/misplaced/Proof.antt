@@ -1,0 +1,60 @@
+-- `tables::misplaced` meets its contract. The loop's invariant: what is left to look up decides. Assumes nothing.
+use Prim.Native.Nat.{_≤_, _-_}
+use native.Mathlib.Omega.{arith}
+use borrow.Author.Needs.{needs}
+use Rattle.tables.proofs.Goals.{Left, left-first, found, left-next, left-none}
+use Rattle.tables.proofs.misplaced.Statement.{statement}
+use Rattle.tables.proofs.misplaced.Tie as tie
+
+abbrev Inv-loop : tie.InvT-loop
+Inv-loop tail from m racks i₀ i = (i ≤ m) × Left tail from m racks i
+
+abbrev μ-loop : tie.MeasureT-loop
+μ-loop tail from m racks i₀ i = m - i
+
+loop-holds : tie.Need-loop-holds Inv-loop μ-loop
+loop-holds c = (omega arith, left-first _ _ _ _)
+
+add-position-at : tie.Need-add-position-at Inv-loop μ-loop
+add-position-at c = omega arith
+
+position-at-requires : tie.Need-position-at-requires Inv-loop μ-loop
+position-at-requires c κs = omega arith
+
+add-i : tie.Need-add-i Inv-loop μ-loop
+add-i c = omega arith
+
+element-copy-out-wide : tie.Need-element-copy-out-wide Inv-loop μ-loop
+element-copy-out-wide c = omega arith
+
+wide-requires : tie.Need-wide-requires Inv-loop μ-loop
+wide-requires c κs = search needs
+
+returns : tie.Need-returns Inv-loop μ-loop
+returns c = found (c .before .before .before .before .before .before .before .args .tail .now) (c .before .before .before .before .before .before .before .args .from) (c .before .before .before .before .before .before .before .args .m) (c .before .before .before .before .before .before .before .args .racks .now) (c .before .before .before .before .before .loop .i) (c .before .before .before .position-at .result) (c .before .wide .result) (c .before .before .before .before .before .loop .inv .1) (omega arith) (c .before .before .before .position-at .ensures .is) (c .before .wide .ensures .0) (c .if1 .taken)
+
+loop-less : tie.Need-loop-less Inv-loop μ-loop
+loop-less c = omega arith
+
+loop-again : tie.Need-loop-again Inv-loop μ-loop
+loop-again c = (omega arith, left-next (c .before .before .before .before .before .before .before .args .tail .now) (c .before .before .before .before .before .before .before .args .from) (c .before .before .before .before .before .before .before .args .m) (c .before .before .before .before .before .before .before .args .racks .now) (c .before .before .before .before .before .loop .i) (c .before .before .before .position-at .result) (c .before .wide .result) (c .before .before .before .before .before .loop .inv .1) (omega arith) (c .before .before .before .position-at .ensures .is) (c .before .wide .ensures .0) (c .if1 .left))
+
+returns-2 : tie.Need-returns-2 Inv-loop μ-loop
+returns-2 c = left-none (c .before .before .before .args .tail .now) (c .before .before .before .args .from) (c .before .before .before .args .m) (c .before .before .before .args .racks .now) (c .before .loop .i) (c .before .loop .inv .1) (omega arith)
+
+pub misplaced-spec : {M : Type 1} → statement M
+misplaced-spec =
+    tie.close
+    (tie.spec
+    Inv-loop
+    μ-loop
+    loop-holds
+    add-position-at
+    position-at-requires
+    add-i
+    element-copy-out-wide
+    wide-requires
+    returns
+    loop-less
+    loop-again
+    returns-2)

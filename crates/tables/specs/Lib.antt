@@ -1,0 +1,9 @@
+pub mod Tables
+pub mod TableLaws
+pub mod MatrixLaws
+pub mod Simulation
+pub mod MovesOn
+pub mod Ending
+pub mod Layers
+pub mod Accepted
+pub mod Examples

@@ -1,0 +1,48 @@
+-- `timetable::run_part` meets its contract: the moves are read from the part that begins at the step's second byte. Assumes nothing.
+use mathlib.Core.Path.{ap, _∙_}
+use native.Mathlib.Omega.{arith}
+use lib.ListN.{getD}
+use Rattle.trains.specs.StepOn.{legalStepOn, ranOn}
+use Rattle.timetable.specs.StepLaws.{stepLength-some}
+use Rattle.timetable.proofs.Turns.{run-room, run-is}
+use borrow.Author.Needs.{needs}
+use Rattle.timetable.proofs.run_part.Statement.{statement}
+use Rattle.timetable.proofs.run_part.Tie as tie
+
+sub-run-step : tie.Need-sub-run-step
+sub-run-step c = omega (arith, stepLength-some (getD (c .before .args .step .now) 0 0))
+
+part-run-step-start : tie.Need-part-run-step-start
+part-run-step-start c = omega (arith, stepLength-some (getD (c .before .args .step .now) 0 0))
+
+part-run-step-end : tie.Need-part-run-step-end
+part-run-step-end c = search needs
+
+shared-slice-read-wide : tie.Need-shared-slice-read-wide
+shared-slice-read-wide c = omega (arith, stepLength-some (getD (c .before .before .before .args .step .now) 0 0))
+
+wide-requires : tie.Need-wide-requires
+wide-requires c κs = search needs
+
+run-step-requires : tie.Need-run-step-requires
+run-step-requires c κs =
+    run-room (c .before .before .before .before .before .args .step .now) (c .before .wide .result) (c .before .wide .ensures .0) (c .before .before .before .before .before .pre)
+
+returns : tie.Need-returns
+returns c =
+    let moves = run-is (c .before .before .before .before .before .before .args .step .now) (c .before .before .wide .result) (c .before .before .wide .ensures .0) in (
+      c .run-step .ensures .0 ∙ ap (legalStepOn (c .before .before .before .before .before .before .args .matrix .now) (c .before .before .before .before .before .before .args .racks .now)) moves,
+      c .run-step .ensures .1 ∙ ap (ranOn (c .before .before .before .before .before .before .args .matrix .now) (c .before .before .before .before .before .before .args .racks .now)) moves,
+    )
+
+pub run-part-spec : {M : Type 1} → statement M
+run-part-spec =
+    tie.close
+    (tie.spec
+    sub-run-step
+    part-run-step-start
+    part-run-step-end
+    shared-slice-read-wide
+    wide-requires
+    run-step-requires
+    returns)

@@ -1,0 +1,4 @@
+pub mod Moves
+pub mod Noting
+pub mod Following
+pub mod Running

@@ -1,0 +1,50 @@
+-- The three passes put together: what the first two find decides, and the third makes the step.
+--
+--     sound-targets   moves that the first pass passes have their targets noted
+--     not-sound       a step that it does not pass is not legal, and the racks stay
+--     not-led         nor is one that the second does not pass
+--     ran             one that both pass is legal, and made
+-- Assumes nothing.
+use Prim.Native.Nat.{ℕ}
+use mathlib.Core.Path.{_≡_, refl, sym, subst}
+use mathlib.Core.Bool.{true, false, _&&_}
+use mathlib.Core.List.{List}
+use lib.ListN.{replicate}
+use lib.Dec.{T}
+use mir.Facts.{and-yes}
+use Rattle.field.specs.RecordLaws.{BelowPairs}
+use Rattle.motion.specs.Step.{every, ascends, enteredOnce}
+use Rattle.motion.specs.StepTests.{ascends-iff}
+use Rattle.tables.specs.Tables.{edgeAt, heldAt}
+use Rattle.trains.specs.StepOn.{soundMoves, allLed, legalStepOn, stepOn, ranOn}
+use Rattle.trains.specs.Chains.{noted, Targets}
+use Rattle.trains.specs.ChainLaws.{noted-targets}
+
+module _ (g h : List ℕ) (ms : List (ℕ × ℕ)) where
+  pub sound-targets : (t : List ℕ) → BelowPairs 64 ms → soundMoves g h ms ≡ true → t ≡ noted (replicate 64 0) ms → Targets ms t
+  unfolding soundMoves
+  sound-targets t b e is =
+      let all : T (ascends ms && every (edgeAt g) ms && every (λ m. heldAt h (m .0)) ms && enteredOnce ms) = subst T (sym e) tt in
+      let three = and-yes (ascends ms && every (edgeAt g) ms && every (λ m. heldAt h (m .0)) ms) (enteredOnce ms) all .0 in
+      let two = and-yes (ascends ms && every (edgeAt g) ms) (every (λ m. heldAt h (m .0)) ms) three .0 in
+      rw is (noted-targets b (ascends-iff ms .0 (and-yes (ascends ms) (every (edgeAt g) ms) two .0)))
+
+  stays : legalStepOn g h ms ≡ false → (false ≡ legalStepOn g h ms) × (h ≡ ranOn g h ms)
+  unfolding ranOn
+  stays e = (sym e, rw e refl)
+
+  pub not-sound : soundMoves g h ms ≡ false → (false ≡ legalStepOn g h ms) × (h ≡ ranOn g h ms)
+  not-sound e = stays none
+    where
+      none : legalStepOn g h ms ≡ false
+      none = unfold legalStepOn in rw e refl
+
+  pub not-led : soundMoves g h ms ≡ true → allLed h ms ≡ false → (false ≡ legalStepOn g h ms) × (h ≡ ranOn g h ms)
+  not-led e f = stays none
+    where
+      none : legalStepOn g h ms ≡ false
+      none = unfold legalStepOn in rw (e, f) refl
+
+  pub ran : (h′ : List ℕ) → soundMoves g h ms ≡ true → allLed h ms ≡ true → h′ ≡ stepOn h ms → (true ≡ legalStepOn g h ms) × (h′ ≡ ranOn g h ms)
+  unfolding ranOn legalStepOn
+  ran h′ e f is = (rw (e, f) refl, rw (e, f) is)

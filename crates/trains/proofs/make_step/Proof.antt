@@ -1,0 +1,24 @@
+-- `trains::make_step` meets its contract: the two passes make the step. Assumes nothing.
+use mathlib.Core.Path.{ap, _∙_}
+use mathlib.Core.List.{List}
+use Prim.Native.Nat.{ℕ}
+use Rattle.field.specs.Bits.{pairs}
+use Rattle.trains.specs.StepOn.{putDown, stepOn}
+use borrow.Author.Needs.{needs}
+use Rattle.trains.proofs.make_step.Statement.{statement}
+use Rattle.trains.proofs.make_step.Tie as tie
+
+take-up-requires : tie.Need-take-up-requires
+take-up-requires c κs = search needs
+
+put-down-requires : tie.Need-put-down-requires
+put-down-requires c κs = search needs
+
+returns : tie.Need-returns
+unfolding stepOn
+returns c =
+    let s = c .before .before .before .before .before .before .before in
+    c .put-down .ensures ∙ ap (λ (h : List ℕ). putDown (s .args .racks .now) h (pairs (s .args .moves .now) 0 (s .args .c))) (c .before .before .before .take-up .ensures)
+
+pub make-step-spec : {M : Type 1} → statement M
+make-step-spec = tie.close (tie.spec take-up-requires put-down-requires returns)
