@@ -5,4 +5,3 @@ pub mod Units
 pub mod WholeBytes
 pub mod UnitLaws
 pub mod Packing
-pub mod WholeBytes
