@@ -1,1 +1,4 @@
 pub mod Writing
+pub mod Passing
+pub mod Windowing
+pub mod Making

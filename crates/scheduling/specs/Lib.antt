@@ -5,3 +5,12 @@ pub mod Schedule
 pub mod Made
 pub mod MakingCases
 pub mod Rows
+pub mod Filling
+pub mod FillingLaws
+pub mod Windows
+pub mod Maker
+pub mod RowLaws
+pub mod Tabled
+pub mod TabledSteps
+pub mod RecordBytes
+pub mod MakerLaws

@@ -1,15 +1,13 @@
 -- The theorem of the timetable maker, from document 01, "Making the timetable": what holds of the steps that the making rule makes of a plan
 -- whose moves are each legal at its turn.
 --
---     stepBytes c         the length in bytes of a step of c moves in the record
---     stepsBytes steps    the length in bytes of the steps, one after another
---     recordBytes steps   the length in bytes of the record of the steps
 --     step-short          a step with a move takes at most 3 bytes for each of its moves
---     record-short        a record of steps with moves takes at most 3 bytes for each move, and 3
+--     steps-short         steps with moves take at most 3 bytes for each move
 --     steps-few           there are at most as many steps with moves as moves
 --     leads-size          a step that is legal at its turn has at most as many moves as there are racks, and fewer than there are positions
 --     plan-scheduled      the moves of a plan, timed by the rule, are scheduled
---     made-lefts          no two moves that the rule puts into one step leave the same position
+--     steps-made          the made steps are those of the moves latest first
+--     history-lefts, made-lefts    no two moves that the rule puts into one step leave the same position
 --     Made F A ms B       what holds of the steps made of the plan ms, which leads from A to B on the floor F
 --     made                it holds of every plan that leads from a sound arrangement to B
 --     made-replayed       so it does of every plan whose replay ends at B
@@ -18,7 +16,7 @@ use Prim.Native.Nat.{ℕ, zero, suc, _+_, _-_, _*_, _/_, _≤_, _<_, min}
 use mathlib.Core.Path.{_≡_, refl, _∙_, ap, subst}
 use mathlib.Core.List.{List, [], _∷_, reverseAux, List·Memᴰ, List·Memᴰ·head, List·Memᴰ·tail, List·Memᴰ·not-nil}
 use native.Mathlib.Omega.{arith}
-use lib.ListN.{length}
+use lib.ListN.{length, length-append}
 use Rattle.order.specs.Floor.{Floor}
 use Rattle.motion.specs.Arrangement.{Arrangement}
 use Rattle.motion.specs.MoveLaws.{legal-parts, after-length}
@@ -29,35 +27,26 @@ use Rattle.motion.specs.ListLaws.{by-member, KeysDiffer}
 use Rattle.motion.specs.StepTests.{left}
 use Rattle.motion.specs.LegalStep.{legalStep-iff}
 use Rattle.motion.specs.StepLimits.{step-size}
+use Rattle.field.specs.Packing.{length-pack}
+use Rattle.timetable.specs.Reading.{moveCount}
+use Rattle.scheduling.specs.Rows.{stepBytes, stepsBytes}
 use Rattle.scheduling.specs.Making.{Timed, rackAt, ofRack, stepFor, timed, greatest, movesIn, inStep, stepsFrom, madeSteps}
-use Rattle.scheduling.specs.Timing.{Ruled, none, ruled-timed, stepFor-bounds, ruled-filled, total, length-movesIn, steps-total, steps-length, steps-at}
+use Rattle.scheduling.specs.Timing.{Ruled, none, ruled-timed, stepFor-bounds, ruled-filled, length-movesIn, steps-total, steps-length, steps-at}
 use Rattle.scheduling.specs.Timing.{history, history-length, history-greatest, history-made, history-differ}
 use Rattle.scheduling.specs.Schedule.{Scheduled, rackAt-finds, scheduled-none, scheduled-more, scheduled-leads}
 
--- "each step is one byte c, then c moves, then pad", a move being 12 bits
-unfoldable pub stepBytes : ℕ → ℕ
-stepBytes c = 1 + (12 * c + 7) / 8
-
-unfoldable pub stepsBytes : List (List (ℕ × ℕ)) → ℕ
-stepsBytes [] = 0
-stepsBytes (ms ∷ steps) = stepBytes (length ms) + stepsBytes steps
-
--- "step count s in 22 bits, two spare zero bits"
-unfoldable pub recordBytes : List (List (ℕ × ℕ)) → ℕ
-recordBytes steps = 3 + stepsBytes steps
-
-pub step-short : (c : ℕ) → 1 ≤ c → stepBytes c ≤ 3 * c
+pub step-short : (ms : List (ℕ × ℕ)) → 1 ≤ length ms → length (stepBytes ms) ≤ 3 * length ms
 unfolding stepBytes
-step-short c h = omega arith
+step-short ms h = omega (arith, length-pack ms)
 
-pub record-short : (steps : List (List (ℕ × ℕ))) → ((ms : List (ℕ × ℕ)) → List·Memᴰ ms steps → 1 ≤ length ms) → recordBytes steps ≤ 3 * total steps + 3
-unfolding recordBytes stepsBytes total
-record-short [] h = omega arith
-record-short (ms ∷ steps) h =
-    omega (arith, step-short (length ms) (h ms (List·Memᴰ·head refl)), record-short steps (λ x k. h x (List·Memᴰ·tail k)))
+pub steps-short : (steps : List (List (ℕ × ℕ))) → ((ms : List (ℕ × ℕ)) → List·Memᴰ ms steps → 1 ≤ length ms) → length (stepsBytes steps) ≤ 3 * moveCount steps
+unfolding stepsBytes moveCount
+steps-short [] h = omega arith
+steps-short (ms ∷ steps) h =
+    omega (arith, length-append (stepBytes ms) (stepsBytes steps), step-short ms (h ms (List·Memᴰ·head refl)), steps-short steps (λ x k. h x (List·Memᴰ·tail k)))
 
-pub steps-few : (steps : List (List (ℕ × ℕ))) → ((ms : List (ℕ × ℕ)) → List·Memᴰ ms steps → 1 ≤ length ms) → length steps ≤ total steps
-unfolding total
+pub steps-few : (steps : List (List (ℕ × ℕ))) → ((ms : List (ℕ × ℕ)) → List·Memᴰ ms steps → 1 ≤ length ms) → length steps ≤ moveCount steps
+unfolding moveCount
 steps-few [] h = omega arith
 steps-few (ms ∷ steps) h = omega (arith, h ms (List·Memᴰ·head refl), steps-few steps (λ x k. h x (List·Memᴰ·tail k)))
 
@@ -85,12 +74,12 @@ pub record Made (F : Floor) (A : Arrangement) (ms : List (ℕ × ℕ)) (B : Arra
   pub count : length (madeSteps A ms) ≡ greatest (timed A [] ms)
   pub few : length (madeSteps A ms) ≤ length ms
   -- as many moves as the plan has
-  pub moves : total (madeSteps A ms) ≡ length ms
+  pub moves : moveCount (madeSteps A ms) ≡ length ms
   -- each step has a move, at most one for each rack, and fewer than there are positions
   pub filled : (step : List (ℕ × ℕ)) → List·Memᴰ step (madeSteps A ms) → 1 ≤ length step
   pub most : (step : List (ℕ × ℕ)) → List·Memᴰ step (madeSteps A ms) → length step ≤ min (length A) (F .positions - 1)
-  -- so the record fits into "3 × k + 3 bytes"
-  pub short : recordBytes (madeSteps A ms) ≤ 3 * length ms + 3
+  -- so with its head of 3 bytes the record fits into "3 × k + 3 bytes"
+  pub short : length (stepsBytes (madeSteps A ms)) ≤ 3 * length ms
 
 module _ (F : Floor) {A B : Arrangement} {ms : List (ℕ × ℕ)} (sound : Sound (F .positions) A) (leads : Leads F A ms B) where
   scheduled : Scheduled F A (history A ms) B
@@ -99,7 +88,7 @@ module _ (F : Floor) {A B : Arrangement} {ms : List (ℕ × ℕ)} (sound : Sound
   ruled : Ruled (history A ms)
   ruled = ruled-timed A [] ms none
 
-  steps-made : madeSteps A ms ≡ stepsFrom 1 (greatest (history A ms)) (history A ms)
+  pub steps-made : madeSteps A ms ≡ stepsFrom 1 (greatest (history A ms)) (history A ms)
   steps-made = history-made A ms (λ i. scheduled .steps i .lefts)
 
   made-leads : LeadsSteps F A (madeSteps A ms) B
@@ -114,11 +103,14 @@ module _ (F : Floor) {A B : Arrangement} {ms : List (ℕ × ℕ)} (sound : Sound
       has-move zero h b e = absurd (omega arith)
       has-move (suc i) h b e = rw (e, length-movesIn (suc i) (history A ms)) (ruled-filled ruled i (omega arith))
 
-  made-total : total (madeSteps A ms) ≡ length ms
-  made-total = ap total steps-made ∙ steps-total ruled (greatest (history A ms)) (omega arith) ∙ history-length A ms
+  made-total : moveCount (madeSteps A ms) ≡ length ms
+  made-total = ap moveCount steps-made ∙ steps-total ruled (greatest (history A ms)) (omega arith) ∙ history-length A ms
+
+  pub history-lefts : (i : ℕ) → KeysDiffer left (inStep (suc i) (history A ms))
+  history-lefts i = scheduled .steps i .lefts
 
   pub made-lefts : (i : ℕ) → KeysDiffer left (inStep (suc i) (timed A [] ms))
-  made-lefts i = history-differ A ms (suc i) (scheduled .steps i .lefts)
+  made-lefts i = history-differ A ms (suc i) (history-lefts i)
 
   pub made : Made F A ms B
   made =
@@ -129,7 +121,7 @@ module _ (F : Floor) {A B : Arrangement} {ms : List (ℕ × ℕ)} (sound : Sound
         moves = made-total;
         filled = made-filled;
         most = leads-size F made-leads;
-        short = omega (arith, record-short (madeSteps A ms) made-filled, made-total);
+        short = omega (arith, steps-short (madeSteps A ms) made-filled, made-total);
       }
 
 pub made-replayed : (F : Floor) (A : Arrangement) (ms : List (ℕ × ℕ)) (B : Arrangement) → Sound (F .positions) A → replayMoves F A ms ≡ ended B → Made F A ms B

@@ -7,7 +7,7 @@
 --     waiting-made      a rack's first move waits for the step in which its place is left: the case book's cases do not show this half of the rule
 --     none-made         with no moves there is no step
 --     case-1-theorem    the theorem holds of case 1's plan
---     case-1-bytes      its record has 11 bytes, of at most 3 × 4 + 3
+--     case-1-bytes      its steps take 8 bytes, of at most 3 × 4
 --     case-2-theorem    and of case 2's moves
 --     none-theorem      and of no moves, from wherever racks stand soundly
 --     case-1-scheduled  case 1's plan is scheduled
@@ -18,6 +18,9 @@
 use mathlib.Core.List.{[], _∷_}
 use mathlib.Core.Path.{_≡_, refl}
 use lib.Dec.{lit<}
+use lib.ListN.{length}
+use Rattle.field.specs.Packing.{pack}
+use Rattle.scheduling.specs.Rows.{stepBytes, stepsBytes}
 use Rattle.order.specs.Floor.{Floor, isPair, among, joined}
 use Rattle.motion.specs.Arrangement.{Arrangement, occupied, vacant}
 use Rattle.motion.specs.Move.{onFloor, legalMove, goesTo, after, afterMove}
@@ -30,7 +33,7 @@ use Rattle.scheduling.specs.Making.{rackFrom, rackAt, ofRack, ofLeaving,
 use Rattle.scheduling.specs.StepMoves.{StepMoves, stepMoves-none, joining, carrying}
 use Rattle.scheduling.specs.Timing.{Ruled, none, ruled-timed, history}
 use Rattle.scheduling.specs.Schedule.{Scheduled, scheduled-none}
-use Rattle.scheduling.specs.Made.{stepBytes, stepsBytes, recordBytes, plan-scheduled, Made, made, made-replayed}
+use Rattle.scheduling.specs.Made.{plan-scheduled, Made, made, made-replayed}
 
 pub case-1-made : madeSteps (0 ∷ 3 ∷ []) ((0, 1) ∷ (3, 2) ∷ (2, 0) ∷ (1, 3) ∷ []) ≡ ((0, 1) ∷ (3, 2) ∷ []) ∷ ((1, 3) ∷ (2, 0) ∷ []) ∷ []
 unfolding madeSteps timed stepFor rackAt rackFrom ofRack ofLeaving greatest stepsFrom movesIn inStep sort insert afterMove after goesTo
@@ -58,8 +61,8 @@ none-made A = refl
 pub case-1-theorem : Made floorF starts plan goals
 case-1-theorem = made-replayed floorF starts plan goals starts-sound plan-replayed
 
-pub case-1-bytes : recordBytes (madeSteps starts plan) ≡ 11
-unfolding recordBytes stepsBytes stepBytes
+pub case-1-bytes : length (stepsBytes (madeSteps starts plan)) ≡ 8
+unfolding stepsBytes stepBytes pack
 case-1-bytes = rw case-1-made refl
 
 sound-2 : Sound 4 (0 ∷ 1 ∷ [])

@@ -11,7 +11,6 @@
 --     inStep-same, inStep-other   a move in its own step, and in another
 --     ruled-filled          each step from 1 to the greatest has a move
 --     length-movesIn        the moves of a step are as many, sorted or not
---     total steps           how many moves the steps have in all
 --     steps-total           from 1 to the greatest, as many as there are moves
 --     steps-length          as many steps are listed as asked for
 --     steps-at              each is one of the steps asked for
@@ -37,6 +36,7 @@ use Rattle.motion.specs.Test.{equal?, cond-either}
 use Rattle.motion.specs.ListLaws.{by-member, pairwise-more, pairwise-rel, KeysDiffer}
 use Rattle.motion.specs.StepTests.{left}
 use Rattle.motion.specs.StepOf.{insert, sort, sort-iff, sort-ascends, ascending-same}
+use Rattle.timetable.specs.Reading.{moveCount}
 use Rattle.scheduling.specs.Making.{Timed, ofRack, ofLeaving, stepFor, timed, greatest, inStep, movesIn, stepsFrom, madeSteps}
 
 pub data Ruled : List Timed → Type 0 where
@@ -113,10 +113,6 @@ ruled-filled (more {t = t} {l = l} e r) i h =
 
 -- how many moves in all
 
-unfoldable pub total : List (List (ℕ × ℕ)) → ℕ
-total [] = 0
-total (ms ∷ steps) = length ms + total steps
-
 length-insert : (m : ℕ × ℕ) (ms : List (ℕ × ℕ)) → length (insert m ms) ≡ suc (length ms)
 unfolding insert
 length-insert m [] = refl
@@ -138,29 +134,29 @@ steps-other zero i t l h = refl
 steps-other (suc k) i t l h =
     ap₂ (λ (x : List (ℕ × ℕ)) (y : List (List (ℕ × ℕ))). x ∷ y) (ap sort (inStep-other i t l (λ e. omega arith))) (steps-other k (suc i) t l (omega arith))
 
-total-more : (k i : ℕ) (t : Timed) (l : List Timed) → i ≤ t .step → t .step < i + k → total (stepsFrom i k (t ∷ l)) ≡ suc (total (stepsFrom i k l))
-unfolding stepsFrom total
+total-more : (k i : ℕ) (t : Timed) (l : List Timed) → i ≤ t .step → t .step < i + k → moveCount (stepsFrom i k (t ∷ l)) ≡ suc (moveCount (stepsFrom i k l))
+unfolding stepsFrom moveCount
 total-more zero i t l h b = absurd (omega arith)
 total-more (suc k) i t l h b =
     ⊎-elim
     (λ (e : t .step ≡ i).
     let here : length (movesIn i (t ∷ l)) ≡ suc (length (movesIn i l)) =
     length-movesIn i (t ∷ l) ∙ ap length (inStep-same i t l e) ∙ ap suc (sym (length-movesIn i l)) in
-    let rest : total (stepsFrom (suc i) k (t ∷ l)) ≡ total (stepsFrom (suc i) k l) = ap total (steps-other k (suc i) t l (omega arith)) in
+    let rest : moveCount (stepsFrom (suc i) k (t ∷ l)) ≡ moveCount (stepsFrom (suc i) k l) = ap moveCount (steps-other k (suc i) t l (omega arith)) in
     omega arith)
     (λ (e : t .step ≢ i).
     let here : length (movesIn i (t ∷ l)) ≡ length (movesIn i l) =
     length-movesIn i (t ∷ l) ∙ ap length (inStep-other i t l e) ∙ sym (length-movesIn i l) in
-    let rest : total (stepsFrom (suc i) k (t ∷ l)) ≡ suc (total (stepsFrom (suc i) k l)) = total-more k (suc i) t l (omega arith) (omega arith) in
+    let rest : moveCount (stepsFrom (suc i) k (t ∷ l)) ≡ suc (moveCount (stepsFrom (suc i) k l)) = total-more k (suc i) t l (omega arith) (omega arith) in
     omega arith)
     (equal? (t .step) i)
 
-total-none : (k i : ℕ) → total (stepsFrom i k []) ≡ 0
-unfolding stepsFrom total movesIn inStep sort
+total-none : (k i : ℕ) → moveCount (stepsFrom i k []) ≡ 0
+unfolding stepsFrom moveCount movesIn inStep sort
 total-none zero i = refl
 total-none (suc k) i = omega (arith, total-none k (suc i))
 
-pub steps-total : {l : List Timed} → Ruled l → (k : ℕ) → greatest l ≤ k → total (stepsFrom 1 k l) ≡ length l
+pub steps-total : {l : List Timed} → Ruled l → (k : ℕ) → greatest l ≤ k → moveCount (stepsFrom 1 k l) ≡ length l
 unfolding greatest
 steps-total none k h = total-none k 1
 steps-total (more {t = t} {l = l} e r) k h =

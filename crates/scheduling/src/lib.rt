@@ -1,7 +1,18 @@
-// The timetable maker.
+// The timetable maker: of a plan that the plan checker accepts it makes the timetable by the making rule. specs/Making.antt has the rule,
+// specs/Maker.antt the answer and the buffer afterwards; `make` is the entry point. A pass over the plan fills a window of 4096 steps, which is
+// then written; most plans need one.
+use answers::Fault;
+use plan::PlanVerdict;
 ghost use mathlib.Core.Path.{_≡_};
-ghost use Prim.Native.Nat.{_+_, _*_, _/_, _≤_, _<_};
+ghost use mathlib.Core.List.{[], _∷_};
+ghost use Prim.Native.Nat.{_+_, _*_, _/_, _^_, _≤_, _<_, max};
 ghost use lib.ListN.{length};
+ghost use Rattle.answers.specs.Answer.{accepted, passUp};
+ghost use Rattle.field.specs.Bits.{pairs};
+ghost use Rattle.plan.specs.Verdict.{answerOf as planAnswerOf};
+ghost use Rattle.scheduling.specs.Filling.{noted, Filled, latest};
+ghost use Rattle.scheduling.specs.Windows.{rowsOf, windowSteps, allSteps, headBytes};
+ghost use Rattle.scheduling.specs.Maker.{makerAnswer, bufferAfter, answerOf};
 ghost use Rattle.scheduling.specs.Rows.{EntriesFit, rowMoves, rows, stepBytes, stepsBytes, written, countWith, bufferWith};
 
 // Writes the move of an entry of a row behind the `count` moves that its step has so far, and says how many it has then. An entry of 0 is no
@@ -33,4 +44,158 @@ fn write_step(window: &[u8; 262144], row: usize, buffer: &mut [u8], at: usize) -
     }
     buffer[at] = count as u8;
     at + 1 + (12 * count + 7) / 8
+}
+
+// The greater of two steps.
+fn later(x: usize, y: usize) -> usize
+    ensures { λ r. ⌜ r ≡ max x y ⌝ }
+{
+    if x < y {
+        return y;
+    }
+    x
+}
+
+// Enters the move from a to b, of step t, into the window of the 4096 steps after step `first`, if that has its step.
+fn note(window: &mut [u8; 262144], first: usize, t: usize, a: usize, b: usize)
+    requires { ⌜ (a < 64) × (b < 64) ⌝ }
+    ensures { λ _. ⌜ now (window .exit) ≡ noted first (now (window .entry)) t a b ⌝ }
+{
+    if t <= first {
+        return;
+    }
+    let row = t - 1 - first;
+    if row < 4096 {
+        window[row * 64 + a] = (b + 1) as u8;
+    }
+}
+
+// One pass over the k moves of a plan's tail: enters those of the 4096 steps after step `first` into the window, and gives the greatest step.
+// A rack's last step is kept where it now stands, so that no arrangement is needed.
+fn fill(tail: &[u8], k: usize, first: usize, window: &mut [u8; 262144]) -> usize
+    requires { ⌜ (k < 2 ^ 22) × (12 * k ≤ 8 * length (now tail)) ⌝ }
+    ensures { λ r. ⌜ Filled first (now (window .entry)) (pairs (now (tail .entry)) 0 k) r (now (window .exit)) ⌝ }
+{
+    let mut arrived = [0usize; 64];
+    let mut left = [0usize; 64];
+    let mut greatest = 0;
+    let mut j = 0;
+    while j < k {
+        let step = field::pair_at(tail, j);
+        let a = step.first;
+        let b = step.second;
+        let t = later(arrived[a] + 1, left[b]);
+        arrived[b] = t;
+        left[a] = t;
+        note(window, first, t, a, b);
+        greatest = later(greatest, t);
+        j += 1;
+    }
+    greatest
+}
+
+// How many of s steps a window of the 4096 steps after step `first` has.
+fn rows_of(s: usize, first: usize) -> usize
+    ensures { λ r. ⌜ r ≡ rowsOf s first ⌝ }
+{
+    if s <= first {
+        return 0;
+    }
+    if 4096 < s - first {
+        return 4096;
+    }
+    s - first
+}
+
+// Writes the steps of the window's first n rows from byte `at` on, and says where the next step begins.
+fn write_window(window: &[u8; 262144], n: usize, buffer: &mut [u8], at: usize) -> usize
+    requires { ⌜ (n ≤ 4096) × ((at + length (stepsBytes (rows (now window) 0 n)) ≤ length (now buffer)) × EntriesFit (now window)) ⌝ }
+    ensures { λ r. ⌜ (r ≡ at + length (stepsBytes (rows (now (window .entry)) 0 n))) × (now (buffer .exit) ≡ written (now (buffer .entry)) at (stepsBytes (rows (now (window .entry)) 0 n))) ⌝ }
+{
+    let mut next = at;
+    let mut row = 0;
+    while row < n {
+        next = write_step(window, row, buffer, next);
+        row += 1;
+    }
+    next
+}
+
+// What the plan's steps come to after a window: how many there are in all, and where the next one begins.
+struct Progress {
+    steps: usize,
+    next: usize,
+}
+
+// Makes and writes the steps of one window, those after step `first`, from byte `at` on.
+fn make_window(tail: &[u8], k: usize, first: usize, buffer: &mut [u8], at: usize) -> Progress
+    requires { ⌜ (k < 2 ^ 22) × (12 * k ≤ 8 * length (now tail)) × (at + length (stepsBytes (windowSteps (pairs (now tail) 0 k) first)) ≤ length (now buffer)) ⌝ }
+    ensures { λ r. ⌜ (r .steps ≡ latest (pairs (now (tail .entry)) 0 k)) × (r .next ≡ at + length (stepsBytes (windowSteps (pairs (now (tail .entry)) 0 k) first))) × (now (buffer .exit) ≡ written (now (buffer .entry)) at (stepsBytes (windowSteps (pairs (now (tail .entry)) 0 k) first))) ⌝ }
+{
+    let mut window = [0u8; 262144];
+    let s = fill(tail, k, first, &mut window);
+    let n = rows_of(s, first);
+    let next = write_window(&window, n, buffer, at);
+    Progress { steps: s, next }
+}
+
+// Makes and writes all steps of the k moves of a plan's tail behind the record's head, window by window, and says how many they are. That is
+// known from the first window on; until then it counts as 1, so that this window is made.
+fn make_steps(tail: &[u8], k: usize, buffer: &mut [u8]) -> usize
+    requires { ⌜ (k < 2 ^ 22) × (12 * k ≤ 8 * length (now tail)) × (3 + length (stepsBytes (allSteps (pairs (now tail) 0 k))) ≤ length (now buffer)) ⌝ }
+    ensures { λ r. ⌜ (r ≡ latest (pairs (now (tail .entry)) 0 k)) × (now (buffer .exit) ≡ written (now (buffer .entry)) 3 (stepsBytes (allSteps (pairs (now (tail .entry)) 0 k)))) ⌝ }
+{
+    let mut s = 1;
+    let mut at = 3;
+    let mut n = 0;
+    while 4096 * n < s {
+        let more = make_window(tail, k, 4096 * n, buffer, at);
+        s = more.steps;
+        at = more.next;
+        n += 1;
+    }
+    s
+}
+
+// Writes the head of a timetable of s steps.
+fn write_head(buffer: &mut [u8], s: usize)
+    requires { ⌜ (3 ≤ length (now buffer)) × (s < 2 ^ 22) ⌝ }
+    ensures { λ _. ⌜ now (buffer .exit) ≡ written (now (buffer .entry)) 0 (headBytes s) ⌝ }
+{
+    buffer[0] = (s / 16384) as u8;
+    buffer[1] = (s / 64 % 256) as u8;
+    buffer[2] = (s % 64 * 4) as u8;
+}
+
+// The verdict of the timetable maker: specs/Maker.antt gives it document 01's number and values.
+pub enum MakerVerdict {
+    Accepted(usize),
+    Refused(Fault, u32),
+}
+
+// The plan checker's refusal as the timetable maker's: the same fault at the same place.
+fn refusal(plan: PlanVerdict) -> MakerVerdict
+    ensures { λ r. ⌜ answerOf r ≡ passUp (planAnswerOf plan) (accepted (0 ∷ [])) ⌝ }
+{
+    let PlanVerdict::Refused(fault, place) = plan else {
+        return MakerVerdict::Accepted(0);
+    };
+    MakerVerdict::Refused(fault, place)
+}
+
+// Makes the timetable of a plan for an order and writes it at the front of the buffer: the plan checker's numbers, then 44.
+pub fn make(order: &[u8], plan: &[u8], buffer: &mut [u8]) -> MakerVerdict
+    ensures { λ r. ⌜ answerOf r ≡ makerAnswer (now (order .entry)) (now (plan .entry)) (length (now (buffer .entry))) ⌝ }
+    ensures { λ _. ⌜ now (buffer .exit) ≡ bufferAfter (now (order .entry)) (now (plan .entry)) (now (buffer .entry)) ⌝ }
+{
+    let below = plan::check(order, plan);
+    let PlanVerdict::Accepted(k) = below else {
+        return refusal(below);
+    };
+    if buffer.len() < 3 * k + 3 {
+        return MakerVerdict::Refused(Fault::TimetableBuffer, 0);
+    }
+    let s = make_steps(&plan[3..], k, buffer);
+    write_head(buffer, s);
+    MakerVerdict::Accepted(s)
 }

@@ -1,0 +1,137 @@
+-- The maker's answers: the plan checker's refusal passed up, 44, and the made timetable.
+--
+--     maker-refused     a refusal of the plan checker is the maker's, and the buffer stays
+--     PlanRead, plan-read    what an accepted plan tells of its tail
+--     maker-short       44
+--     maker-room, head-room  the steps and the head have room
+--     maker-made        the answer and the buffer, once steps and head are written
+-- Assumes nothing.
+use Prim.Native.Nat.{ℕ, _+_, _-_, _*_, _^_, _≤_, _<_}
+use mathlib.Core.Path.{_≡_, refl, sym, ap, ap₂, _∙_, subst}
+use mathlib.Core.Bool.{true}
+use mathlib.Core.List.{List, [], _∷_, _++_}
+use native.Mathlib.Omega.{arith}
+use borrow.Author.Tests.{lt-ltb, le-ltb}
+use lib.ListN.{length, take, drop}
+use lib.Dec.{ltb}
+use Rattle.answers.specs.Answer.{Answer, accepted, refused, refuse, passUp}
+use Rattle.answers.specs.AnswerLaws.{passUp-accepted, passUp-refused}
+use Rattle.field.specs.Bits.{pairs}
+use Rattle.field.specs.BitLaws.{field-lt}
+use Rattle.field.specs.RecordLaws.{rest-is, pairs-drop}
+use Rattle.field.specs.UnitLaws.{Fitting, fitting, tail-units}
+use Rattle.order.specs.Order.{floorOf, startsOf, goalsOf}
+use Rattle.plan.specs.Plan.{moveCount, planMoves, wrongPlanLength, planAnswer}
+use Rattle.plan.specs.PlanRecord.{moves-counted}
+use Rattle.timetable.specs.Timetable.{timetableRecord}
+use Rattle.scheduling.specs.Making.{timed, greatest, madeSteps}
+use Rattle.scheduling.specs.Rows.{stepsBytes, written}
+use Rattle.scheduling.specs.RowLaws.{length-written}
+use Rattle.scheduling.specs.Filling.{latest}
+use Rattle.scheduling.specs.FillingLaws.{latest-few}
+use Rattle.scheduling.specs.Windows.{allSteps, headBytes}
+use Rattle.scheduling.specs.TabledSteps.{latest-rule, allSteps-made}
+use Rattle.scheduling.specs.RecordBytes.{record-bytes, front-written}
+use Rattle.scheduling.specs.Maker.{madeOf, makerAnswer, bufferAfter, leaves}
+use Rattle.scheduling.specs.MakerLaws.{PlanGave, plan-gave, made-of, made-packable}
+
+module _ (o p B : List ℕ) where
+  -- an answer of the maker, and what it leaves
+  after-refusal : (n q : ℕ) → makerAnswer o p (length B) ≡ refused n q → B ≡ bufferAfter o p B
+  unfolding bufferAfter
+  after-refusal n q e = sym (ap (λ (a : Answer). leaves a (timetableRecord (madeOf o p)) B) e)
+
+  pub maker-refused : (a r : Answer) (n q : ℕ) → a ≡ planAnswer o p → a ≡ refused n q → r ≡ passUp a (accepted (0 ∷ []))
+      → (r ≡ makerAnswer o p (length B)) × (B ≡ bufferAfter o p B)
+  unfolding makerAnswer
+  maker-refused a r n q ea en er =
+      let below : planAnswer o p ≡ refused n q = sym ea ∙ en in
+      let up : makerAnswer o p (length B) ≡ refused n q = ap (λ (x : Answer). passUp x (refuse (ltb (length B) (3 * moveCount p + 3)) 44 0 (accepted (greatest (timed (startsOf o) [] (planMoves p)) ∷ [])))) below in
+      let down : r ≡ refused n q = er ∙ ap (λ (x : Answer). passUp x (accepted (0 ∷ []))) en in
+      (down ∙ sym up, after-refusal n q up)
+
+  module _ (k : ℕ) (e : accepted (k ∷ []) ≡ planAnswer o p) where
+    gave : PlanGave o p (k ∷ [])
+    gave = plan-gave o p (k ∷ []) (sym e)
+
+    count-is : k ≡ moveCount p
+    count-is = let c : moveCount p ∷ [] ≡ k ∷ [] = gave .counted in cc
+
+    pub count-below : k < 2 ^ 22
+    unfolding moveCount
+    count-below = rw count-is (field-lt p 0 22)
+
+    fit : Fitting p (moveCount p)
+    unfolding wrongPlanLength
+    fit = fitting p (moveCount p) (gave .length-right)
+
+    pub head-there : 3 ≤ length p
+    head-there = fit .head-there
+
+    -- the tail has the plan's moves
+    pub tail-moves : pairs (take (length p - 3) (drop 3 p)) 0 k ≡ planMoves p
+    unfolding planMoves
+    tail-moves = rw (rest-is 3 p, ← pairs-drop p 3 0 k, count-is) refl
+
+    pub tail-fits : 12 * k ≤ 8 * length (take (length p - 3) (drop 3 p))
+    tail-fits = rw count-is (tail-units p (moveCount p) fit)
+
+    steps-are : allSteps (pairs (take (length p - 3) (drop 3 p)) 0 k) ≡ madeOf o p
+    unfolding madeOf
+    steps-are = ap allSteps tail-moves ∙ allSteps-made (floorOf o) (gave .placed-well .few-positions) (gave .placed-well .starts-sound) (gave .leads)
+
+    answer-is : makerAnswer o p (length B) ≡ refuse (ltb (length B) (3 * k + 3)) 44 0 (accepted (greatest (timed (startsOf o) [] (planMoves p)) ∷ []))
+    unfolding makerAnswer
+    answer-is = passUp-accepted (planAnswer o p) _ (k ∷ []) (sym e) ∙ rw count-is refl
+
+    pub maker-short : length B < 3 * k + 3 → (refused 44 0 ≡ makerAnswer o p (length B)) × (B ≡ bufferAfter o p B)
+    maker-short h =
+        let up : makerAnswer o p (length B) ≡ refused 44 0 = answer-is ∙ rw (lt-ltb (length B) (3 * k + 3) h) refl in
+        (sym up, after-refusal 44 0 up)
+
+    module _ (room : 3 * k + 3 ≤ length B) where
+      up : makerAnswer o p (length B) ≡ accepted (greatest (timed (startsOf o) [] (planMoves p)) ∷ [])
+      up = answer-is ∙ rw (le-ltb (length B) (3 * k + 3) room) refl
+
+      few : length (stepsBytes (madeOf o p)) ≤ 3 * k
+      unfolding madeOf
+      few = omega (arith, made-of o p (k ∷ []) (sym e) .short, moves-counted p, count-is)
+
+      pub maker-room : 3 + length (stepsBytes (allSteps (pairs (take (length p - 3) (drop 3 p)) 0 k))) ≤ length B
+      maker-room = rw steps-are (omega (arith, few, room))
+
+      module _ (s : ℕ) (b : List ℕ) (es : s ≡ latest (pairs (take (length p - 3) (drop 3 p)) 0 k))
+          (eb : b ≡ written B 3 (stepsBytes (allSteps (pairs (take (length p - 3) (drop 3 p)) 0 k)))) where
+        count-few : s ≤ k
+        count-few = omega (arith, es, ap latest tail-moves, latest-few (planMoves p), moves-counted p, count-is)
+
+        pub head-room : (3 ≤ length b) × (s < 2 ^ 22)
+        head-room =
+            (omega (arith, ap length eb, length-written B 3 (stepsBytes (allSteps (pairs (take (length p - 3) (drop 3 p)) 0 k))) maker-room, room), omega (arith, count-few, count-below))
+
+        rule : s ≡ greatest (timed (startsOf o) [] (planMoves p))
+        rule = es ∙ ap latest tail-moves ∙ latest-rule (floorOf o) (gave .placed-well .few-positions) (gave .placed-well .starts-sound) (gave .leads)
+
+        three : (n : ℕ) → length (headBytes n) ≡ 3
+        unfolding headBytes
+        three n = refl
+
+        counted : s ≡ length (madeOf o p)
+        unfolding madeOf
+        counted = rule ∙ sym (made-of o p (k ∷ []) (sym e) .count)
+
+        whole : timetableRecord (madeOf o p) ≡ headBytes s ++ stepsBytes (madeOf o p)
+        whole = record-bytes (madeOf o p) (made-packable o p (k ∷ []) (sym e)) ∙ ap (λ (n : ℕ). headBytes n ++ stepsBytes (madeOf o p)) (sym counted)
+
+        pub maker-made : (c : List ℕ) → c ≡ written b 0 (headBytes s) → (accepted (s ∷ []) ≡ makerAnswer o p (length B)) × (c ≡ bufferAfter o p B)
+        unfolding bufferAfter
+        maker-made c ec =
+            let x = stepsBytes (madeOf o p) in
+            let behind : b ≡ written B 3 x = eb ∙ ap (λ (l : List (List (ℕ × ℕ))). written B 3 (stepsBytes l)) steps-are in
+            let buffer : c ≡ headBytes s ++ x ++ drop (length (headBytes s ++ x)) B =
+            ec ∙ ap (λ (l : List ℕ). written l 0 (headBytes s)) behind ∙ front-written B (headBytes s) x (three s) (omega (arith, few, room)) in (
+              ap (λ (n : ℕ). accepted (n ∷ [])) rule ∙ sym up,
+              buffer
+                  ∙ ap (λ (r : List ℕ). r ++ drop (length r) B) (sym whole)
+                  ∙ sym (ap (λ (a : Answer). leaves a (timetableRecord (madeOf o p)) B) up),
+            )

@@ -1,0 +1,62 @@
+-- The loop of a pass: what is left to pass decides the pass at the end.
+--
+--     note-early, note-late, note-in     what `note` does, by the step
+--     ToPass s k first w₀ w x y g j      with j of the k moves passed from the window w₀, the window is w, the tables x and y, and the greatest step g
+--     pass-first, pass-next, pass-last   how that goes on
+-- Assumes nothing.
+use Prim.Native.Nat.{ℕ, _+_, _-_, _*_, _≤_, _<_, max}
+use mathlib.Core.Path.{_≡_, refl, sym, ap, _∙_}
+use mathlib.Core.List.{List, _∷_}
+use native.Mathlib.Omega.{arith}
+use native.Mathlib.Nat.{sub-zero}
+use borrow.Author.Tests.{lt-ltb, le-ltb}
+use lib.ListN.{getD, set, replicate}
+use Rattle.field.specs.Bits.{field, pairs}
+use Rattle.field.specs.RecordLaws.{pairs-next}
+use Rattle.scheduling.specs.Filling.{Pass, started, stepBy, noted, passed, pass, Filled}
+use Rattle.scheduling.specs.FillingLaws.{Early, early-started, early-passed}
+
+module _ (first : ℕ) (w : List ℕ) (t a b : ℕ) where
+  pub note-early : t ≤ first → w ≡ noted first w t a b
+  unfolding noted
+  note-early h = rw (le-ltb first t h) refl
+
+  pub note-in : (r : ℕ) → r ≡ t - 1 - first → first < t → r < 4096 → set w (r * 64 + a) (b + 1) ≡ noted first w t a b
+  unfolding noted
+  note-in r e h k = rw (lt-ltb first t h, ← e, lt-ltb r 4096 k) refl
+
+  pub note-late : (r : ℕ) → r ≡ t - 1 - first → first < t → 4096 ≤ r → w ≡ noted first w t a b
+  unfolding noted
+  note-late r e h k = rw (lt-ltb first t h, ← e, le-ltb r 4096 k) refl
+
+module _ (s : List ℕ) (k first : ℕ) (w₀ : List ℕ) where
+  pub record ToPass (w x y : List ℕ) (g j : ℕ) : Type 0 where
+    pub to-do : pass first (record { arrived = x; left = y; window = w; greatest = g }) (pairs s (12 * j) (k - j)) ≡ pass first (started w₀) (pairs s 0 k)
+    pub early : Early j (record { arrived = x; left = y; window = w; greatest = g })
+
+  pub pass-first : ToPass w₀ (replicate 64 0) (replicate 64 0) 0 0
+  unfolding started
+  pass-first = record { to-do = rw (sub-zero k) refl; early = early-started w₀ }
+
+  module _ (w x y : List ℕ) (g j : ℕ) (p : ToPass w x y g j) (h : j < k) (a b : ℕ) (ea : a ≡ field s (12 * j) 6) (eb : b ≡ field s (12 * j + 6) 6) where
+    P : Pass
+    P = record { arrived = x; left = y; window = w; greatest = g }
+
+    pub pass-next : (t : ℕ) → t ≡ max (getD x a 0 + 1) (getD y b 0) → (w′ : List ℕ) → w′ ≡ noted first w t a b → (g′ : ℕ) → g′ ≡ max g t
+        → ToPass w′ (set x b t) (set y a t) g′ (j + 1)
+    unfolding passed stepBy pass P
+    pass-next t et w′ ew g′ eg =
+        let next : (a, b) ∷ pairs s (12 * (j + 1)) (k - (j + 1)) ≡ pairs s (12 * j) (k - j) = rw (ea, eb) (sym (pairs-next s j k h)) in
+        rw (ew, eg, et)
+        (record {
+          to-do = ap (pass first P) next ∙ p .to-do;
+          early = early-passed first j P (p .early) (a, b);
+        })
+
+  pub pass-last : (w x y : List ℕ) (g j : ℕ) → ToPass w x y g j → k ≤ j → Filled first w₀ (pairs s 0 k) g w
+  unfolding pass pairs
+  pass-last w x y g j p h =
+      let none : k - j ≡ 0 = omega arith in
+      let P : Pass = record { arrived = x; left = y; window = w; greatest = g } in
+      let done : P ≡ pass first (started w₀) (pairs s 0 k) = rw none at (p .to-do) in
+      record { greatest-is = ap (λ (q : Pass). q .greatest) done; window-is = ap (λ (q : Pass). q .window) done }

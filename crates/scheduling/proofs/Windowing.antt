@@ -1,0 +1,189 @@
+-- The loops that write steps one after another: those of a window's rows, and those of one window after another.
+--
+--     WroteRows t s n at b next row                  the steps of the first rows of the window t are written into s
+--     rows-first, rows-length, rows-room, rows-more, rows-all    from row to row
+--     filled-latest, filled-few, filled-fit, filled-room, filled-written    what a filled window has
+--     Known ms s n, known-first, known-later, known-on, known-last          that s is the number of steps, from the first window on
+--     WroteWindows ms s b at n                       the steps of the first n windows are written into s
+--     windows-none, windows-room, windows-more, windows-all      from window to window
+-- Assumes nothing.
+use Prim.Native.Nat.{ℕ, zero, suc, _+_, _-_, _*_, _/_, _≤_, _<_, min}
+use mathlib.Core.Path.{_≡_, refl, sym, ap, ap₂, _∙_, subst}
+use mathlib.Core.List.{List, [], _∷_, _++_, append-nil}
+use native.Mathlib.Omega.{arith}
+use native.Mathlib.Decide.{ℕ-discrete}
+use native.Mathlib.Numerals.{add-one}
+use native.Mathlib.Nat.{add-zero, le-refl}
+use Rattle.field.specs.RecordLaws.{BelowPairs}
+use Rattle.scheduling.specs.Filling.{started, emptyWindow, windowOf, latest, Filled}
+use Rattle.scheduling.specs.FillingLaws.{greatest-same, entries-empty, entries-pass}
+use Rattle.scheduling.specs.Windows.{rowsOf, windowSteps, windows, allSteps}
+use lib.ListN.{length, length-append}
+use Rattle.scheduling.specs.Rows.{EntriesFit, rowMoves, rows, stepBytes, stepsBytes, written}
+use Rattle.scheduling.specs.RowLaws.{rows-split, rows-next, stepsBytes-append, Wrote, wrote-none, wrote-length, wrote-room, wrote-more}
+
+module _ (t s : List ℕ) (n at : ℕ) where
+  unfoldable pub WroteRows : List ℕ → ℕ → ℕ → Type 0
+  WroteRows b next row = Wrote s at (stepsBytes (rows t 0 row)) next b
+
+  pub rows-first : WroteRows s at 0
+  unfolding WroteRows rows stepsBytes
+  rows-first = wrote-none s at
+
+  module _ (room : at + length (stepsBytes (rows t 0 n)) ≤ length s) where
+    -- the first rows take no more than all
+    few : (row : ℕ) → row ≤ n → at + length (stepsBytes (rows t 0 row)) ≤ length s
+    few row h =
+        let all : n ≡ row + (n - row) = omega arith in
+        let parts : stepsBytes (rows t 0 n) ≡ stepsBytes (rows t 0 row) ++ stepsBytes (rows t (0 + row) (n - row)) =
+        ap (λ (k : ℕ). stepsBytes (rows t 0 k)) all ∙ ap stepsBytes (rows-split t 0 row (n - row)) ∙ stepsBytes-append (rows t 0 row) (rows t (0 + row) (n - row)) in
+        omega (arith, room, ap length parts, length-append (stepsBytes (rows t 0 row)) (stepsBytes (rows t (0 + row) (n - row))))
+
+    next-bytes : (row : ℕ) → stepsBytes (rows t 0 (row + 1)) ≡ stepsBytes (rows t 0 row) ++ stepBytes (rowMoves t row)
+    unfolding stepsBytes
+    next-bytes row =
+        ap stepsBytes (rows-next t row)
+        ∙ stepsBytes-append (rows t 0 row) (rowMoves t row ∷ [])
+        ∙ ap (λ (l : List ℕ). stepsBytes (rows t 0 row) ++ l) (append-nil (stepBytes (rowMoves t row)))
+
+    module _ (b : List ℕ) (next row : ℕ) (w : WroteRows b next row) where
+      pub rows-length : row ≤ n → length b ≡ length s
+      unfolding WroteRows
+      rows-length h = wrote-length s at (stepsBytes (rows t 0 row)) next b w (few row h)
+
+      pub rows-room : row < n → next + length (stepBytes (rowMoves t row)) ≤ length b
+      unfolding WroteRows
+      rows-room h =
+          wrote-room s at (stepsBytes (rows t 0 row)) next b w (stepBytes (rowMoves t row))
+          (rw (← next-bytes row) (few (row + 1) (omega arith)))
+
+      pub rows-more : row < n → (next′ : ℕ) (b′ : List ℕ) → next′ ≡ next + length (stepBytes (rowMoves t row)) → b′ ≡ written b next (stepBytes (rowMoves t row))
+          → WroteRows b′ next′ (row + 1)
+      unfolding WroteRows
+      rows-more h next′ b′ en eb =
+          rw (next-bytes row)
+          (wrote-more s at (stepsBytes (rows t 0 row)) next b w (stepBytes (rowMoves t row)) (rw (← next-bytes row) (few (row + 1) (omega arith))) next′ b′ en eb)
+
+      pub rows-all : row ≤ n → n ≤ row → (next ≡ at + length (stepsBytes (rows t 0 n))) × (b ≡ written s at (stepsBytes (rows t 0 n)))
+      unfolding WroteRows
+      rows-all l u =
+          let all : n ≡ row = omega arith in
+          rw all (w .ends, w .is)
+
+module _ (ms : List (ℕ × ℕ)) (first r : ℕ) (w : List ℕ) (f : Filled first emptyWindow ms r w) where
+  pub filled-latest : r ≡ latest ms
+  filled-latest = f .greatest-is ∙ greatest-same first ms
+
+  pub filled-fit : BelowPairs 64 ms → EntriesFit w
+  filled-fit b = rw (f .window-is) (entries-pass first _ b (unfold started in entries-empty))
+
+  module _ (n : ℕ) (e : n ≡ rowsOf r first) where
+    pub filled-few : n ≤ 4096
+    unfolding rowsOf
+    filled-few = omega (arith, e)
+
+    pub filled-steps : rows w 0 n ≡ windowSteps ms first
+    unfolding windowSteps windowOf
+    filled-steps = rw (e, filled-latest, f .window-is) refl
+
+    pub filled-room : (at : ℕ) (B : List ℕ) → at + length (stepsBytes (windowSteps ms first)) ≤ length B → at + length (stepsBytes (rows w 0 n)) ≤ length B
+    filled-room at B room = rw filled-steps room
+
+    pub filled-written : (at next : ℕ) (B b : List ℕ) → (next ≡ at + length (stepsBytes (rows w 0 n))) × (b ≡ written B at (stepsBytes (rows w 0 n)))
+        → (r ≡ latest ms) × (next ≡ at + length (stepsBytes (windowSteps ms first))) × (b ≡ written B at (stepsBytes (windowSteps ms first)))
+    filled-written at next B b g =
+        let same = filled-steps in
+        (filled-latest, g .0 ∙ ap (λ (l : List (List (ℕ × ℕ))). at + length (stepsBytes l)) same, g .1 ∙ ap (λ (l : List (List (ℕ × ℕ))). written B at (stepsBytes l)) same)
+
+-- one window after another
+
+windows-most : (ms : List (ℕ × ℕ)) (n k : ℕ) → length (stepsBytes (windows ms n)) ≤ length (stepsBytes (windows ms (n + k)))
+unfolding windows
+windows-most ms n zero = let same : n + 0 ≡ n = add-zero n in rw same (le-refl _)
+windows-most ms n (suc k) =
+    let on : n + suc k ≡ suc (n + k) = omega arith in
+    rw on
+    (omega (
+      arith,
+      windows-most ms n k,
+      ap length (stepsBytes-append (windows ms (n + k)) (windowSteps ms (4096 * (n + k)))),
+      length-append (stepsBytes (windows ms (n + k))) (stepsBytes (windowSteps ms (4096 * (n + k)))),
+    ))
+
+-- how many steps there are is known from the first window on
+pub record Known (ms : List (ℕ × ℕ)) (s n : ℕ) : Type 0 where
+  pub later : 0 < n → s ≡ latest ms
+  pub first : n ≡ 0 → s ≡ 1
+
+pub known-first : (ms : List (ℕ × ℕ)) → Known ms 1 0
+known-first ms = record { later = λ h. absurd (omega arith); first = λ h. refl }
+
+pub known-later : (ms : List (ℕ × ℕ)) (s n : ℕ) → s ≡ latest ms → Known ms s (n + 1)
+known-later ms s n e = record { later = λ h. e; first = λ h. absurd (omega arith) }
+
+pub known-on : (ms : List (ℕ × ℕ)) (s n : ℕ) → Known ms s n → 4096 * n < s → n + 1 ≤ latest ms / 4096 + 1
+known-on ms s zero k h = omega arith
+known-on ms s (suc n) k h = omega (arith, k .later (omega arith))
+
+pub known-last : (ms : List (ℕ × ℕ)) (s n : ℕ) → Known ms s n → s ≤ 4096 * n → s ≡ latest ms
+known-last ms s zero k h = absurd (omega (arith, k .first refl))
+known-last ms s (suc n) k h = k .later (omega arith)
+
+module _ (ms : List (ℕ × ℕ)) (s : List ℕ) where
+  unfoldable pub WroteWindows : List ℕ → ℕ → ℕ → Type 0
+  WroteWindows b at n = Wrote s 3 (stepsBytes (windows ms n)) at b
+
+  pub windows-none : WroteWindows s 3 0
+  unfolding WroteWindows windows stepsBytes
+  windows-none = wrote-none s 3
+
+  window-bytes : (n : ℕ) → stepsBytes (windows ms (n + 1)) ≡ stepsBytes (windows ms n) ++ stepsBytes (windowSteps ms (4096 * n))
+  unfolding windows
+  window-bytes n = rw (add-one n) (stepsBytes-append (windows ms n) (windowSteps ms (4096 * n)))
+
+  module _ (room : 3 + length (stepsBytes (allSteps ms)) ≤ length s) where
+    few-windows : (n : ℕ) → n ≤ latest ms / 4096 + 1 → 3 + length (stepsBytes (windows ms n)) ≤ length s
+    unfolding allSteps
+    few-windows n h =
+        let all : latest ms / 4096 + 1 ≡ n + (latest ms / 4096 + 1 - n) = omega arith in
+        omega (arith, room, ap (λ (k : ℕ). length (stepsBytes (windows ms k))) all, windows-most ms n (latest ms / 4096 + 1 - n))
+
+    module _ (b : List ℕ) (at n : ℕ) (w : WroteWindows b at n) where
+      pub windows-length : n ≤ latest ms / 4096 + 1 → length b ≡ length s
+      unfolding WroteWindows
+      windows-length h = wrote-length s 3 (stepsBytes (windows ms n)) at b w (few-windows n h)
+
+      module _ (k : n + 1 ≤ latest ms / 4096 + 1) where
+        fits : 3 + length (stepsBytes (windows ms n) ++ stepsBytes (windowSteps ms (4096 * n))) ≤ length s
+        fits = rw (← window-bytes n) (few-windows (n + 1) k)
+
+        pub windows-room : at + length (stepsBytes (windowSteps ms (4096 * n))) ≤ length b
+        unfolding WroteWindows
+        windows-room = wrote-room s 3 (stepsBytes (windows ms n)) at b w (stepsBytes (windowSteps ms (4096 * n))) fits
+
+        pub windows-more : (at′ : ℕ) (b′ : List ℕ) → at′ ≡ at + length (stepsBytes (windowSteps ms (4096 * n)))
+            → b′ ≡ written b at (stepsBytes (windowSteps ms (4096 * n))) → WroteWindows b′ at′ (n + 1)
+        unfolding WroteWindows
+        windows-more at′ b′ ea eb =
+            rw (window-bytes n)
+            (wrote-more s 3 (stepsBytes (windows ms n)) at b w (stepsBytes (windowSteps ms (4096 * n))) fits at′ b′ ea eb)
+
+      module _ (h : n ≤ latest ms / 4096 + 1) (u : latest ms ≤ 4096 * n) where
+        -- behind the last step a window has no steps
+        none : windowSteps ms (4096 * n) ≡ []
+        unfolding windowSteps rowsOf rows
+        none = let no : min (latest ms - 4096 * n) 4096 ≡ 0 = omega arith in rw no refl
+
+        last : (n ≡ latest ms / 4096 + 1 → ⊥) → windows ms n ≡ windows ms (latest ms / 4096 + 1)
+        unfolding windows
+        last d =
+            let one : latest ms / 4096 + 1 ≡ suc n = omega arith in
+            rw one (sym (ap (λ (l : List (List (ℕ × ℕ))). windows ms n ++ l) none ∙ append-nil (windows ms n)))
+
+        all-steps : windows ms n ≡ allSteps ms
+        unfolding allSteps
+        all-steps = elim (ℕ-discrete n (latest ms / 4096 + 1)) [ yes z ↦ ap (windows ms) z | no d ↦ last d ]
+
+        pub windows-all : b ≡ written s 3 (stepsBytes (allSteps ms))
+        unfolding WroteWindows
+        windows-all = w .is ∙ ap (λ (l : List (List (ℕ × ℕ))). written s 3 (stepsBytes l)) all-steps

@@ -1,0 +1,93 @@
+-- `scheduling::fill` meets its contract. The loop's invariant: what is left to pass decides the pass at the end. Assumes nothing.
+use Prim.Native.Nat.{_≤_, _-_, _+_, _*_}
+use native.Mathlib.Omega.{arith}
+use borrow.Author.Needs.{needs}
+use Rattle.scheduling.proofs.Passing.{ToPass, pass-first, pass-next, pass-last}
+use Rattle.scheduling.proofs.fill.Statement.{statement}
+use Rattle.scheduling.proofs.fill.Tie as tie
+
+abbrev Inv-loop : tie.InvT-loop
+Inv-loop tail k first window₀ arrived₀ left₀ greatest₀ j₀ window arrived left greatest j =
+    (j ≤ k) × ToPass tail k first window₀ window arrived left greatest j
+
+abbrev μ-loop : tie.MeasureT-loop
+μ-loop tail k first window₀ arrived₀ left₀ greatest₀ j₀ window arrived left greatest j = k - j
+
+loop-holds : tie.Need-loop-holds Inv-loop μ-loop
+loop-holds c = (omega arith, pass-first (c .before .args .tail .now) (c .before .args .k) (c .before .args .first) (c .before .args .window .now))
+
+pair-at-requires : tie.Need-pair-at-requires Inv-loop μ-loop
+pair-at-requires c κs = omega arith
+
+mul-later : tie.Need-mul-later Inv-loop μ-loop
+mul-later c = omega arith
+
+array-read-later : tie.Need-array-read-later Inv-loop μ-loop
+array-read-later c = omega arith
+
+add-later : tie.Need-add-later Inv-loop μ-loop
+add-later c = omega (arith, c .before .before .loop .inv .1 .early .arrivals (c .pair-at .result .first))
+
+mul-later-2 : tie.Need-mul-later-2 Inv-loop μ-loop
+mul-later-2 c = omega arith
+
+array-read-later-2 : tie.Need-array-read-later-2 Inv-loop μ-loop
+array-read-later-2 c = omega arith
+
+later-requires : tie.Need-later-requires Inv-loop μ-loop
+later-requires c κs = search needs
+
+mul-arrived : tie.Need-mul-arrived Inv-loop μ-loop
+mul-arrived c = omega arith
+
+array-write-arrived : tie.Need-array-write-arrived Inv-loop μ-loop
+array-write-arrived c = omega arith
+
+mul-left : tie.Need-mul-left Inv-loop μ-loop
+mul-left c = omega arith
+
+array-write-left : tie.Need-array-write-left Inv-loop μ-loop
+array-write-left c = omega arith
+
+note-requires : tie.Need-note-requires Inv-loop μ-loop
+note-requires c κs = (omega arith, omega arith)
+
+later-requires-2 : tie.Need-later-requires-2 Inv-loop μ-loop
+later-requires-2 c κs = search needs
+
+add-j : tie.Need-add-j Inv-loop μ-loop
+add-j c = omega arith
+
+loop-less : tie.Need-loop-less Inv-loop μ-loop
+loop-less c = omega arith
+
+loop-again : tie.Need-loop-again Inv-loop μ-loop
+loop-again c = (omega arith, pass-next (c .before .before .before .before .before .before .before .before .args .tail .now) (c .before .before .before .before .before .before .before .before .args .k) (c .before .before .before .before .before .before .before .before .args .first) (c .before .before .before .before .before .before .before .before .args .window .now) (c .before .before .before .before .before .before .loop .window) (c .before .before .before .before .before .before .loop .arrived) (c .before .before .before .before .before .before .loop .left) (c .before .before .before .before .before .before .loop .greatest) (c .before .before .before .before .before .before .loop .j) (c .before .before .before .before .before .before .loop .inv .1) (omega arith) (c .before .before .before .before .pair-at .result .first) (c .before .before .before .before .pair-at .result .second) (c .before .before .before .before .pair-at .ensures .first-is) (c .before .before .before .before .pair-at .ensures .second-is) (c .before .before .before .later .result) (c .before .before .before .later .ensures) (c .before .note .last .0) (c .before .note .ensures) (c .later2 .result) (c .later2 .ensures))
+
+returns : tie.Need-returns Inv-loop μ-loop
+returns c = pass-last (c .before .before .before .args .tail .now) (c .before .before .before .args .k) (c .before .before .before .args .first) (c .before .before .before .args .window .now) (c .before .loop .window) (c .before .loop .arrived) (c .before .loop .left) (c .before .loop .greatest) (c .before .loop .j) (c .before .loop .inv .1) (omega arith)
+
+pub fill-spec : {M : Type 1} → statement M
+fill-spec =
+    tie.close
+    (tie.spec
+    Inv-loop
+    μ-loop
+    loop-holds
+    pair-at-requires
+    mul-later
+    array-read-later
+    add-later
+    mul-later-2
+    array-read-later-2
+    later-requires
+    mul-arrived
+    array-write-arrived
+    mul-left
+    array-write-left
+    note-requires
+    later-requires-2
+    add-j
+    loop-less
+    loop-again
+    returns)

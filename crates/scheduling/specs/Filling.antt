@@ -1,0 +1,66 @@
+-- One pass over a plan's moves with two tables, an entry for each position: the rule's two numbers for a move are looked up by one load each.
+-- Of the moves, those of a window of 4096 steps are entered into a table as Rows has it.
+--
+--     Pass                   what a pass has come to
+--     started w              before the first move, with the empty window w
+--     stepBy x y a b         the step of the move from a to b, by the tables x of arrivals and y of leavings
+--     noted first w t a b    the window w, of the steps after step `first`, with the move from a to b of step t
+--     passed first P m       the pass P with the move m
+--     pass first P ms        the pass P with the moves ms
+--     Filled first w ms r v  a pass over ms from the window w gives the greatest step r and the window v
+--     emptyWindow            a window without moves
+--     windowOf ms first      the window of the steps after step `first` that a pass over the moves ms fills
+--     latest ms              the greatest step that it finds
+-- Assumes nothing.
+use Prim.Native.Nat.{ℕ, _+_, _-_, _*_, max}
+use mathlib.Core.Path.{_≡_}
+use mathlib.Core.Bool.{cond}
+use mathlib.Core.List.{List, [], _∷_}
+use lib.ListN.{getD, set, replicate}
+use lib.Dec.{ltb}
+
+pub record Pass : Type 0 where
+  -- the step of the last move of the rack that now stands at a position; 0 where it has none
+  pub arrived : List ℕ
+  -- the step of the latest move that left a position; 0 where none did
+  pub left : List ℕ
+  pub window : List ℕ
+  pub greatest : ℕ
+
+unfoldable pub started : List ℕ → Pass
+started w = record { arrived = replicate 64 0; left = replicate 64 0; window = w; greatest = 0 }
+
+unfoldable pub stepBy : List ℕ → List ℕ → ℕ → ℕ → ℕ
+stepBy arrived left a b = max (getD arrived a 0 + 1) (getD left b 0)
+
+-- the row of step t is row t - 1 - first, if the window has it
+unfoldable pub noted : ℕ → List ℕ → ℕ → ℕ → ℕ → List ℕ
+noted first w t a b = cond (ltb first t) (cond (ltb (t - 1 - first) 4096) (set w ((t - 1 - first) * 64 + a) (b + 1)) w) w
+
+unfoldable pub passed : ℕ → Pass → ℕ × ℕ → Pass
+passed first P m =
+    let t = stepBy (P .arrived) (P .left) (m .0) (m .1) in
+    record {
+      arrived = set (P .arrived) (m .1) t;
+      left = set (P .left) (m .0) t;
+      window = noted first (P .window) t (m .0) (m .1);
+      greatest = max (P .greatest) t;
+    }
+
+unfoldable pub pass : ℕ → Pass → List (ℕ × ℕ) → Pass
+pass first P [] = P
+pass first P (m ∷ ms) = pass first (passed first P m) ms
+
+-- what a pass from the window w gives: the greatest step r and the window w′
+pub record Filled (first : ℕ) (w : List ℕ) (ms : List (ℕ × ℕ)) (r : ℕ) (w′ : List ℕ) : Type 0 where
+  pub greatest-is : r ≡ pass first (started w) ms .greatest
+  pub window-is : w′ ≡ pass first (started w) ms .window
+
+unfoldable pub emptyWindow : List ℕ
+emptyWindow = replicate 262144 0
+
+unfoldable pub windowOf : List (ℕ × ℕ) → ℕ → List ℕ
+windowOf ms first = pass first (started emptyWindow) ms .window
+
+unfoldable pub latest : List (ℕ × ℕ) → ℕ
+latest ms = pass 0 (started emptyWindow) ms .greatest

@@ -1,0 +1,41 @@
+-- The timetable maker's answer and the buffer afterwards, from document 01, "Making the timetable" and "Returned numbers".
+--
+--     madeOf o p               the steps that the making rule makes of the plan p for the order o
+--     makerAnswer o p n        the timetable maker's answer for the order o, the plan p and a buffer of n bytes
+--     leaves a r B             the buffer B after the answer a: with the record r in front where it is accepted, else unchanged
+--     bufferAfter o p B        the buffer B afterwards
+--     answerOf v               the maker's verdict v as an answer
+-- Assumes nothing.
+use Prim.Native.Nat.{ℕ, _+_, _*_}
+use mathlib.Core.List.{List, [], _∷_, _++_}
+use lib.ListN.{length, drop}
+use lib.Dec.{ltb}
+use Rattle.answers.specs.Answer.{Answer, accepted, refused, refusedBy, refuse, passUp}
+use Rattle.order.specs.Order.{startsOf}
+use Rattle.plan.specs.Plan.{moveCount, planMoves, planAnswer}
+use Rattle.timetable.specs.Timetable.{timetableRecord}
+use Rattle.scheduling.specs.Making.{timed, greatest, madeSteps}
+use Rattle.scheduling.specs.declared.MakerVerdict.{MakerVerdict}
+use Rattle.scheduling.specs.declared.MakerVerdict.the-variants.{Accepted, Refused}
+
+unfoldable pub madeOf : List ℕ → List ℕ → List (List (ℕ × ℕ))
+madeOf o p = madeSteps (startsOf o) (planMoves p)
+
+-- 44: "timetable buffer shorter than 3 × k + 3 bytes". "The answer is s, the greatest step so given, or 0 with no moves."
+unfoldable pub makerAnswer : List ℕ → List ℕ → ℕ → Answer
+makerAnswer o p n =
+    passUp (planAnswer o p)
+    (refuse (ltb n (3 * moveCount p + 3)) 44 0
+    (accepted (greatest (timed (startsOf o) [] (planMoves p)) ∷ [])))
+
+-- "No lent byte changes on a refusal." "The record … is written at the front of the buffer; the rest is unchanged."
+abbrev pub leaves : Answer → List ℕ → List ℕ → List ℕ
+leaves (accepted counts) r B = r ++ drop (length r) B
+leaves (refused number place) r B = B
+
+unfoldable pub bufferAfter : List ℕ → List ℕ → List ℕ → List ℕ
+bufferAfter o p B = leaves (makerAnswer o p (length B)) (timetableRecord (madeOf o p)) B
+
+abbrev pub answerOf : MakerVerdict → Answer
+answerOf (Accepted steps) = accepted (steps ∷ [])
+answerOf (Refused f place) = refusedBy f place
