@@ -4,4 +4,5 @@ pub mod TextLaws
 pub mod Sizes
 pub mod Front
 pub mod Split
+pub mod Program
 pub mod Examples

@@ -1,11 +1,14 @@
-// The text of the timetable program, written into a lent buffer. specs/Text.antt says what is printed; specs/Writing.antt says what a writer
+// The timetable program, and the text that it prints, written into a lent buffer. specs/Program.antt and specs/Text.antt say what is printed; specs/Writing.antt says what a writer
 // leaves in the buffer and where the next one begins.
+use answers::Fault;
+use scheduling::MakerVerdict;
 use timetable::TimetableReading;
 ghost use mathlib.Core.Path.{_≡_};
 ghost use mathlib.Core.Bool.{false};
 ghost use mathlib.Core.List.{[], _∷_};
 ghost use Prim.Native.Nat.{_*_, _≤_};
 ghost use lib.ListN.{length, getD};
+ghost use Rattle.answers.specs.Answer.{numberOf};
 ghost use Rattle.answers.specs.Family.{familyWord};
 ghost use Rattle.field.specs.Bits.{pairs};
 ghost use Rattle.timetable.specs.Timetable.{stepLength, stepCount, stepMoves, stepsOf, wrongTimetableLength};
@@ -14,6 +17,7 @@ ghost use Rattle.text.specs.Writing.{Fits, Wrote};
 ghost use Rattle.text.specs.Text.{decimal, moveText, movesText, stepLine, stepLines, firstLine, timetableText, refusalLine};
 ghost use Rattle.text.specs.Split.{orderEnd};
 ghost use Rattle.text.specs.Front.{recordEnd};
+ghost use Rattle.text.specs.Program.{Printed, programText};
 
 fn put_byte(byte: u8, out: &mut [u8], at: usize) -> usize
     requires { ⌜ Fits (now out) at (byte ∷ []) ⌝ }
@@ -178,4 +182,27 @@ pub fn record_end(buffer: &[u8]) -> usize
         i += 1;
     }
     at
+}
+
+// A refusal's line, alone at the front of `out`.
+fn print_refusal(fault: Fault, place: u32, out: &mut [u8; 524288]) -> usize
+    ensures { λ r. ⌜ Printed (refusalLine (numberOf fault) place) (now (out .exit)) r ⌝ }
+{
+    put_refusal(answers::number(fault), place, out, 0)
+}
+
+// The timetable program on its whole input: leaves what it prints at the front of `out`, and says how many bytes that is. 524,288 bytes are
+// enough, since a timetable takes at most 8 bytes of text for each of its own, of which 65,536 are lent.
+pub fn timetable_program(input: &[u8], out: &mut [u8; 524288]) -> usize
+    ensures { λ r. ⌜ Printed (programText (now (input .entry))) (now (out .exit)) r ⌝ }
+{
+    let end = order_end(input);
+    let mut buffer = [0u8; 65536];
+    match scheduling::make(&input[..end], &input[end..], &mut buffer) {
+        MakerVerdict::Refused(fault, place) => print_refusal(fault, place, out),
+        MakerVerdict::Accepted(_) => {
+            let len = record_end(&buffer);
+            put_timetable(&buffer[..len], out, 0)
+        }
+    }
 }
