@@ -25,7 +25,7 @@ pub enum OrderVerdict {
     Refused(Fault, u32),
 }
 
-fn counts_of(order: &[u8]) -> Counts
+pub fn counts_of(order: &[u8]) -> Counts
     requires { ⌜ 3 ≤ length (now order) ⌝ }
     ensures { λ r. ⌜ CountsOf (now (order .entry)) (r .positions) (r .edges) (r .racks) ⌝ }
 {

@@ -37,7 +37,7 @@ pub enum StepVerdict {
 }
 
 // The length in bytes of a step of c moves: its count byte, its moves and its pad.
-fn step_length(c: u8) -> usize
+pub fn step_length(c: u8) -> usize
     ensures { λ r. ⌜ StepSize c r ⌝ }
 {
     1 + (12 * field::wide(c) + 7) / 8

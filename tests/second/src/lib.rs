@@ -15,6 +15,7 @@
 //! | `floor`     | The floor                         | 20 to 22           |
 //! | `breakdown` | Breakdown and planning            |                    |
 //! | `planning`  | Breakdown and planning, demand 3  | 23                 |
+//! | `program`   | Programs, the timetable program   |                    |
 #![forbid(unsafe_code)]
 
 pub mod answer;
@@ -25,5 +26,6 @@ pub mod motion;
 pub mod order;
 pub mod plan;
 pub mod planning;
+pub mod program;
 pub mod record;
 pub mod timetable;

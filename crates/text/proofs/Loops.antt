@@ -1,0 +1,88 @@
+-- What is left to write in the writers' loops.
+--
+--     next-fits, next-left, all-wrote        the next part of what is left, and the end
+--     bytes-next, bytes-none                 of the bytes of a text
+--     moves-first, moves-next, moves-none    of the moves of a step
+--     part-room, part-moves                  the moves of a step, read from its second byte on
+--     cut-ends, cut-length, lines-next, stands-after, lines-none    of the steps of a timetable: the step that begins at byte `at` is cut out
+-- Assumes nothing.
+use Prim.Native.Nat.{ℕ, _+_, _-_, _*_, _≤_, _<_}
+use mathlib.Core.Path.{_≡_, refl, sym, ap, _∙_, subst}
+use mathlib.Core.List.{List, [], _∷_, _++_}
+use native.Mathlib.Numerals.{add-one}
+use lib.ListN.{length, getD, take, drop, drop-of-length-le}
+use lib.Seq.{drop-cons}
+use native.Mathlib.Omega.{arith}
+use native.Mathlib.Nat.{sub-zero}
+use Rattle.field.specs.Bits.{pairs, PairAt}
+use Rattle.field.specs.RecordLaws.{pairs-next}
+use Rattle.timetable.specs.Timetable.{stepLength, stepMoves, stepCount, stepsOf}
+use Rattle.timetable.specs.StepLaws.{partAt, nextAt, Room, length-partAt, head-partAt, moves-tail, moves-room}
+use Rattle.timetable.specs.ReadingLaws.{Stands, stands-next, stands-room, steps-next, steps-none}
+use Rattle.text.specs.Text.{moveText, movesText, stepLine, stepLines}
+use Rattle.text.specs.Writing.{Fits, Wrote, Left, left-fits, left-first, left-next, left-none, fits-front}
+
+-- the next part x of what is left, and the rest m
+module _ {s : List ℕ} {at : ℕ} {l t : List ℕ} {r : ℕ} {k : List ℕ} (x m : List ℕ) (e : k ≡ x ++ m) (f : Fits s at l) (left : Left s at l t r k) where
+  split : Left s at l t r (x ++ m)
+  split = subst (Left s at l t r) e left
+
+  pub next-fits : Fits t r x
+  next-fits = fits-front x m (left-fits f split)
+
+  pub next-left : {u : List ℕ} {q : ℕ} → Wrote t r x u q → Left s at l u q m
+  next-left w = left-next x m f split w
+
+pub all-wrote : {s : List ℕ} {at : ℕ} {l t : List ℕ} {r : ℕ} {k : List ℕ} → k ≡ [] → Left s at l t r k → Wrote s at l t r
+all-wrote {s} {at} {l} {t} {r} e left = left-none (subst (Left s at l t r) e left)
+
+pub bytes-next : (l : List ℕ) (j : ℕ) → j < length l → drop j l ≡ (getD l j 0 ∷ []) ++ drop (j + 1) l
+bytes-next l j h = drop-cons l j 0 h ∙ ap (λ (n : ℕ). getD l j 0 ∷ drop n l) (sym (add-one j))
+
+pub bytes-none : (l : List ℕ) (j : ℕ) → length l ≤ j → drop j l ≡ []
+bytes-none l j h = drop-of-length-le l h
+
+module _ (s : List ℕ) where
+  pub moves-first : (k : ℕ) {o : List ℕ} {at : ℕ} → Left o at (movesText (pairs s 0 k)) o at (movesText (pairs s (12 * 0) (k - 0)))
+  moves-first k = rw (sub-zero k) left-first
+
+  pub moves-next : (j k : ℕ) {a b : ℕ} → PairAt s (12 * j) a b → j < k
+      → movesText (pairs s (12 * j) (k - j)) ≡ moveText (a, b) ++ movesText (pairs s (12 * (j + 1)) (k - (j + 1)))
+  unfolding movesText
+  moves-next j k p h = rw (pairs-next s j k h, p .first-is, p .second-is) refl
+
+  pub moves-none : (j k : ℕ) → k ≤ j → movesText (pairs s (12 * j) (k - j)) ≡ []
+  unfolding movesText pairs
+  moves-none j k h =
+      let none : k - j ≡ 0 = omega arith in
+      rw none refl
+
+module _ (p : List ℕ) (c : ℕ) (e : c ≡ getD p 0 0) where
+  pub part-room : length p ≡ stepLength (getD p 0 0) → 12 * c ≤ 8 * length (take (length p - 1) (drop 1 p))
+  part-room h = rw e (moves-room p h)
+
+  pub part-moves : movesText (pairs (take (length p - 1) (drop 1 p)) 0 c) ≡ movesText (stepMoves p)
+  part-moves = ap movesText (ap (pairs (take (length p - 1) (drop 1 p)) 0) e ∙ sym (moves-tail p))
+
+module _ (s : List ℕ) (i at : ℕ) (stands : Stands s i at) (h : i < stepCount s) (n : ℕ) (e : n ≡ stepLength (getD s at 0)) where
+  pub cut-ends : at + n ≤ length s
+  cut-ends = omega (arith, e, stands-room s i at stands h .ends)
+
+  cut-is : take (at + n - at) (drop at s) ≡ partAt s at
+  cut-is =
+      let same : at + n - at ≡ stepLength (getD s at 0) = omega (arith, e) in
+      ap (λ (k : ℕ). take k (drop at s)) same
+
+  pub cut-length : length (take (at + n - at) (drop at s)) ≡ stepLength (getD (take (at + n - at) (drop at s)) 0 0)
+  cut-length = rw cut-is (length-partAt s at (stands-room s i at stands h) ∙ ap stepLength (sym (head-partAt s at)))
+
+  pub lines-next : stepLines (i + 1) (drop i (stepsOf s)) ≡ stepLine (i + 1) (stepMoves (take (at + n - at) (drop at s))) ++ stepLines (i + 1 + 1) (drop (i + 1) (stepsOf s))
+  unfolding stepLines
+  lines-next = rw (steps-next s i at stands h, cut-is) refl
+
+  pub stands-after : Stands s (i + 1) (at + n)
+  stands-after = subst (Stands s (i + 1)) (ap (λ (k : ℕ). at + k) (sym e)) (stands-next s i at stands h)
+
+pub lines-none : (s : List ℕ) (i : ℕ) → stepCount s ≤ i → stepLines (i + 1) (drop i (stepsOf s)) ≡ []
+unfolding stepLines
+lines-none s i h = rw (steps-none s i h) refl

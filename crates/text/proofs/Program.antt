@@ -1,0 +1,110 @@
+-- The timetable program: what the maker answers and leaves in the lent buffer is what is printed.
+--
+--     order-is, plan-is     the parts of the input, as the code cuts them
+--     printed, retold       what a writer wrote at the front is printed
+--     refused-text, refusal-fits    a refusal's line
+--     record-is             the timetable at the front of the buffer, and where it ends
+--     made-packed, made-fits, made-text    it can be printed, and its text is the program's
+-- Assumes nothing.
+use Prim.Native.Nat.{ℕ, _+_, _-_, _*_, _^_, _≤_, _<_}
+use mathlib.Core.Path.{_≡_, refl, sym, ap, ap₂, _∙_, subst}
+use mathlib.Core.List.{List, [], _∷_, _++_}
+use native.Mathlib.Omega.{arith}
+use native.Mathlib.Nat.{min-le-right}
+use lib.ListN.{length, take, drop, length-append, length-drop}
+use lib.Seq.{take-at, take-all}
+use Rattle.answers.specs.Answer.{Answer, accepted, refused}
+use Rattle.field.specs.RecordLaws.{rest-is}
+use Rattle.timetable.specs.Timetable.{timetableRecord, stepsOf}
+use Rattle.timetable.specs.Reading.{WellPacked}
+use Rattle.timetable.specs.TimetableRecord.{record-well-packed, stepsOf-record}
+use Rattle.scheduling.specs.Maker.{madeOf, makerAnswer, bufferAfter}
+use Rattle.scheduling.specs.MakerLaws.{MakerGave, maker-gave, maker-record, made-packable, Timetabled}
+use Rattle.text.specs.Front.{recordEnd, recordEnd-is}
+use Rattle.text.specs.Program.{answerText, programText, Printed}
+use Rattle.text.specs.Sizes.{timetableText-short, refusalLine-short}
+use Rattle.text.specs.Split.{orderEnd, orderPart, planPart}
+use Rattle.text.specs.Text.{refusalLine, timetableText}
+use Rattle.text.specs.Writing.{Fits, Wrote, length-written, wrote-front}
+
+pub printed : {out l t x : List ℕ} {r : ℕ} → Fits out 0 l → Wrote out 0 l t r → l ≡ x → Printed x t r
+printed {out} {l} {t} {r = r} f w e =
+    record {
+      text-is = wrote-front out 0 f w ∙ e;
+      within = omega (arith, w .next-is, f .room, ap length (w .text-is), length-written out 0 l f);
+    }
+
+pub retold : {l x t : List ℕ} {r : ℕ} → Printed l t r → l ≡ x → Printed x t r
+retold {t = t} {r = r} p e = subst (λ (k : List ℕ). Printed k t r) e p
+
+module _ (s : List ℕ) (e : ℕ) (h : e ≡ orderEnd s) where
+  pub end-within : e ≤ length s
+  unfolding orderEnd
+  end-within = omega arith
+
+  pub order-is : take e s ≡ orderPart s
+  unfolding orderPart
+  order-is = ap (λ (n : ℕ). take n s) h
+
+  pub plan-is : take (length s - e) (drop e s) ≡ planPart s
+  unfolding planPart
+  plan-is = rest-is e s ∙ ap (λ (n : ℕ). drop n s) h
+
+-- the text of an answer of the maker for the input s and the buffer B
+module _ (s o p B : List ℕ) (eo : o ≡ orderPart s) (ep : p ≡ planPart s) (lent : length B ≡ 65536) where
+  text-is : answerText (makerAnswer o p (length B)) (madeOf o p) ≡ programText s
+  unfolding programText
+  text-is = rw (eo, ep, lent) refl
+
+  pub refused-text : (n q : ℕ) → refused n q ≡ makerAnswer o p (length B) → refusalLine n q ≡ programText s
+  refused-text n q a = ap (λ (x : Answer). answerText x (madeOf o p)) a ∙ text-is
+
+  module _ (v : List ℕ) (a : accepted v ≡ makerAnswer o p (length B)) (b : List ℕ) (eb : b ≡ bufferAfter o p B) where
+    r : List ℕ
+    r = timetableRecord (madeOf o p)
+
+    rest : List ℕ
+    rest = drop (length (timetableRecord (madeOf o p))) B
+
+    gave : MakerGave o p (length B) v
+    gave = maker-gave o p (length B) v (sym a)
+
+    left : (bufferAfter o p B ≡ timetableRecord (madeOf o p) ++ drop (length (timetableRecord (madeOf o p))) B) × Timetabled o p
+    left = maker-record o p B v (sym a)
+
+    packed : WellPacked (timetableRecord (madeOf o p))
+    packed = record-well-packed (madeOf o p) (made-packable o p _ (gave .plan-accepted))
+
+    begins : b ≡ timetableRecord (madeOf o p) ++ rest
+    unfolding rest
+    begins = eb ∙ left .0
+
+    short : length (timetableRecord (madeOf o p)) ≤ 65536
+    short = omega (arith, left .1 .short, gave .room, lent)
+
+    end-is : recordEnd b ≡ length (timetableRecord (madeOf o p))
+    end-is = ap recordEnd begins ∙ recordEnd-is (timetableRecord (madeOf o p)) rest (packed .length-right)
+
+    pub end-fits : recordEnd b ≤ length b
+    end-fits = omega (arith, end-is, ap length begins, length-append (timetableRecord (madeOf o p)) rest)
+
+    module _ (n : ℕ) (en : n ≡ recordEnd b) where
+      record-is : take n b ≡ timetableRecord (madeOf o p)
+      record-is = ap₂ take (en ∙ end-is) begins ∙ take-at (timetableRecord (madeOf o p)) rest (length (timetableRecord (madeOf o p))) refl
+
+      pub made-packed : WellPacked (take n b)
+      made-packed = subst WellPacked (sym record-is) packed
+
+      steps-are : stepsOf (take n b) ≡ madeOf o p
+      steps-are = ap stepsOf record-is ∙ stepsOf-record (madeOf o p) (made-packable o p _ (gave .plan-accepted))
+
+      pub made-text : timetableText (stepsOf (take n b)) ≡ programText s
+      made-text = ap timetableText steps-are ∙ ap (λ (x : Answer). answerText x (madeOf o p)) a ∙ text-is
+
+      pub made-fits : (out : List ℕ) → length out ≡ 524288 → Fits out 0 (timetableText (stepsOf (take n b)))
+      made-fits out h =
+          let small : length (take n b) ≤ 65536 = rw record-is short in
+          record { room = omega (arith, h, small, timetableText-short (take n b) (made-packed .length-right) (omega (arith, small))) }
+
+pub refusal-fits : (n q : ℕ) → n ≤ 45 → q < 2 ^ 32 → (out : List ℕ) → length out ≡ 524288 → Fits out 0 (refusalLine n q)
+refusal-fits n q h k out e = record { room = omega (arith, e, refusalLine-short n q (omega (arith, h)) k) }

@@ -1,0 +1,8 @@
+pub mod Writing
+pub mod Text
+pub mod TextLaws
+pub mod Sizes
+pub mod Front
+pub mod Split
+pub mod Program
+pub mod Examples

@@ -1,0 +1,75 @@
+-- Laws of the text: the digits of a number, and how long a timetable's text is.
+--
+--     decimal-one, decimal-more     a number of one digit, and the last digit of a longer one
+--     space-is, ..                  the fixed parts as bytes
+--     length-decimal                a number below 10 ^ k has at most k digits, for k from 1 on
+-- Assumes nothing.
+use Prim.Native.Nat.{ℕ, zero, suc, _+_, _*_, _/_, _%_, _^_, _≤_, _<_}
+use mathlib.Core.Path.{_≡_, refl, sym, ap, ap₂, _∙_, subst}
+use mathlib.Core.Bool.{Bool, true, false, cond}
+use mathlib.Core.List.{List, [], _∷_, _++_}
+use native.Mathlib.Omega.{arith}
+use native.Mathlib.Nat.{lt-of-not-le, le-refl}
+use native.Mathlib.Decide.{decLe}
+use borrow.Author.Tests.{lt-ltb, le-ltb}
+use lib.ListN.{length, length-append}
+use lib.Dec.{ltb}
+use Rattle.text.specs.Text.{digits, decimal, space, newline, arrow, refusedText, stepsText, movesWord}
+
+digits-one : (k n : ℕ) → n < 10 → digits (suc k) n ≡ (48 + n) ∷ []
+unfolding digits
+digits-one k n h = rw (lt-ltb n 10 h) refl
+
+digits-more : (k n : ℕ) → 10 ≤ n → digits (suc k) n ≡ digits k (n / 10) ++ ((48 + n % 10) ∷ [])
+unfolding digits
+digits-more k n h = rw (le-ltb n 10 h) refl
+
+-- any k above n is enough
+digits-enough : (j k n : ℕ) → n < j → n < k → digits j n ≡ digits k n
+digits-enough zero k n g h = absurd (omega arith)
+digits-enough (suc j) zero n g h = absurd (omega arith)
+digits-enough (suc j) (suc k) n g h = elim (decLe 10 n) [
+  | yes m ↦ digits-more j n m ∙ ap (λ (l : List ℕ). l ++ ((48 + n % 10) ∷ [])) (digits-enough j k (n / 10) (omega arith) (omega arith)) ∙ sym (digits-more k n m)
+  | no m ↦ digits-one j n (lt-of-not-le m) ∙ sym (digits-one k n (lt-of-not-le m))
+]
+
+pub decimal-one : (n : ℕ) → n < 10 → decimal n ≡ (48 + n) ∷ []
+unfolding decimal
+decimal-one n h = digits-one n n h
+
+pub decimal-more : (n : ℕ) → 10 ≤ n → decimal n ≡ decimal (n / 10) ++ ((48 + n % 10) ∷ [])
+unfolding decimal
+decimal-more n h = digits-more n n h ∙ ap (λ (l : List ℕ). l ++ ((48 + n % 10) ∷ [])) (digits-enough n (suc (n / 10)) (n / 10) (omega arith) (omega arith))
+
+pub length-decimal : (k n : ℕ) → n < 10 ^ suc k → length (decimal n) ≤ suc k
+length-decimal zero n h = rw (decimal-one n h) (omega arith)
+length-decimal (suc k) n h = elim (decLe 10 n) [
+  | yes m ↦
+      let shorter : n / 10 < 10 ^ suc k = omega arith in
+      rw (decimal-more n m, length-append (decimal (n / 10)) ((48 + n % 10) ∷ [])) (omega (arith, length-decimal k (n / 10) shorter))
+  | no m ↦ rw (decimal-one n (lt-of-not-le m)) (omega arith)
+]
+
+pub space-is : 32 ∷ [] ≡ space
+unfolding space
+space-is = refl
+
+pub newline-is : 10 ∷ [] ≡ newline
+unfolding newline
+newline-is = refl
+
+pub arrow-is : 62 ∷ [] ≡ arrow
+unfolding arrow
+arrow-is = refl
+
+pub refusedText-is : 114 ∷ 101 ∷ 102 ∷ 117 ∷ 115 ∷ 101 ∷ 100 ∷ 32 ∷ [] ≡ refusedText
+unfolding refusedText
+refusedText-is = refl
+
+pub stepsText-is : 115 ∷ 116 ∷ 101 ∷ 112 ∷ 115 ∷ 32 ∷ [] ≡ stepsText
+unfolding stepsText
+stepsText-is = refl
+
+pub movesWord-is : 32 ∷ 109 ∷ 111 ∷ 118 ∷ 101 ∷ 115 ∷ 32 ∷ [] ≡ movesWord
+unfolding movesWord
+movesWord-is = refl

@@ -1,0 +1,61 @@
+//! "Programs", the timetable program: what it prints for an input.
+
+use crate::answer::Refusal;
+use crate::making;
+use crate::order;
+use crate::record::{pair, positions};
+use crate::timetable::step_length;
+
+/// "Each program reads at most 65,536 bytes and judges those."
+const READ: usize = 65_536;
+/// "The timetable program … lends 65,536 bytes".
+const LENT: usize = 65_536;
+
+/// The family word: "10 to 19 order, 20 to 29 floor, 30 to 39 plan, 40 to 49 timetable".
+fn family(number: u8) -> &'static str {
+    match number / 10 {
+        1 => "order",
+        2 => "floor",
+        3 => "plan",
+        4 => "timetable",
+        _ => panic!("{number} has no family"),
+    }
+}
+
+/// "one line and no other, `refused`, number, place and family, with single spaces between and the
+/// numbers in decimal"
+fn refusal(Refusal { number, place }: Refusal) -> String {
+    format!("refused {number} {place} {}\n", family(number))
+}
+
+/// "Printed whole, first steps and moves in all, then step number and its moves".
+fn lines(s: u32, record: &[u8]) -> String {
+    let mut steps = String::new();
+    let mut total = 0;
+    let mut rest = &record[3..];
+    for step in 1..=s {
+        let c = rest[0];
+        steps += &step.to_string();
+        for index in 0..usize::from(c) {
+            let (left, entered) = positions(pair(&rest[1..], index));
+            steps += &format!(" {left}>{entered}");
+        }
+        steps.push('\n');
+        total += usize::from(c);
+        rest = &rest[step_length(c)..];
+    }
+    format!("steps {s} moves {total}\n{steps}")
+}
+
+/// What the timetable program prints.
+pub fn timetable_program(input: &[u8]) -> String {
+    let input = &input[..input.len().min(READ)];
+    // "The order ends where its counts say, and all the rest is the plan."
+    let end = order::length(input).map_or(input.len(), |length| length.min(input.len()));
+    let (order, plan) = input.split_at(end);
+    let mut buffer = vec![0; LENT];
+    match making::make(order, plan, &mut buffer) {
+        Err(refused) => refusal(refused),
+        Ok(s) => lines(s, &buffer),
+    }
+}
