@@ -1,4 +1,4 @@
--- Laws of the text: the digits of a number, and how long a timetable's text is.
+-- Laws of the text: the digits of a number, and the fixed parts.
 --
 --     decimal-one, decimal-more     a number of one digit, and the last digit of a longer one
 --     valueOf a l                   the number that the digits l continue the number a to
@@ -8,15 +8,13 @@
 --     length-decimal                a number below 10 ^ k has at most k digits, for k from 1 on
 -- Assumes nothing.
 use Prim.Native.Nat.{ℕ, zero, suc, _+_, _-_, _*_, _/_, _%_, _^_, _≤_, _<_}
-use mathlib.Core.Path.{_≡_, refl, sym, ap, ap₂, _∙_, subst}
-use mathlib.Core.Bool.{Bool, true, false, cond}
+use mathlib.Core.Path.{_≡_, refl, sym, ap, _∙_}
 use mathlib.Core.List.{List, [], _∷_, _++_}
 use native.Mathlib.Omega.{arith}
-use native.Mathlib.Nat.{lt-of-not-le, le-refl}
+use native.Mathlib.Nat.{lt-of-not-le}
 use native.Mathlib.Decide.{decLe}
 use borrow.Author.Tests.{lt-ltb, le-ltb}
 use lib.ListN.{length, getD, length-append, List·getD-append}
-use lib.Dec.{ltb}
 use Rattle.text.specs.Text.{digits, decimal, space, newline, arrow, refusedText, stepsText, movesWord}
 
 digits-one : (k n : ℕ) → n < 10 → digits (suc k) n ≡ (48 + n) ∷ []

@@ -172,7 +172,7 @@ pub fn order_end(input: &[u8]) -> usize
 }
 
 // Where the timetable at the front of a buffer ends.
-pub fn record_end(buffer: &[u8]) -> usize
+fn record_end(buffer: &[u8]) -> usize
     requires { ⌜ recordEnd (now buffer) ≤ length (now buffer) ⌝ }
     ensures { λ r. ⌜ r ≡ recordEnd (now (buffer .entry)) ⌝ }
 {
