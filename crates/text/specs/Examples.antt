@@ -5,11 +5,22 @@
 --     empty-step          a step without moves is its number alone
 --     decimals            0, 9, 10, 407 and 65536
 --     lengthy, moveless   the refusals 10 at place 0, of the family order, and 33 at place 2, of the family plan
+--     room-example        the text of the first case's timetable has room in 40 bytes, so that it can be written
+--     room-refusal        a refusal's line has room in 32 bytes
+--     end-example         the timetable of the first case ends after 11 bytes, whatever stands behind it
 -- Assumes nothing.
+use Prim.Native.Nat.{ℕ}
 use mathlib.Core.Path.{_≡_, refl}
-use mathlib.Core.List.{[], _∷_}
+use mathlib.Core.List.{List, [], _∷_, _++_}
+use lib.ListN.{replicate}
+use lib.Dec.{lit≤}
 use Rattle.answers.specs.Family.{familyWord, within}
 use Rattle.timetable.specs.Reading.{moveCount}
+use Rattle.timetable.specs.Reading.{WellPacked}
+use Rattle.timetable.specs.Timetable.{stepsOf}
+use Rattle.timetable.specs.Inhabited.{timetable₁, steps₁, moves₁, packed₁}
+use Rattle.text.specs.Front.{recordEnd, recordEnd-is}
+use Rattle.text.specs.Writing.{Fits}
 use Rattle.text.specs.Text.{digits, decimal, space, newline, arrow, refusedText, refusalLine, moveText, movesText, stepLine, stepLines, stepsText, movesWord, firstLine, timetableText}
 
 -- steps 2 moves 4
@@ -46,3 +57,17 @@ pub moveless : refusalLine 33 2
     ≡ 114 ∷ 101 ∷ 102 ∷ 117 ∷ 115 ∷ 101 ∷ 100 ∷ 32 ∷ 51 ∷ 51 ∷ 32 ∷ 50 ∷ 32 ∷ 112 ∷ 108 ∷ 97 ∷ 110 ∷ 10 ∷ []
 unfolding refusalLine refusedText space newline decimal digits familyWord within
 moveless = refl
+
+room₁ : Fits (replicate 40 0) 0 (timetableText steps₁)
+unfolding timetableText firstLine stepLines stepLine movesText moveText stepsText movesWord space newline arrow decimal digits moveCount
+room₁ = record { room = lit≤ tt }
+
+pub room-example : WellPacked timetable₁ × Fits (replicate 40 0) 0 (timetableText (stepsOf timetable₁))
+room-example = (packed₁, rw moves₁ room₁)
+
+pub room-refusal : Fits (replicate 32 0) 0 (refusalLine 10 0)
+unfolding refusalLine refusedText space newline decimal digits familyWord within
+room-refusal = record { room = lit≤ tt }
+
+pub end-example : (rest : List ℕ) → recordEnd (timetable₁ ++ rest) ≡ 11
+end-example rest = recordEnd-is timetable₁ rest (packed₁ .length-right)
