@@ -7,24 +7,23 @@
 --     maker-made        the answer and the buffer, once steps and head are written
 -- Assumes nothing.
 use Prim.Native.Nat.{ℕ, _+_, _-_, _*_, _^_, _≤_, _<_}
-use mathlib.Core.Path.{_≡_, refl, sym, ap, ap₂, _∙_, subst}
-use mathlib.Core.Bool.{true}
+use mathlib.Core.Path.{_≡_, refl, sym, ap, _∙_}
 use mathlib.Core.List.{List, [], _∷_, _++_}
 use native.Mathlib.Omega.{arith}
 use borrow.Author.Tests.{lt-ltb, le-ltb}
 use lib.ListN.{length, take, drop}
 use lib.Dec.{ltb}
 use Rattle.answers.specs.Answer.{Answer, accepted, refused, refuse, passUp}
-use Rattle.answers.specs.AnswerLaws.{passUp-accepted, passUp-refused}
+use Rattle.answers.specs.AnswerLaws.{passUp-accepted}
 use Rattle.field.specs.Bits.{pairs}
 use Rattle.field.specs.BitLaws.{field-lt}
 use Rattle.field.specs.RecordLaws.{rest-is, pairs-drop}
 use Rattle.field.specs.UnitLaws.{Fitting, fitting, tail-units}
-use Rattle.order.specs.Order.{floorOf, startsOf, goalsOf}
+use Rattle.order.specs.Order.{floorOf, startsOf}
 use Rattle.plan.specs.Plan.{moveCount, planMoves, wrongPlanLength, planAnswer}
 use Rattle.plan.specs.PlanRecord.{moves-counted}
 use Rattle.timetable.specs.Timetable.{timetableRecord}
-use Rattle.scheduling.specs.Making.{timed, greatest, madeSteps}
+use Rattle.scheduling.specs.Making.{timed, greatest}
 use Rattle.scheduling.specs.Rows.{stepsBytes, written}
 use Rattle.scheduling.specs.RowLaws.{length-written}
 use Rattle.scheduling.specs.Filling.{latest}

@@ -10,12 +10,12 @@ use mathlib.Core.Path.{_≡_, refl, sym, ap, ap₂, _∙_}
 use mathlib.Core.Bool.{Bool, true, false, cond}
 use mathlib.Core.List.{List, [], _∷_, _++_, append-assoc, append-nil}
 use native.Mathlib.Omega.{arith}
-use native.Mathlib.Nat.{add-assoc, zero-add, add-suc, le-refl}
+use native.Mathlib.Nat.{add-assoc, zero-add, le-refl}
 use native.Mathlib.Numerals.{add-one}
 use native.Mathlib.Decide.{ℕ-discrete}
 use borrow.Author.Tests.{eq-eqb, ne-eqb}
-use lib.ListN.{length, getD, set, take, drop, length-append, length-take, length-drop, drop-of-length-le, take-append-drop}
-use lib.Seq.{drop-drop, drop-at, take-at, set-at, length-take-le, take-suc, drop-append-le}
+use lib.ListN.{length, getD, set, take, drop, length-append, length-drop, drop-of-length-le, take-append-drop}
+use lib.Seq.{drop-drop, drop-at, take-at, set-at, length-take-le, take-suc}
 use lib.Dec.{eqb}
 use Rattle.field.specs.RecordLaws.{rest-is}
 use Rattle.field.specs.Packing.{pack, length-pack, putPair, added, added-is, put-next}

@@ -7,19 +7,17 @@
 --     greatest-same           the greatest step is the same whatever the window
 --     entries-empty, entries-pass              every entry of the window is a position, plus 1, or 0
 -- Assumes nothing.
-use Prim.Native.Nat.{ℕ, zero, suc, _+_, _-_, _*_, _≤_, _<_, max}
-use mathlib.Core.Path.{_≡_, refl, sym, ap, _∙_}
-use mathlib.Core.Bool.{Bool, true, false, cond}
+use Prim.Native.Nat.{ℕ, zero, suc, _+_, _-_, _*_, _≤_, _<_}
+use mathlib.Core.Path.{_≡_, refl}
 use mathlib.Core.List.{List, [], _∷_}
 use native.Mathlib.Omega.{arith}
-use native.Mathlib.Nat.{add-zero}
-use lib.ListN.{length, getD, set, replicate}
+use lib.ListN.{length, getD, set}
 use lib.Dec.{ltb}
 use Rattle.field.specs.RecordLaws.{BelowPairs, none₂, more₂}
 use Rattle.motion.specs.Test.{cond-either}
 use Rattle.tables.specs.TableLaws.{zeros-at}
 use Rattle.scheduling.specs.Rows.{EntriesFit}
-use Rattle.scheduling.specs.Filling.{Pass, started, stepBy, noted, passed, pass, emptyWindow, windowOf, latest}
+use Rattle.scheduling.specs.Filling.{Pass, started, stepBy, noted, passed, pass, emptyWindow, latest}
 
 pub set-most : (b : ℕ) (l : List ℕ) (i v : ℕ) → ((p : ℕ) → getD l p 0 ≤ b) → v ≤ b → (p : ℕ) → getD (set l i v) p 0 ≤ b
 set-most b [] i v h k p = h p

@@ -14,7 +14,6 @@
 use Prim.Native.Nat.{ℕ}
 use mathlib.Core.Path.{_≡_, refl}
 use mathlib.Core.List.{List, [], _∷_}
-use lib.ListN.{length}
 use lib.Dec.{lit≤}
 use Rattle.answers.specs.Answer.{accepted, refused}
 use Rattle.field.specs.Bits.{bits, number, bitsOf, field, pairs, positions, pairBits, pad, padded, bytes, toBytes}
@@ -26,14 +25,14 @@ use Rattle.motion.specs.Move.{onFloor, legalMove, goesTo, after, afterMove}
 use Rattle.motion.specs.Replay.{replayFrom, replayMoves}
 use Rattle.motion.specs.Judgement.{misplaced, judged}
 use Rattle.motion.specs.StepOf.{insert, sort}
-use Rattle.motion.specs.Inhabited.{floorF, starts, goals, plan, plan-leads, starts-sound}
+use Rattle.motion.specs.Inhabited.{floorF, starts, plan, plan-leads, starts-sound}
 use Rattle.plan.specs.Plan.{moveCount, planMoves, wrongPlanLength, planPaddingSet, planAnswer}
 use Rattle.timetable.specs.Timetable.{stepBits, allStepBits, timetableBits, timetableRecord}
 use Rattle.scheduling.specs.Making.{rackFrom, rackAt, ofRack, ofLeaving, stepFor, timed, greatest, inStep, movesIn, stepsFrom, madeSteps}
 use Rattle.scheduling.specs.Windows.{allSteps}
 use Rattle.scheduling.specs.TabledSteps.{allSteps-made}
 use Rattle.scheduling.specs.Maker.{madeOf, makerAnswer, bufferAfter}
-use Rattle.scheduling.specs.MakerLaws.{Timetabled, timetabled, maker-record}
+use Rattle.scheduling.specs.MakerLaws.{Timetabled, timetabled}
 
 abbrev pub order₁ : List ℕ
 order₁ = 0x08 ∷ 0x0A ∷ 0x08 ∷ 0x00 ∷ 0x10 ∷ 0x02 ∷ 0x04 ∷ 0x20 ∷ 0x43 ∷ 0x08 ∷ 0x30 ∷ 0x03 ∷ 0x0C ∷ 0x00 ∷ []

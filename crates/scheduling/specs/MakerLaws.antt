@@ -8,15 +8,15 @@
 --     MakerGave o p n v, maker-gave  what acceptance by the maker tells: the plan is accepted, the buffer has room, and the answer is s
 --     maker-record                   the buffer afterwards begins with a record that the timetable checker accepts
 -- Assumes nothing.
-use Prim.Native.Nat.{ℕ, zero, suc, _+_, _-_, _*_, _^_, _≤_, _<_, min}
-use mathlib.Core.Path.{_≡_, refl, sym, ap, ap₂, _∙_, subst}
+use Prim.Native.Nat.{ℕ, _+_, _*_, _^_, _≤_, _<_}
+use mathlib.Core.Path.{_≡_, refl, sym, ap, ap₂, _∙_}
 use mathlib.Core.Bool.{false}
 use mathlib.Core.List.{List, [], _∷_, _++_, List·Memᴰ, List·Memᴰ·head, List·Memᴰ·tail}
 use native.Mathlib.Omega.{arith}
-use borrow.Author.Tests.{ltb-false, le-ltb}
-use lib.ListN.{length, take, drop, length-append}
+use borrow.Author.Tests.{ltb-false}
+use lib.ListN.{length, drop, length-append}
 use lib.Dec.{ltb}
-use Rattle.answers.specs.Answer.{Answer, accepted, refuse, passUp}
+use Rattle.answers.specs.Answer.{Answer, accepted, refuse}
 use Rattle.answers.specs.AnswerLaws.{refuse-not, refuse-else, passUp-low, passUp-high, passUp-accepted}
 use Rattle.field.specs.BitLaws.{field-lt}
 use Rattle.field.specs.RecordLaws.{BelowPairs, none₂, more₂}
@@ -32,7 +32,6 @@ use Rattle.motion.specs.StepLimits.{step-size}
 use Rattle.motion.specs.PebbleLaws.{pebble-replay}
 use Rattle.motion.specs.Judgement.{judged}
 use Rattle.motion.specs.JudgementLaws.{judged-accepted}
-use Rattle.motion.specs.Sound.{leads-length}
 use Rattle.tables.specs.Accepted.{WellPlaced, well-placed}
 use Rattle.plan.specs.Plan.{moveCount, planMoves, wrongPlanLength, planAnswer}
 use Rattle.plan.specs.PlanRecord.{moves-counted}

@@ -11,7 +11,7 @@
 --     madeSteps A ms         the steps that the rule makes of the plan ms from the starts A
 -- Assumes nothing.
 use Prim.Native.Nat.{ℕ, zero, suc, _+_, max}
-use mathlib.Core.Bool.{Bool, cond}
+use mathlib.Core.Bool.{cond}
 use mathlib.Core.List.{List, [], _∷_}
 use lib.Dec.{eqb}
 use Rattle.motion.specs.Arrangement.{Arrangement}

@@ -5,13 +5,13 @@
 --     record-bytes       the record is its head and the bytes of its steps
 --     front-written      a record written behind its head, and then its head, leaves what stands behind it
 -- Assumes nothing.
-use Prim.Native.Nat.{ℕ, zero, suc, _+_, _-_, _*_, _/_, _%_, _^_, _≤_, _<_}
-use mathlib.Core.Path.{_≡_, refl, sym, ap, ap₂, _∙_, subst}
-use mathlib.Core.List.{List, [], _∷_, _++_, map, append-assoc, append-nil}
+use Prim.Native.Nat.{ℕ, _+_, _*_, _/_, _%_, _^_, _≤_, _<_}
+use mathlib.Core.Path.{_≡_, refl, sym, ap, ap₂, _∙_}
+use mathlib.Core.List.{List, _++_, map, append-assoc, append-nil}
 use native.Mathlib.Omega.{arith}
 use lib.ListN.{length, take, drop, length-append}
 use lib.Seq.{drop-at, length-take-le}
-use Rattle.field.specs.Bits.{bits, bitsOf, pairBits, pad, padded, toBytes}
+use Rattle.field.specs.Bits.{bits, bitsOf, pairBits, padded, toBytes}
 use Rattle.field.specs.BitLaws.{none, more, Bits, Bytes, below-append, length-bits, bits-are}
 use Rattle.field.specs.RecordLaws.{BelowPairs, bitsOf-toBytes, toBytes-are, toBytes-from, pairBits-are}
 use Rattle.field.specs.WholeBytes.{padded-append, padded-whole}

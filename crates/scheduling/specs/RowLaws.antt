@@ -9,7 +9,7 @@
 --     Wrote s at l next b                        the byte string b is s with l written from byte `at` on, and `next` is where l ends
 --     wrote-none, wrote-length, wrote-room, wrote-more    how writing goes on
 -- Assumes nothing.
-use Prim.Native.Nat.{ℕ, zero, suc, _+_, _-_, _*_, _≤_}
+use Prim.Native.Nat.{ℕ, zero, suc, _+_, _≤_}
 use mathlib.Core.Path.{_≡_, refl, sym, ap, ap₂, _∙_}
 use mathlib.Core.List.{List, [], _∷_, _++_, append-assoc}
 use native.Mathlib.Omega.{arith}

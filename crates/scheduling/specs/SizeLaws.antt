@@ -3,18 +3,15 @@
 --     steps-small    the steps that the maker answers are fewer than 2 ^ 22
 -- Assumes nothing.
 use Prim.Native.Nat.{ℕ, _^_, _<_}
-use mathlib.Core.Path.{_≡_, sym, ap, _∙_}
+use mathlib.Core.Path.{_≡_, sym}
 use mathlib.Core.List.{List, [], _∷_, head-eq-of-cons-eq}
 use native.Mathlib.Omega.{arith}
-use lib.ListN.{length}
 use Rattle.answers.specs.Answer.{accepted}
 use Rattle.field.specs.BitLaws.{field-lt}
 use Rattle.field.specs.RecordLaws.{length-pairs}
-use Rattle.order.specs.Order.{startsOf}
 use Rattle.plan.specs.Plan.{moveCount, planMoves}
-use Rattle.scheduling.specs.Making.{timed, greatest}
 use Rattle.scheduling.specs.Maker.{makerAnswer}
-use Rattle.scheduling.specs.MakerLaws.{MakerGave, maker-gave, made-of}
+use Rattle.scheduling.specs.MakerLaws.{maker-gave, made-of}
 
 pub steps-small : (o p : List ℕ) (n s : ℕ) → accepted (s ∷ []) ≡ makerAnswer o p n → s < 2 ^ 22
 unfolding planMoves moveCount

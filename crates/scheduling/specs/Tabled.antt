@@ -8,19 +8,19 @@
 --     agrees-next            and after each move
 --     agrees-pass            so it does after a plan's moves
 -- Assumes nothing.
-use Prim.Native.Nat.{ℕ, zero, suc, _+_, _-_, _*_, _≤_, _<_, max}
-use mathlib.Core.Path.{_≡_, refl, sym, ap, ap₂, _∙_, subst}
+use Prim.Native.Nat.{ℕ, suc, _+_, _-_, _*_, _≤_, _<_, max}
+use mathlib.Core.Path.{_≡_, refl, sym, ap, ap₂, _∙_}
 use mathlib.Core.Bool.{cond}
 use mathlib.Core.Logic.{_≢_, ⊎-elim, dite}
 use mathlib.Core.List.{List, [], _∷_, reverseAux, List·Memᴰ, List·Memᴰ·not-nil}
 use native.Mathlib.Omega.{arith}
 use native.Mathlib.Decide.{decLt}
 use borrow.Author.Tests.{eq-eqb, ne-eqb, lt-ltb, le-ltb}
-use lib.ListN.{length, getD, set, replicate, length-set, length-replicate}
+use lib.ListN.{length, getD, set, length-set, length-replicate}
 use lib.Seq.{getD-set-same, getD-set-other}
 use lib.Dec.{T, eqb}
 use Rattle.order.specs.Floor.{Floor}
-use Rattle.motion.specs.Arrangement.{Arrangement, vacant}
+use Rattle.motion.specs.Arrangement.{Arrangement}
 use Rattle.motion.specs.ArrangementLaws.{vacant-racks}
 use Rattle.motion.specs.Move.{legalMove, afterMove}
 use Rattle.motion.specs.MoveLaws.{onFloor-parts, legal-parts, move-length, moved-rack, moved-other}
@@ -31,7 +31,7 @@ use Rattle.motion.specs.ListLaws.{by-member}
 use Rattle.motion.specs.StepTests.{left}
 use Rattle.tables.specs.TableLaws.{zeros-at}
 use Rattle.scheduling.specs.Making.{Timed, rackAt, ofRack, ofLeaving, stepFor, timed, greatest, inStep}
-use Rattle.scheduling.specs.Timing.{stepFor-bounds, ofRack-same, ofRack-other, ofLeaving-same, ofLeaving-other, inStep-same, inStep-other}
+use Rattle.scheduling.specs.Timing.{ofRack-same, ofRack-other, ofLeaving-same, ofLeaving-other, inStep-same, inStep-other}
 use Rattle.scheduling.specs.Schedule.{rackAt-finds}
 use Rattle.scheduling.specs.Filling.{Pass, started, stepBy, noted, passed, pass, emptyWindow}
 
@@ -125,12 +125,6 @@ module _ (F : Floor) (few : F .positions ≤ 64) (A : Arrangement) (l : List Tim
   entered-free : (i : ℕ) → i < length A → getD A i 0 ≢ m .1
   entered-free = vacant-racks A (m .1) .0 (legal-parts F A m .0 legal .2)
 
-  step : ℕ
-  step = stepBy (P .arrived) (P .left) (m .0) (m .1)
-
-  ruled : ℕ
-  ruled = stepFor l (rackAt A (m .0)) m
-
   last-move : getD (P .arrived) (m .0) 0 ≡ ofRack l (rackAt A (m .0))
   last-move =
       ap (λ (q : ℕ). getD (P .arrived) q 0) (sym (found .2)) ∙ g .arrivals (found .0) (found .1) ∙ ap (ofRack l) (sym (found .3))
@@ -144,10 +138,6 @@ module _ (F : Floor) (few : F .positions ≤ 64) (A : Arrangement) (l : List Tim
 
   s : ℕ
   s = stepFor l (rackAt A (m .0)) m
-
-  step-some : 1 ≤ s
-  unfolding s
-  step-some = omega (arith, stepFor-bounds l (rackAt A (m .0)) m)
 
   arrivals-after : (i : ℕ) → i < length A → getD (set (P .arrived) (m .1) s) (getD (afterMove A m) i 0) 0 ≡ ofRack (t ∷ l) (suc i)
   unfolding t s

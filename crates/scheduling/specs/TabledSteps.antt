@@ -12,32 +12,28 @@
 -- Assumes nothing.
 use Prim.Native.Nat.{ℕ, zero, suc, _+_, _-_, _*_, _/_, _≤_, _<_, min}
 use mathlib.Core.Path.{_≡_, refl, sym, ap, ap₂, _∙_, subst}
-use mathlib.Core.Bool.{cond}
 use mathlib.Core.Logic.{_≢_, _↔_, ⊎-elim, dite}
-use mathlib.Core.List.{List, [], _∷_, _++_, append-nil, reverse, List·Memᴰ, List·Memᴰ·head, List·Memᴰ·tail, List·Memᴰ·not-nil}
+use mathlib.Core.List.{List, [], _∷_, _++_, append-nil, List·Memᴰ, List·Memᴰ·head, List·Memᴰ·tail, List·Memᴰ·not-nil}
 use mathlib.Core.List.{Pairwise·nil, Pairwise·of-cons}
 use native.Mathlib.Omega.{arith}
-use native.Mathlib.Nat.{add-zero, add-suc, suc-add, zero-add}
+use native.Mathlib.Nat.{add-zero, suc-add, zero-add}
 use native.Mathlib.Bridge.{le-prop}
 use native.Mathlib.Decide.{decLe}
 use borrow.Author.Tests.{eq-eqb, ne-eqb}
-use lib.ListN.{length, getD}
-use lib.Dec.{eqb}
+use lib.ListN.{getD}
 use Rattle.order.specs.Floor.{Floor}
 use Rattle.motion.specs.Arrangement.{Arrangement}
-use Rattle.motion.specs.Lawful.{Leads, still, _then_}
+use Rattle.motion.specs.Lawful.{Leads}
 use Rattle.motion.specs.Sound.{Sound}
 use Rattle.motion.specs.Test.{equal?}
 use Rattle.motion.specs.ListLaws.{by-member, pairwise-more, pairwise-rel, KeysDiffer}
 use Rattle.motion.specs.StepTests.{left, Ascends}
 use Rattle.motion.specs.StepOf.{sort, sort-iff, sort-ascends, ascending-same}
-use Rattle.field.specs.RecordLaws.{BelowPairs, none₂, more₂}
 use Rattle.scheduling.specs.Making.{Timed, timed, greatest, inStep, movesIn, stepsFrom, madeSteps}
 use Rattle.scheduling.specs.Timing.{inStep-same, inStep-other, history, history-greatest}
 use Rattle.scheduling.specs.Made.{steps-made, history-lefts}
 use Rattle.scheduling.specs.Rows.{rowFrom, rowMoves, rows}
 use Rattle.scheduling.specs.Filling.{Pass, started, pass, emptyWindow, windowOf, latest}
-use Rattle.scheduling.specs.FillingLaws.{greatest-same}
 use Rattle.scheduling.specs.Windows.{rowsOf, windowSteps, windows, allSteps}
 use Rattle.scheduling.specs.Tabled.{entryOf, entryOf-same, entryOf-place, entryOf-step, Agrees, agrees-started, agrees-pass}
 

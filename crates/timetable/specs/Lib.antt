@@ -6,6 +6,7 @@ pub mod Checking
 pub mod StepRecord
 pub mod TimetableRecord
 pub mod Solutions
+pub mod Limits
 pub mod Inhabited
 pub mod SizeLaws
 pub mod HandedOut

@@ -145,16 +145,15 @@ fn offset_of(timetable: &[u8], number: usize) -> usize
 pub fn find_step(timetable: &[u8], number: usize) -> StepVerdict
     ensures { λ r. ⌜ answerOfStep r ≡ stepAnswer (now (timetable .entry)) number ⌝ }
 {
-    match read_number(timetable, number) {
-        TimetableReading::Refused(fault, place) => StepVerdict::Refused(fault, place),
-        TimetableReading::Accepted { steps: _, moves: _ } => {
-            let offset = offset_of(timetable, number);
-            StepVerdict::Found {
-                offset,
-                len: step_length(timetable[offset]),
-            }
-        }
-    }
+    let reading = read_number(timetable, number);
+    let TimetableReading::Refused(fault, place) = reading else {
+        let offset = offset_of(timetable, number);
+        return StepVerdict::Found {
+            offset,
+            len: step_length(timetable[offset]),
+        };
+    };
+    StepVerdict::Refused(fault, place)
 }
 
 // Step `number` as that part of the lent timetable itself, its count byte first and its pad last; the empty part where it is refused,

@@ -7,6 +7,7 @@
 --     chain-stays        a rack that stays stops the chain
 --     chain-on, chain-falls    the chain goes on where the move that leaves p enters, and fewer moves are unvisited
 --     chain-failed, chain-ended    what is found there holds from p
+--     chain-marked       a move that is led leaves a position from which the chain is known
 --     Leading            a loop over a step's moves: what is left to judge decides
 --     not-led, leading-next, leading-last   a move without a leader decides; one that is led leaves the rest; after the last the answer is yes
 -- Assumes nothing.
@@ -16,15 +17,18 @@ use mathlib.Core.Bool.{Bool, true, false, true≢false, false≢true}
 use mathlib.Core.List.{List, [], _∷_}
 use mathlib.Core.Logic.{⊎-elim, _≢_}
 use native.Mathlib.Omega.{arith}
+use native.Mathlib.Nat.{sub-zero}
 use borrow.Author.Tests.{eq-eqb, ne-eqb}
 use lib.ListN.{length, getD, set, replicate, length-set, length-replicate}
 use lib.Seq.{getD-set-same, getD-set-other}
 use Rattle.motion.specs.Test.{equal?}
 use Rattle.tables.specs.TableLaws.{zeros-at}
 use Rattle.field.specs.Bits.{field, pairs}
+use Rattle.field.specs.RecordLaws.{pairs-next}
 use Rattle.motion.specs.Step.{every}
 use Rattle.trains.specs.StepOn.{ledOn, allLed}
-use Rattle.trains.specs.Chains.{Targets, Led, leads, follows, unvisited, Marks, Chain, Followed}
+use Rattle.tables.specs.Simulation.{Each, each-more}
+use Rattle.trains.specs.Chains.{Targets, Taking, Led, leads, follows, unvisited, Marks, Chain, Followed}
 use Rattle.trains.specs.ChainLaws.{led-on, unled-on}
 use Rattle.trains.proofs.Moves.{Left, left-first, left-at, left-next, left-last}
 
@@ -148,6 +152,28 @@ module _ (t h v : List ℕ) (p : ℕ) (chain : Chain t h v p) where
                 let there : getD (set w p 2) p 0 ≡ 1 = ap (λ (i : ℕ). getD (set w p 2) i 0) (sym s) ∙ z in
                 omega (arith, here, there)
 
+each-first : {X : Type 0} {P : X → Type 0} {x : X} {xs : List X} → Each P (x ∷ xs) → P x × Each P xs
+each-first (each-more p ps) = (p, ps)
+
+pub chain-marked : (t h w : List ℕ) (a b : ℕ) → Marks t h w → (n : ℕ) × Led t h n b → Taking t h (a, b) → Marks t h (set w a 2)
+chain-marked t h w a b m l taken =
+    record {
+      size = length-set w a 2 ∙ m .size;
+      known = λ q x y.
+          ⊎-elim
+          (λ (s : q ≡ a). subst (λ (i : ℕ). (n : ℕ) × Led t h n i) (sym s) whole)
+          (λ (d : q ≢ a).
+          let same : getD (set w a 2) q 0 ≡ getD w q 0 = getD-set-other w a q 2 0 d in
+          m .known q (λ z. x (same ∙ z)) (λ z. y (same ∙ z)))
+          (equal? q a);
+    }
+  where
+    back : getD t a 0 - 1 ≡ b
+    back = omega (arith, taken .1)
+
+    whole : (n : ℕ) × Led t h n a
+    whole = (suc (l .0), follows (taken .0) (λ z. omega (arith, taken .1, z)) (subst (Led t h (l .0)) (sym back) (l .1)))
+
 -- the loop over the c moves of s, by the targets t and the table h
 module _ (s : List ℕ) (c : ℕ) (t h : List ℕ) where
   unfoldable pub judge : Unit {0} → List (ℕ × ℕ) → Bool
@@ -158,13 +184,15 @@ module _ (s : List ℕ) (c : ℕ) (t h : List ℕ) where
     pub judging : Left judge s c tt tt j
     pub marks : Marks t h v
     pub none-passed : (q : ℕ) → getD v q 0 ≢ 1
+    pub taking : Each (Taking t h) (pairs s (12 * j) (c - j))
 
-  pub leading-first : Leading (replicate 64 0) 0
-  leading-first =
+  pub leading-first : Each (Taking t h) (pairs s 0 c) → Leading (replicate 64 0) 0
+  leading-first each =
       record {
         judging = left-first judge s c tt;
         marks = record { size = length-replicate {A = ℕ} 64 0; known = λ q a b. absurd (a (zeros-at 64 q)) };
         none-passed = λ q e. omega (arith, zeros-at 64 q, e);
+        taking = rw (sub-zero c) each;
       }
 
   module _ (targets : Targets (pairs s 0 c) t) where
@@ -177,14 +205,22 @@ module _ (s : List ℕ) (c : ℕ) (t h : List ℕ) where
       unfolding judge every allLed
       not-led e = rw (unled-on (pairs s 0 c) t h targets b (f .unled e)) at (left-at judge s c tt tt j a b (left .judging) k ea eb)
 
-      pub leading-next : r ≡ true → Leading w (j + 1)
+      here : Taking t h (a, b) × Each (Taking t h) (pairs s (12 * (j + 1)) (c - (j + 1)))
+      here = each-first (rw (ea, eb) (subst (Each (Taking t h)) (pairs-next s j c k) (left .taking)))
+
+      pub leading-next : r ≡ true → a < 64 → Leading (set w a 2) (j + 1)
       unfolding judge every
-      leading-next e =
+      leading-next e room =
           record {
             judging = left-next judge s c tt tt j a b (left .judging) k ea eb tt
                 (λ ms. rw (led-on (pairs s 0 c) t h targets b (f .led e)) refl);
-            marks = f .marks e;
-            none-passed = λ q z. left .none-passed q (f .passed e q z);
+            marks = chain-marked t h w a b (f .marks e) (f .led e) (here .0);
+            none-passed = λ q z.
+                ⊎-elim
+                (λ (s : q ≡ a). omega (arith, getD-set-same w a 2 0 (omega (arith, f .marks e .size)), ap (λ (i : ℕ). getD (set w a 2) i 0) (sym s) ∙ z))
+                (λ (d : q ≢ a). left .none-passed q (f .passed e q (sym (getD-set-other w a q 2 0 d) ∙ z)))
+                (equal? q a);
+            taking = here .1;
           }
 
   pub leading-last : (v : List ℕ) (j : ℕ) → Leading v j → c ≤ j → true ≡ allLed h (pairs s 0 c)

@@ -3,6 +3,7 @@
 --     noted t ms           the table t with, for each position left by one of the moves ms, one more than the position entered
 --     NotedMoves ..        the answer r and the targets t′ of the pass that judges and notes the moves
 --     Targets ms t         the table t says of each position where its rack goes, one more than it, and 0 where no move leaves it
+--     Taking t h m         the move m takes a rack along that the table h has, to where the table t says
 --     Led t h n p          by the table t the chain of a move into p comes through n positions that the table h does not have vacant, and
 --                          then to one that it has: the leader's
 --     unvisited t v        how many moves the marks v do not show as visited
@@ -31,6 +32,9 @@ pub record NotedMoves (g h : List ℕ) (ms : List (ℕ × ℕ)) (t t′ : List �
 pub record Targets (ms : List (ℕ × ℕ)) (t : List ℕ) : Type 0 where
   pub goes : (p : ℕ) → getD t p 0 ≡ cond (leaves ms p) (goesTo ms p + 1) 0
   pub below : (p : ℕ) → getD t p 0 ≤ 64
+
+abbrev pub Taking : List ℕ → List ℕ → ℕ × ℕ → Type 0
+Taking t h m = (getD h (m .0) 0 ≡ 0 → ⊥) × (getD t (m .0) 0 ≡ m .1 + 1)
 
 pub data Led (t h : List ℕ) : ℕ → ℕ → Type 0 where
   leads : {p : ℕ} → getD h p 0 ≡ 0 → Led t h 0 p

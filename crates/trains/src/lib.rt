@@ -5,7 +5,8 @@ ghost use Prim.Native.Nat.{_*_, _≤_, _<_};
 ghost use lib.ListN.{length};
 ghost use Rattle.field.specs.Bits.{pairs};
 ghost use Rattle.trains.specs.StepOn.{allLed, legalStepOn, takenUp, putDown, stepOn, ranOn};
-ghost use Rattle.trains.specs.Chains.{NotedMoves, Targets, Chain, Followed};
+ghost use Rattle.tables.specs.Simulation.{Each};
+ghost use Rattle.trains.specs.Chains.{NotedMoves, Targets, Taking, Chain, Followed};
 
 // Whether a step's c moves ascend by position left, run along edges, take racks along and enter no position twice. Notes for each
 // position left one more than the position entered.
@@ -74,19 +75,36 @@ fn ends_at_leader(p: usize, target: &[u8; 64], racks: &[u8; 64], marks: &mut [u8
     true
 }
 
-// Whether each of a step's c moves belongs to a train with a leader.
+// Whether a move that enters p belongs to a train with a leader. Most moves lead or follow one that is known to be led: no chain has to be
+// followed for them.
+fn led(p: usize, target: &[u8; 64], racks: &[u8; 64], marks: &mut [u8; 64]) -> bool
+    requires { ⌜ (p < 64) × Chain (now target) (now racks) (now marks) p ⌝ }
+    ensures { λ r. ⌜ Followed (now (target .entry)) (now (racks .entry)) (now (marks .entry)) (now (marks .exit)) p r ⌝ }
+{
+    if racks[p] == 0 {
+        return true;
+    }
+    if marks[p] == 2 {
+        return true;
+    }
+    ends_at_leader(p, target, racks, marks)
+}
+
+// Whether each of a step's c moves belongs to a train with a leader. The position that a led move leaves is marked: who enters it is led.
 fn all_led(moves: &[u8], c: usize, target: &[u8; 64], racks: &[u8; 64]) -> bool
-    requires { ⌜ (12 * c ≤ 8 * length (now moves)) × Targets (pairs (now moves) 0 c) (now target) ⌝ }
+    requires { ⌜ (12 * c ≤ 8 * length (now moves)) × Targets (pairs (now moves) 0 c) (now target) × Each (Taking (now target) (now racks)) (pairs (now moves) 0 c) ⌝ }
     ensures { λ r. ⌜ r ≡ allLed (now (racks .entry)) (pairs (now (moves .entry)) 0 c) ⌝ }
 {
     let mut marks = [0u8; 64];
     let mut j = 0;
     while j < c {
         let step = field::pair_at(moves, j);
+        let a = step.first;
         let b = step.second;
-        if !ends_at_leader(b, target, racks, &mut marks) {
+        if !led(b, target, racks, &mut marks) {
             return false;
         }
+        marks[a] = 2;
         j += 1;
     }
     true

@@ -1,5 +1,5 @@
 -- `scheduling::fill` meets its contract. The loop's invariant: what is left to pass decides the pass at the end. Assumes nothing.
-use Prim.Native.Nat.{_≤_, _-_, _+_, _*_}
+use Prim.Native.Nat.{_≤_, _-_}
 use native.Mathlib.Omega.{arith}
 use borrow.Author.Needs.{needs}
 use Rattle.scheduling.proofs.Passing.{ToPass, pass-first, pass-next, pass-last}

@@ -1,7 +1,6 @@
 -- `scheduling::make_steps` meets its contract. The loop's invariant: the steps of the windows passed are written. Assumes nothing.
-use Prim.Native.Nat.{_≤_, _-_, _+_, _*_, _/_}
+use Prim.Native.Nat.{_≤_, _-_, _+_, _/_}
 use native.Mathlib.Omega.{arith}
-use borrow.Author.Needs.{needs}
 use Rattle.field.specs.Bits.{pairs}
 use Rattle.field.specs.RecordLaws.{length-pairs}
 use Rattle.scheduling.specs.Filling.{latest}

@@ -1,7 +1,6 @@
 -- `scheduling::write_window` meets its contract. The loop's invariant: the steps of the rows passed are written. Assumes nothing.
-use Prim.Native.Nat.{_≤_, _-_, _+_}
+use Prim.Native.Nat.{_≤_, _-_}
 use native.Mathlib.Omega.{arith}
-use borrow.Author.Needs.{needs}
 use Rattle.scheduling.proofs.Windowing.{WroteRows, rows-first, rows-length, rows-room, rows-more, rows-all}
 use Rattle.scheduling.proofs.write_window.Statement.{statement}
 use Rattle.scheduling.proofs.write_window.Tie as tie

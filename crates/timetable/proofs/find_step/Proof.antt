@@ -10,8 +10,8 @@ use Rattle.timetable.proofs.find_step.Tie as tie
 read-number-requires : tie.Need-read-number-requires
 read-number-requires c κs = search needs
 
-enum-known-fault : tie.Need-enum-known-fault
-enum-known-fault c = search needs
+enum-known-reading : tie.Need-enum-known-reading
+enum-known-reading c = search needs
 
 enum-told : tie.Need-enum-told
 enum-told c = search needs
@@ -29,18 +29,18 @@ step-length-requires c κs = search needs
 
 returns : tie.Need-returns
 returns c =
-    not-found (c .before .before .before .before .before .args .timetable .now) (c .before .before .before .before .before .args .number) _ _ _ (c .before .before .before .read-number .ensures) (ap answerOfReading (c .before .fault .given .1))
+    found (c .before .before .before .before .before .before .before .args .timetable .now) (c .before .before .before .before .before .before .before .args .number) (number-gave (c .before .before .before .before .before .before .before .args .timetable .now) (c .before .before .before .before .before .before .before .args .number) _ (sym (c .before .before .before .before .before .read-number .ensures) ∙ ap answerOfReading (c .before .before .before .enum-told .given .1))) _ _ (c .before .before .offset-of .ensures .0) (c .step-length .ensures .size-is) _ _ (c .before .before .before .before .before .read-number .ensures) (ap answerOfReading (c .before .before .before .enum-told .given .1))
 
 returns-2 : tie.Need-returns-2
 returns-2 c =
-    found (c .before .before .before .before .before .before .before .args .timetable .now) (c .before .before .before .before .before .before .before .args .number) (number-gave (c .before .before .before .before .before .before .before .args .timetable .now) (c .before .before .before .before .before .before .before .args .number) _ (sym (c .before .before .before .before .before .read-number .ensures) ∙ ap answerOfReading (c .before .before .before .enum-told .given .1))) _ _ (c .before .before .offset-of .ensures .0) (c .step-length .ensures .size-is) _ _ (c .before .before .before .before .before .read-number .ensures) (ap answerOfReading (c .before .before .before .enum-told .given .1))
+    not-found (c .before .before .before .before .before .args .timetable .now) (c .before .before .before .before .before .args .number) _ _ _ (c .before .before .before .read-number .ensures) (ap answerOfReading (c .before .reading .given .1))
 
 pub find-step-spec : {M : Type 1} → statement M
 find-step-spec =
     tie.close
     (tie.spec
     read-number-requires
-    enum-known-fault
+    enum-known-reading
     enum-told
     offset-of-requires
     shared-slice-read-step-length

@@ -15,18 +15,21 @@ abbrev μ-loop : tie.MeasureT-loop
 
 loop-holds : tie.Need-loop-holds Inv-loop μ-loop
 loop-holds c =
-    (omega arith, leading-first (c .before .args .moves .now) (c .before .args .c) (c .before .args .target .now) (c .before .args .racks .now))
+    (omega arith, leading-first (c .before .args .moves .now) (c .before .args .c) (c .before .args .target .now) (c .before .args .racks .now) (c .before .pre .2))
 
 pair-at-requires : tie.Need-pair-at-requires Inv-loop μ-loop
 pair-at-requires c κs = omega arith
 
-ends-at-leader-requires : tie.Need-ends-at-leader-requires Inv-loop μ-loop
-ends-at-leader-requires c κs =
+led-requires : tie.Need-led-requires Inv-loop μ-loop
+led-requires c κs =
     (omega arith, leading-chain (c .before .before .before .before .before .args .moves .now) (c .before .before .before .before .before .args .c) (c .before .before .before .before .before .args .target .now) (c .before .before .before .before .before .args .racks .now) (c .before .before .before .before .before .pre .1) (c .before .before .before .loop .marks) (c .before .before .before .loop .j) (c .before .pair-at .result .second) (c .before .before .before .loop .inv .1))
 
 returns : tie.Need-returns Inv-loop μ-loop
 returns c =
-    not-led (c .before .before .before .before .before .before .before .args .moves .now) (c .before .before .before .before .before .before .before .args .c) (c .before .before .before .before .before .before .before .args .target .now) (c .before .before .before .before .before .before .before .args .racks .now) (c .before .before .before .before .before .before .before .pre .1) (c .before .before .before .before .before .loop .marks) (c .before .before .before .before .before .loop .j) (c .before .before .before .pair-at .result .first) (c .before .before .before .pair-at .result .second) (c .before .before .before .before .before .loop .inv .1) (omega arith) (c .before .before .before .pair-at .ensures .first-is) (c .before .before .before .pair-at .ensures .second-is) (c .before .ends-at-leader .last .1 .1 .1 .0) (c .before .ends-at-leader .result) (c .before .ends-at-leader .ensures) (not-true _ (c .if1 .taken))
+    not-led (c .before .before .before .before .before .before .before .args .moves .now) (c .before .before .before .before .before .before .before .args .c) (c .before .before .before .before .before .before .before .args .target .now) (c .before .before .before .before .before .before .before .args .racks .now) (c .before .before .before .before .before .before .before .pre .1) (c .before .before .before .before .before .loop .marks) (c .before .before .before .before .before .loop .j) (c .before .before .before .pair-at .result .first) (c .before .before .before .pair-at .result .second) (c .before .before .before .before .before .loop .inv .1) (omega arith) (c .before .before .before .pair-at .ensures .first-is) (c .before .before .before .pair-at .ensures .second-is) (c .before .led .last .1 .1 .1 .0) (c .before .led .result) (c .before .led .ensures) (not-true _ (c .if1 .taken))
+
+array-write-marks : tie.Need-array-write-marks Inv-loop μ-loop
+array-write-marks c = omega arith
 
 add-j : tie.Need-add-j Inv-loop μ-loop
 add-j c = omega arith
@@ -36,7 +39,7 @@ loop-less c = omega arith
 
 loop-again : tie.Need-loop-again Inv-loop μ-loop
 loop-again c =
-    (omega arith, leading-next (c .before .before .before .before .before .before .before .args .moves .now) (c .before .before .before .before .before .before .before .args .c) (c .before .before .before .before .before .before .before .args .target .now) (c .before .before .before .before .before .before .before .args .racks .now) (c .before .before .before .before .before .before .before .pre .1) (c .before .before .before .before .before .loop .marks) (c .before .before .before .before .before .loop .j) (c .before .before .before .pair-at .result .first) (c .before .before .before .pair-at .result .second) (c .before .before .before .before .before .loop .inv .1) (omega arith) (c .before .before .before .pair-at .ensures .first-is) (c .before .before .before .pair-at .ensures .second-is) (c .before .ends-at-leader .last .1 .1 .1 .0) (c .before .ends-at-leader .result) (c .before .ends-at-leader .ensures) (not-false _ (c .if1 .left)))
+    (omega arith, leading-next (c .before .before .before .before .before .before .before .args .moves .now) (c .before .before .before .before .before .before .before .args .c) (c .before .before .before .before .before .before .before .args .target .now) (c .before .before .before .before .before .before .before .args .racks .now) (c .before .before .before .before .before .before .before .pre .1) (c .before .before .before .before .before .loop .marks) (c .before .before .before .before .before .loop .j) (c .before .before .before .pair-at .result .first) (c .before .before .before .pair-at .result .second) (c .before .before .before .before .before .loop .inv .1) (omega arith) (c .before .before .before .pair-at .ensures .first-is) (c .before .before .before .pair-at .ensures .second-is) (c .before .led .last .1 .1 .1 .0) (c .before .led .result) (c .before .led .ensures) (not-false _ (c .if1 .left)) (omega arith))
 
 returns-2 : tie.Need-returns-2 Inv-loop μ-loop
 returns-2 c =
@@ -50,8 +53,9 @@ all-led-spec =
     μ-loop
     loop-holds
     pair-at-requires
-    ends-at-leader-requires
+    led-requires
     returns
+    array-write-marks
     add-j
     loop-less
     loop-again

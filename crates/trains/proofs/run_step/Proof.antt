@@ -4,7 +4,7 @@ use native.Mathlib.Omega.{arith}
 use borrow.Author.Tests.{not-true, not-false}
 use Rattle.field.specs.Bits.{pairs}
 use Rattle.field.specs.RecordLaws.{pairs-lt}
-use Rattle.trains.proofs.Running.{sound-targets, not-sound, not-led, ran}
+use Rattle.trains.proofs.Running.{sound-targets, sound-taking, not-sound, not-led, ran}
 use borrow.Author.Needs.{needs}
 use Rattle.trains.proofs.run_step.Statement.{statement}
 use Rattle.trains.proofs.run_step.Tie as tie
@@ -18,7 +18,8 @@ returns c =
 
 all-led-requires : tie.Need-all-led-requires
 all-led-requires c κs =
-    (omega arith, sound-targets (c .before .before .before .before .before .before .before .args .matrix .now) (c .before .before .before .before .before .before .before .args .racks .now) (pairs (c .before .before .before .before .before .before .before .args .moves .now) 0 (c .before .before .before .before .before .before .before .args .c)) (c .before .before .before .note-moves .last .1 .1 .1 .1 .0) (pairs-lt _ _ _) (sym (c .before .before .before .note-moves .ensures .is) ∙ not-false _ (c .before .before .if1 .left)) (c .before .before .before .note-moves .ensures .all (not-false _ (c .before .before .if1 .left))))
+    let targets = sound-targets (c .before .before .before .before .before .before .before .args .matrix .now) (c .before .before .before .before .before .before .before .args .racks .now) (pairs (c .before .before .before .before .before .before .before .args .moves .now) 0 (c .before .before .before .before .before .before .before .args .c)) (c .before .before .before .note-moves .last .1 .1 .1 .1 .0) (pairs-lt _ _ _) (sym (c .before .before .before .note-moves .ensures .is) ∙ not-false _ (c .before .before .if1 .left)) (c .before .before .before .note-moves .ensures .all (not-false _ (c .before .before .if1 .left))) in
+    (omega arith, targets, sound-taking (c .before .before .before .before .before .before .before .args .matrix .now) (c .before .before .before .before .before .before .before .args .racks .now) (pairs (c .before .before .before .before .before .before .before .args .moves .now) 0 (c .before .before .before .before .before .before .before .args .c)) (c .before .before .before .note-moves .last .1 .1 .1 .1 .0) (sym (c .before .before .before .note-moves .ensures .is) ∙ not-false _ (c .before .before .if1 .left)) targets)
 
 returns-2 : tie.Need-returns-2
 returns-2 c =
