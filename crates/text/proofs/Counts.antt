@@ -9,7 +9,7 @@ use mathlib.Core.Path.{_≡_, sym, ap₂, _∙_}
 use mathlib.Core.List.{List, [], _∷_}
 use native.Mathlib.Omega.{arith}
 use lib.ListN.{length}
-use Rattle.answers.specs.Answer.{Answer, accepted, refused}
+use Rattle.answers.specs.Answer.{accepted, refused}
 use Rattle.timetable.specs.Timetable.{stepCount, total, partsOf, stepsOf}
 use Rattle.timetable.specs.Reading.{WellPacked, readingAnswer, moveCount}
 use Rattle.timetable.specs.ReadingLaws.{reading-accepted, count-steps, total-moves}

@@ -4,7 +4,7 @@
 --     more-fits, last-fits, last-wrote    a longer one
 -- Assumes nothing.
 use Prim.Native.Nat.{ℕ, _+_, _/_, _%_, _≤_, _<_}
-use mathlib.Core.Path.{_≡_, sym}
+use mathlib.Core.Path.{sym}
 use mathlib.Core.List.{List, [], _∷_, _++_}
 use Rattle.text.specs.Writing.{Fits, Wrote, fits-front, fits-next, fits-as, wrote-then, wrote-as}
 use Rattle.text.specs.Text.{decimal}

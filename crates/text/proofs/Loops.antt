@@ -17,7 +17,7 @@ use native.Mathlib.Nat.{sub-zero}
 use Rattle.field.specs.Bits.{pairs, PairAt}
 use Rattle.field.specs.RecordLaws.{pairs-next}
 use Rattle.timetable.specs.Timetable.{stepLength, stepMoves, stepCount, stepsOf}
-use Rattle.timetable.specs.StepLaws.{partAt, nextAt, Room, length-partAt, head-partAt, moves-tail, moves-room}
+use Rattle.timetable.specs.StepLaws.{partAt, length-partAt, head-partAt, moves-tail, moves-room}
 use Rattle.timetable.specs.ReadingLaws.{Stands, stands-next, stands-room, steps-next, steps-none}
 use Rattle.text.specs.Text.{moveText, movesText, stepLine, stepLines}
 use Rattle.text.specs.Writing.{Fits, Wrote, Left, left-fits, left-first, left-next, left-none, fits-front}

@@ -3,7 +3,7 @@
 --     Passing s k i at                    i of k steps are passed, and what is left begins at byte `at`
 --     passing-first, .., passing-last     how the walk begins, goes on and ends
 -- Assumes nothing.
-use Prim.Native.Nat.{ℕ, zero, suc, _+_, _-_, _≤_, _<_}
+use Prim.Native.Nat.{ℕ, suc, _+_, _-_, _≤_, _<_}
 use mathlib.Core.Path.{_≡_, refl, sym, ap, _∙_}
 use mathlib.Core.List.{List}
 use native.Mathlib.Omega.{arith}

@@ -6,13 +6,12 @@
 --     record-is             the timetable at the front of the buffer, and where it ends
 --     made-packed, made-fits, made-text    it can be printed, and its text is the program's
 -- Assumes nothing.
-use Prim.Native.Nat.{ℕ, _+_, _-_, _*_, _^_, _≤_, _<_}
+use Prim.Native.Nat.{ℕ, _-_, _^_, _≤_, _<_}
 use mathlib.Core.Path.{_≡_, refl, sym, ap, ap₂, _∙_, subst}
-use mathlib.Core.List.{List, [], _∷_, _++_}
+use mathlib.Core.List.{List, _++_}
 use native.Mathlib.Omega.{arith}
-use native.Mathlib.Nat.{min-le-right}
-use lib.ListN.{length, take, drop, length-append, length-drop}
-use lib.Seq.{take-at, take-all}
+use lib.ListN.{length, take, drop, length-append}
+use lib.Seq.{take-at}
 use Rattle.answers.specs.Answer.{Answer, accepted, refused}
 use Rattle.field.specs.RecordLaws.{rest-is}
 use Rattle.timetable.specs.Timetable.{timetableRecord, stepsOf}
@@ -60,9 +59,6 @@ module _ (s o p B : List ℕ) (eo : o ≡ orderPart s) (ep : p ≡ planPart s) (
   refused-text n q a = ap (λ (x : Answer). answerText x (madeOf o p)) a ∙ text-is
 
   module _ (v : List ℕ) (a : accepted v ≡ makerAnswer o p (length B)) (b : List ℕ) (eb : b ≡ bufferAfter o p B) where
-    r : List ℕ
-    r = timetableRecord (madeOf o p)
-
     rest : List ℕ
     rest = drop (length (timetableRecord (madeOf o p))) B
 

@@ -5,19 +5,23 @@
 --     empty-step          a step without moves is its number alone
 --     decimals            0, 9, 10, 407 and 65536
 --     lengthy, moveless   the refusals 10 at place 0, of the family order, and 33 at place 2, of the family plan
---     whole, short        the order of the first case, with its plan behind it and cut short
+--     room-example        the text of the first case's timetable has room in 40 bytes, so that it can be written
+--     room-refusal        a refusal's line has room in 32 bytes
+--     end-example         the timetable of the first case ends after 11 bytes, whatever stands behind it
 -- Assumes nothing.
-use Prim.Native.Nat.{ℕ, min}
+use Prim.Native.Nat.{ℕ}
 use mathlib.Core.Path.{_≡_, refl}
-use mathlib.Core.Bool.{cond, _&&_}
 use mathlib.Core.List.{List, [], _∷_, _++_}
+use lib.ListN.{replicate}
+use lib.Dec.{lit≤}
 use Rattle.answers.specs.Family.{familyWord, within}
-use Rattle.field.specs.Bits.{bits, number, bitsOf, field}
-use Rattle.field.specs.Units.{unitsLength}
-use Rattle.order.specs.Order.{edgeCount, rackCount, unitCount}
 use Rattle.timetable.specs.Reading.{moveCount}
+use Rattle.timetable.specs.Reading.{WellPacked}
+use Rattle.timetable.specs.Timetable.{stepsOf}
+use Rattle.timetable.specs.Inhabited.{timetable₁, steps₁, moves₁, packed₁}
+use Rattle.text.specs.Front.{recordEnd, recordEnd-is}
+use Rattle.text.specs.Writing.{Fits}
 use Rattle.text.specs.Text.{digits, decimal, space, newline, arrow, refusedText, refusalLine, moveText, movesText, stepLine, stepLines, stepsText, movesWord, firstLine, timetableText}
-use Rattle.text.specs.Split.{orderEnd}
 
 -- steps 2 moves 4
 -- 1 0>1 3>2
@@ -54,16 +58,16 @@ pub moveless : refusalLine 33 2
 unfolding refusalLine refusedText space newline decimal digits familyWord within
 moveless = refl
 
-abbrev pub order₁ : List ℕ
-order₁ = 0x08 ∷ 0x0A ∷ 0x08 ∷ 0x00 ∷ 0x10 ∷ 0x02 ∷ 0x04 ∷ 0x20 ∷ 0x43 ∷ 0x08 ∷ 0x30 ∷ 0x03 ∷ 0x0C ∷ 0x00 ∷ []
+room₁ : Fits (replicate 40 0) 0 (timetableText steps₁)
+unfolding timetableText firstLine stepLines stepLine movesText moveText stepsText movesWord space newline arrow decimal digits moveCount
+room₁ = record { room = lit≤ tt }
 
-abbrev pub plan₁ : List ℕ
-plan₁ = 0x00 ∷ 0x00 ∷ 0x10 ∷ 0x00 ∷ 0x10 ∷ 0xC2 ∷ 0x08 ∷ 0x00 ∷ 0x43 ∷ []
+pub room-example : WellPacked timetable₁ × Fits (replicate 40 0) 0 (timetableText (stepsOf timetable₁))
+room-example = (packed₁, rw moves₁ room₁)
 
-pub whole : (orderEnd (order₁ ++ plan₁) ≡ 14) × (orderEnd order₁ ≡ 14)
-unfolding orderEnd unitsLength unitCount edgeCount rackCount field number bitsOf bits
-whole = (refl, refl)
+pub room-refusal : Fits (replicate 32 0) 0 (refusalLine 10 0)
+unfolding refusalLine refusedText space newline decimal digits familyWord within
+room-refusal = record { room = lit≤ tt }
 
-pub short : (orderEnd [] ≡ 0) × (orderEnd (0x08 ∷ 0x0A ∷ []) ≡ 2) × (orderEnd (0x08 ∷ 0x0A ∷ 0x08 ∷ 0x00 ∷ []) ≡ 4)
-unfolding orderEnd unitsLength unitCount edgeCount rackCount field number bitsOf bits
-short = (refl, refl, refl)
+pub end-example : (rest : List ℕ) → recordEnd (timetable₁ ++ rest) ≡ 11
+end-example rest = recordEnd-is timetable₁ rest (packed₁ .length-right)

@@ -4,21 +4,20 @@
 --     recordEnd s         where the timetable at the front of s ends
 --     recordEnd-is        that is its length, if it passes 40
 -- Assumes nothing.
-use Prim.Native.Nat.{ℕ, zero, suc, _+_, _-_, _*_, _≤_}
-use mathlib.Core.Path.{_≡_, refl, sym, ap, ap₂, _∙_}
-use mathlib.Core.Bool.{false, true, not, _||_}
+use Prim.Native.Nat.{ℕ, zero, suc, _+_, _≤_}
+use mathlib.Core.Path.{_≡_, sym, ap, _∙_}
+use mathlib.Core.Bool.{false}
 use mathlib.Core.List.{List, [], _∷_, _++_}
 use native.Mathlib.Omega.{arith}
 use borrow.Author.Tests.{ltb-false, eqb-true, not-false}
 use lib.ListN.{length, getD, take, drop, length-drop}
 use lib.Seq.{take-append-le, drop-append-le}
-use lib.Dec.{ltb, eqb}
+use lib.Dec.{ltb}
 use Rattle.field.specs.Bits.{number, bitsOf, field}
 use Rattle.field.specs.BitLaws.{length-bitsOf}
 use Rattle.field.specs.UnitLaws.{or-left, or-right}
 use Rattle.field.specs.WholeBytes.{bitsOf-append}
 use Rattle.timetable.specs.Timetable.{stepLength, stepCount, wrongSteps, wrongTimetableLength}
-use Rattle.timetable.specs.StepLaws.{stepLength-some}
 
 unfoldable pub stepsLength : ℕ → List ℕ → ℕ
 stepsLength zero t = 0

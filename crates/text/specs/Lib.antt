@@ -6,3 +6,4 @@ pub mod Front
 pub mod Split
 pub mod Program
 pub mod Examples
+pub mod ProgramExamples

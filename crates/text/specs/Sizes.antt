@@ -5,25 +5,23 @@
 --     timetableText-short a timetable of fewer than 100,000 bytes takes at most 8 bytes of text for each of its bytes
 --     refusalLine-short   the line of a refusal takes at most 32 bytes
 -- Assumes nothing.
-use Prim.Native.Nat.{ℕ, zero, suc, _+_, _-_, _*_, _^_, _≤_, _<_}
-use mathlib.Core.Path.{_≡_, refl, sym, ap, _∙_, subst}
-use mathlib.Core.Bool.{Bool, true, false, cond, _||_}
-use mathlib.Core.List.{List, [], _∷_, _++_, map}
+use Prim.Native.Nat.{ℕ, zero, suc, _+_, _*_, _^_, _≤_, _<_}
+use mathlib.Core.Path.{_≡_, _∙_}
+use mathlib.Core.Bool.{Bool, true, false, cond}
+use mathlib.Core.List.{List, [], _∷_, map}
 use native.Mathlib.Omega.{arith}
-use native.Mathlib.Nat.{le-trans}
 use borrow.Author.Tests.{ltb-false}
 use lib.ListN.{length, getD, take, drop, length-append, length-drop}
 use lib.Seq.{getD-take}
 use lib.Dec.{ltb}
 use Rattle.answers.specs.Family.{familyWord, within, order, floor, plan, timetable, other}
-use Rattle.field.specs.Bits.{pairs}
 use Rattle.field.specs.RecordLaws.{BelowPairs, none₂, more₂, pairs-lt}
 use Rattle.field.specs.UnitLaws.{or-left, or-right}
 use Rattle.timetable.specs.Timetable.{stepLength, stepCount, wrongSteps, stepParts, partsOf, stepMoves, stepsOf, total, wrongTimetableLength}
 use Rattle.timetable.specs.Reading.{moveCount}
 use Rattle.timetable.specs.StepLaws.{stepLength-some, stepLength-moves, length-moves}
 use Rattle.timetable.specs.ReadingLaws.{count-steps, total-moves}
-use Rattle.text.specs.Text.{decimal, space, newline, arrow, refusedText, refusalLine, moveText, movesText, stepLine, stepLines, stepsText, movesWord, firstLine, timetableText}
+use Rattle.text.specs.Text.{space, newline, arrow, refusedText, refusalLine, moveText, movesText, stepLine, stepLines, stepsText, movesWord, firstLine, timetableText}
 use Rattle.text.specs.TextLaws.{length-decimal}
 
 moveText-short : (m : ℕ × ℕ) → m .0 < 64 → m .1 < 64 → length (moveText m) ≤ 6

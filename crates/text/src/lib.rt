@@ -1,5 +1,5 @@
-// The timetable program, and the text that it prints, written into a lent buffer. specs/Program.antt and specs/Text.antt say what is printed; specs/Writing.antt says what a writer
-// leaves in the buffer and where the next one begins.
+// The timetable program and the text that it prints, written into a lent buffer. specs/Program.antt and specs/Text.antt say what is printed,
+// specs/Writing.antt what a writer leaves in the buffer and where the next one begins.
 use answers::Fault;
 use scheduling::MakerVerdict;
 use timetable::TimetableReading;
@@ -19,6 +19,7 @@ ghost use Rattle.text.specs.Split.{orderEnd};
 ghost use Rattle.text.specs.Front.{recordEnd};
 ghost use Rattle.text.specs.Program.{Printed, programText};
 
+// One byte.
 fn put_byte(byte: u8, out: &mut [u8], at: usize) -> usize
     requires { ⌜ Fits (now out) at (byte ∷ []) ⌝ }
     ensures { λ r. ⌜ Wrote (now (out .entry)) at (byte ∷ []) (now (out .exit)) r ⌝ }
@@ -39,6 +40,7 @@ fn put_decimal(n: usize, out: &mut [u8], at: usize) -> usize
     put_byte((48 + n % 10) as u8, out, next)
 }
 
+// A text as it is.
 fn put_bytes(bytes: &[u8], out: &mut [u8], at: usize) -> usize
     requires { ⌜ Fits (now out) at (now bytes) ⌝ }
     ensures { λ r. ⌜ Wrote (now (out .entry)) at (now (bytes .entry)) (now (out .exit)) r ⌝ }
@@ -170,7 +172,7 @@ pub fn order_end(input: &[u8]) -> usize
 }
 
 // Where the timetable at the front of a buffer ends.
-pub fn record_end(buffer: &[u8]) -> usize
+fn record_end(buffer: &[u8]) -> usize
     requires { ⌜ recordEnd (now buffer) ≤ length (now buffer) ⌝ }
     ensures { λ r. ⌜ r ≡ recordEnd (now (buffer .entry)) ⌝ }
 {

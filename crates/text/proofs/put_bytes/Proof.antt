@@ -3,7 +3,6 @@ use Rattle.text.proofs.Loops.{next-fits, next-left, all-wrote, bytes-ne
 use Prim.Native.Nat.{_≤_, _-_, _+_}
 use mathlib.Core.List.{[], _∷_}
 use native.Mathlib.Omega.{arith}
-use borrow.Author.Needs.{needs}
 use lib.ListN.{length, getD, drop}
 use Rattle.text.specs.Writing.{Left, left-first}
 use Rattle.text.proofs.put_bytes.Statement.{statement}
