@@ -16,7 +16,8 @@
  *              of any length may be passed: what is wrong with them is answered, never assumed. A pointer
  *              must not be NULL, not even with a length of 0, and must have that many bytes behind it.
  *   Ownership  All memory stays the caller's. Nothing is kept after the call, nothing is allocated, and
- *              there is no state between calls, so that several threads may call at once.
+ *              there is no state between calls, so that several threads may call at once. The stack has to
+ *              have room for small tables: 512 KiB are enough for every function.
  *   Output     The answer is one number, taken apart by the functions under "Answers". Bytes are written
  *              only to a parameter named `buffer`, and only where the answer is accepted: the record
  *              begins at the buffer's first byte, and the bytes behind the record stay as they were. A
@@ -109,7 +110,8 @@ enum {
     WICHTEAB_FLOOR_CONNECTION = 21,  /* the floor is not bi-connected: it has under 3 positions, is not
                                         connected, or falls apart when some position is taken away */
     WICHTEAB_FLOOR_RING = 22,        /* the floor is a ring: bi-connected, with exactly n edges */
-    WICHTEAB_FLOOR_PLAN_BUFFER = 23, /* the plan buffer is shorter than 12 * n * n * n + 3 bytes */
+    WICHTEAB_FLOOR_PLAN_BUFFER = 23, /* the plan buffer is shorter than 12 * n * n * n + 3 bytes. For the
+                                        planner to come: no function below answers it */
 
     /* The plan; place 0 unless it is named. */
     WICHTEAB_PLAN_LENGTH = 30, /* it is under 3 bytes, or its length is not the one k gives */
@@ -152,7 +154,7 @@ static inline const char *wichteab_family(uint32_t number)
     }
 }
 
-/* Of wichteab_plan_check or wichteab_plan_make, accepted: the plan's moves. */
+/* Of wichteab_plan_check, accepted: the plan's moves. */
 static inline uint32_t wichteab_plan_moves(uint64_t answer)
 {
     return (uint32_t)(answer >> 8);
@@ -197,8 +199,8 @@ uint64_t wichteab_order_check(const uint8_t *order, size_t order_length);
 /*
  * wichteab_floor_check: can this order be planned at all?
  *
- * Takes an order; it is only read. Accepted: the answer is 0, and wichteab_plan_make with a buffer that is
- * long enough makes a plan. Refused: 10 to 14 and 20 to 22, place 0.
+ * Takes an order; it is only read. Accepted: the answer is 0, the floor is bi-connected and no ring, and at
+ * least two positions are vacant. Refused: 10 to 14 and 20 to 22, place 0.
  */
 uint64_t wichteab_floor_check(const uint8_t *order, size_t order_length);
 
@@ -247,7 +249,8 @@ uint64_t wichteab_timetable_make(const uint8_t *order, size_t order_length, cons
  * Takes a timetable, which is only read, and the number of a step, from 1. Accepted: wichteab_step_offset
  * and wichteab_step_length give the part of the timetable that is this step, its count byte first and its
  * pad last. No order is taken, so the step is not judged: wichteab_timetable_check does that. Refused: 40,
- * 41 and 45, place 0. Time in proportion to the timetable's length.
+ * 41 and 45, place 0. Each call reads the whole timetable: who walks through all its steps finds the next
+ * one behind the last (see "Records").
  */
 uint64_t wichteab_timetable_step(const uint8_t *timetable, size_t timetable_length, uint64_t number);
 

@@ -1,11 +1,12 @@
--- The one number that a C caller gets, from include/wichteab.h: "The low 8 bits are the number: 0 for accepted, else document 01's
--- number; the rest" is the place of a refusal, or what the function says of an accepted input.
+-- The one number that a C caller gets, from include/wichteab.h, "Answers": "The low 8 bits of an answer are its number: 0 where the input is
+-- accepted, else one of the refusals below". "The bits above are, for a refusal, its place, and where the input is accepted what the
+-- function's own description says."
 --
 --     packed rest a    the answer a as one number, where `rest` makes one number of the counts of an accepted input
 --     nothing          no counts are given
---     oneCount         the one count: a plan's moves
---     stepsAndMoves    "steps in bits 8 to 29, moves in bits 30 and up"
---     lengthAndOffset  "length in bits 8 to 23, offset in bits 24 and up"
+--     oneCount         the one count: a plan's moves, a made timetable's steps
+--     stepsAndMoves    a timetable's steps in 22 bits, its moves above them
+--     lengthAndOffset  a step's length in 16 bits, its offset above it
 -- Assumes nothing.
 use Prim.Native.Nat.{ℕ, _+_, _*_, _^_}
 use mathlib.Core.List.{List}
