@@ -14,6 +14,7 @@
 --     pairBits l        the pairs l as bits
 --     pad k             how many pad bits follow k bits
 --     padded l          the bits l and their pad
+--     bytes n l         the first n bytes of the bits l
 --     toBytes l         the byte string whose bits are l and their pad
 -- Assumes nothing.
 use Prim.Native.Nat.{ℕ, zero, suc, _+_, _-_, _*_, _/_, _%_, _^_, _<_}

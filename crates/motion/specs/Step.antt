@@ -1,5 +1,6 @@
 -- Steps, from document 01, "Legal moves and steps". A step is the list of its moves, made all at once.
 --
+--     every t l          every element of l passes the test t
 --     ascends ms         the moves ascend strictly by position left
 --     leaves ms p        some move of the step leaves p
 --     enters ms p        some move of the step enters p

@@ -1,5 +1,10 @@
 -- Orders by computation on the definitions: the case book's order is accepted, and one order each meets exactly 10, 11, 12, 13, 14.
--- So the conditions are neither empty nor everything. Assumes nothing.
+-- So the conditions are neither empty nor everything.
+--
+--     caseBook                                   the order of "Programs"
+--     case-book-accepted, case-book-read, case-book-written    it is accepted, and describes what the paper says of it, which has it as its record
+--     meets-10, .., meets-14                     an order for each of the numbers
+-- Assumes nothing.
 use mathlib.Core.Path.{_≡_, refl}
 use mathlib.Core.List.{List, [], _∷_}
 use Prim.Native.Nat.{ℕ}

@@ -3,9 +3,13 @@
 --     Order                    a floor, and for each rack a start and a goal
 --     orderBits o              the record of o, as a list of bits
 --     orderRecord o            the record of o, as a byte string
---     positionCount s, ..      n, e and m of the byte string s
---     floorOf s, .., orderOf s the floor, the starts and the goals that s describes
---     wrongLength s, ..        the conditions of 10 to 14
+--     positionCount s, edgeCount s, rackCount s            n, e and m of the byte string s
+--     floorOf s, startsOf s, goalsOf s, orderOf s          the floor, the starts and the goals that s describes, and all three
+--     unitCount s              e + m: how many units of 12 bits follow the counts
+--     wrongLength s, wrongPositions s, paddingSet s        10, 11 and 12 apply to s
+--     some test l              some element of l passes the test
+--     badEdge n e, precedes e f, ascending l, wrongEdges F what 13 says of an edge, of two, of all, and 13 itself
+--     repeats l, wrongPlaces n l, wrongRacks o             what 14 says of starts or goals, and 14 itself
 --     counts s                 n, e and m, the counts of an accepted order
 --     CountsOf s n e m         n, e and m are those counts, which 8 and 7 bits keep below 256 and 128
 --     orderAnswer s            the answer for s: the first condition that applies, else accepted

@@ -4,6 +4,7 @@
 --     planRecord ms    the record of the moves ms, as a byte string
 --     moveCount p      k of the byte string p
 --     planMoves p      the k moves that p lists
+--     wrongPlanLength p, planPaddingSet p    30 and 31 apply to p
 --     planAnswer o p   the plan checker's answer for the order o and the plan p
 -- Assumes nothing.
 use Prim.Native.Nat.{ℕ}

@@ -1,13 +1,16 @@
 -- The making rule, from document 01, "Making the timetable".
 --
 --     Timed                  a move of a plan with its rack and the step that the rule gives it
+--     rackFrom r A p         the rack that stands at p, where the first rack of A has the number r
 --     rackAt A p             the rack that stands at p, racks counted from 1
 --     ofRack l r             the step of rack r's latest move among the earlier moves l, latest first; 0 where it has none
 --     ofLeaving l p          the step of the latest move among l that left p; 0 where none did
 --     stepFor l r m          the step of the move m of rack r after the moves l
 --     timed A l ms           the moves ms with their steps, from the arrangement A that the earlier moves l left
 --     greatest l             the greatest step of l, 0 where l is empty
+--     inStep i l             the moves of step i, as they are found
 --     movesIn i l            the moves of step i, ascending by position left
+--     stepsFrom i k l        the k steps from step i on
 --     madeSteps A ms         the steps that the rule makes of the plan ms from the starts A
 -- Assumes nothing.
 use Prim.Native.Nat.{ℕ, zero, suc, _+_, max}

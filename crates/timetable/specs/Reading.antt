@@ -7,6 +7,7 @@
 --     WellPacked s           neither 40 nor 41 applies to s
 --     moveCount l            the moves of the steps l, in all
 --     numberAnswer s i       what the reading refused, else 45
+--     givenBy a p            the part p where the answer a is accepted, else the empty part
 --     partGiven s i          the part that the step reader gives back: the step, or the empty part where the step is refused
 --     answerOfReading r      the verdict r on a timetable's structure as an answer
 --     answerOfStep r         the step reader's verdict r as an answer

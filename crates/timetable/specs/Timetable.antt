@@ -2,6 +2,7 @@
 -- "Making the timetable".
 --
 --     stepBits ms             a step of the record, as a list of bits
+--     allStepBits l           the steps l one after another, as a list of bits
 --     timetableBits l         the record of the steps l, as a list of bits
 --     timetableRecord l       the record of the steps l, as a byte string
 --     stepLength c            the length in bytes of a step of c moves
@@ -9,8 +10,15 @@
 --     wrongSteps k t          t is not k steps one after another: one runs past the end, or bytes are left over
 --     stepParts k t           the k steps of t, each as the part of t that it is
 --     partsOf s, stepsOf s    the steps of a timetable, as parts and as lists of moves
+--     stepMoves p             the moves of the step that the part p is
+--     wrongTimetableLength s  40 applies to s
+--     stepPadSet p            a pad bit of the step p is set
+--     timetablePaddingSet s   41 applies to s
+--     total l                 the sum of the count bytes of the parts l
 --     timetableAnswer o s     the timetable checker's answer for the order o and the timetable s
+--     lengthOf i l            the length in bytes of the first i of the parts l
 --     offset s i              where step i begins, in bytes
+--     stepPart s i            the part of s that is step i
 --     stepAnswer s i          the step reader's answer for step i of s
 -- Assumes nothing.
 use Prim.Native.Nat.{ℕ, zero, suc, _+_, _-_, _*_, _/_}
