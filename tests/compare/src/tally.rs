@@ -1,6 +1,6 @@
 //! How many cases were compared, and how often each number was met.
 
-use std::fmt::{self, Display, Formatter};
+use std::fmt::{self, Debug, Display, Formatter};
 
 /// Bytes as two hexadecimal digits each, for the message of a difference.
 pub struct Hex<'a>(pub &'a [u8]);
@@ -8,6 +8,15 @@ pub struct Hex<'a>(pub &'a [u8]);
 impl Display for Hex<'_> {
     fn fmt(&self, out: &mut Formatter<'_>) -> fmt::Result {
         self.0.iter().try_for_each(|byte| write!(out, "{byte:02X} "))
+    }
+}
+
+/// Prints how often each kind of damage was met, and sees that each was met at least 1,000 times.
+#[track_caller]
+pub fn each_met<Damage: Debug>(damages: &[Damage], met: &[u64]) {
+    for (damage, &times) in damages.iter().zip(met) {
+        println!("  {damage:?} {times}");
+        assert!(times >= 1000, "{damage:?} met {times} times only");
     }
 }
 

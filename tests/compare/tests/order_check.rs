@@ -4,7 +4,7 @@ use compare::orders::{self, DAMAGES};
 use compare::packed;
 use compare::proved;
 use compare::random::Random;
-use compare::tally::{Hex, Tally};
+use compare::tally::{each_met, Hex, Tally};
 use compare::write::Order;
 
 const NUMBERS: [u8; 6] = [0, 10, 11, 12, 13, 14];
@@ -62,10 +62,7 @@ fn every_kind_of_damage() {
         }
         met[damage as usize] += 1;
     }
-    for (damage, &times) in DAMAGES.iter().zip(&met) {
-        println!("  {damage:?} {times}");
-        assert!(times >= 1000, "{damage:?} met {times} times only");
-    }
+    each_met(&DAMAGES, &met);
     tally.finish(400_000, &NUMBERS);
 }
 

@@ -5,7 +5,7 @@ use compare::packed;
 use compare::plans::{self, DAMAGES};
 use compare::proved;
 use compare::random::Random;
-use compare::tally::Tally;
+use compare::tally::{each_met, Tally};
 use compare::write::{Order, Plan};
 
 const NUMBERS: [u8; 10] = [0, 10, 11, 12, 13, 14, 30, 31, 32, 33];
@@ -25,10 +25,7 @@ fn sound_and_damaged_plans_on_floors_of_every_shape() {
         compare(&mut tally, &case.order, &case.plan);
         met[damage as usize] += 1;
     }
-    for (damage, &times) in DAMAGES.iter().zip(&met) {
-        println!("  {damage:?} {times}");
-        assert!(times >= 1000, "{damage:?} met {times} times only");
-    }
+    each_met(&DAMAGES, &met);
     tally.finish(300_000, &NUMBERS);
 }
 

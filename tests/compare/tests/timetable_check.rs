@@ -4,7 +4,7 @@ use compare::floors::{self, Shape};
 use compare::packed;
 use compare::proved;
 use compare::random::Random;
-use compare::tally::Tally;
+use compare::tally::{each_met, Tally};
 use compare::timetables::{self, DAMAGES};
 use compare::write::{Order, Step, Timetable};
 
@@ -25,10 +25,7 @@ fn sound_and_damaged_timetables_on_floors_of_every_shape() {
         compare(&mut tally, &case.order, &case.timetable);
         met[damage as usize] += 1;
     }
-    for (damage, &times) in DAMAGES.iter().zip(&met) {
-        println!("  {damage:?} {times}");
-        assert!(times >= 1000, "{damage:?} met {times} times only");
-    }
+    each_met(&DAMAGES, &met);
     tally.finish(300_000, &NUMBERS);
 }
 
