@@ -9,7 +9,7 @@ use mathlib.Core.Path.{_≡_}
 use mathlib.Core.List.{List}
 use mathlib.Core.Logic.{_↔_}
 use Rattle.graph.specs.Connected.{BiConnected, Ring}
-use Rattle.graph.specs.Matrix.{Edge}
+use Rattle.graph.specs.Rows.{Edge}
 use Rattle.graph.specs.EdgeCount.{edgeCount}
 use Rattle.breakdown.specs.Breakdown.{Breakdown}
 use Rattle.breakdown.specs.Building.{row}
@@ -19,5 +19,5 @@ pub record Handled (n : ℕ) (E : ℕ → ℕ → Type 0) (r c : ℕ) (o start l
   pub none : r ≡ 0 → BiConnected n E → ⊥
 
 pub record Answer (n : ℕ) (g : List ℕ) (r c : ℕ) (o start left right : List ℕ) : Type 0 where
-  pub found : 0 < r → Breakdown n (Edge n g) r c (row o) (row start) (row left) (row right)
-  pub exactly : (0 < r) ↔ (BiConnected n (Edge n g) × (Ring n (Edge n g) (edgeCount g n) → ⊥))
+  pub found : 0 < r → Breakdown n (Edge g) r c (row o) (row start) (row left) (row right)
+  pub exactly : (0 < r) ↔ (BiConnected n (Edge g) × (Ring n (Edge g) (edgeCount g n) → ⊥))

@@ -1,44 +1,42 @@
--- A breakdown while it is made. The row of positions is a list o of bytes, and s has a byte for each position, not 0 where it is settled: in the
--- row already.
+-- A breakdown while it is made. The row of positions is a list o of bytes, and s is the set of those that are settled: in the row already.
 --
 --     row o                       the row as a function of the place
 --     Settled m o s               the first m of the row are different positions, and those are settled, no others
 --     Fresh f k s                 the first k of f are different positions that are not settled
---     Extended f k m o s o′ s′    the first k of f stand in the row from place m on, and are settled; what came before stands as it stood
+--     Extended f k m o o′ s′      the first k of f stand in the row from place m on, and are settled; what came before stands as it stood
 --     Building n E r c o start left right s    a base ring of r positions and c handles are in the row, and nothing else
 -- Assumes nothing.
 use Prim.Native.Nat.{ℕ, _+_, _-_, _≤_, _<_}
 use mathlib.Core.Path.{_≡_}
 use mathlib.Core.List.{List}
 use mathlib.Core.Logic.{_≢_}
+use lib.Count.{ones}
 use lib.ListN.{getD, length}
-use Rattle.graph.specs.Matrix.{Marked}
-use Rattle.graph.specs.Zeros.{zeros}
+use Rattle.sets.specs.Sets.{Has}
 use Rattle.breakdown.specs.Breakdown.{Among, Handle}
 
 abbrev pub row : List ℕ → ℕ → ℕ
 row o i = getD o i 0
 
-pub record Settled (m : ℕ) (o s : List ℕ) : Type 0 where
+pub record Settled (m : ℕ) (o : List ℕ) (s : ℕ) : Type 0 where
   pub long : length o ≡ 64
-  pub wide : length s ≡ 64
   pub small : (i : ℕ) → i < m → row o i < 64
   pub distinct : (i j : ℕ) → i < j → j < m → row o i ≢ row o j
-  pub marked : (i : ℕ) → i < m → Marked s (row o i)
-  pub among : (p : ℕ) → Marked s p → Among (row o) m p
-  pub count : m + zeros s ≡ 64
+  pub marked : (i : ℕ) → i < m → Has s (row o i)
+  pub among : (p : ℕ) → Has s p → Among (row o) m p
+  pub count : ones s ≡ m
 
-pub record Fresh (f : List ℕ) (k : ℕ) (s : List ℕ) : Type 0 where
+pub record Fresh (f : List ℕ) (k s : ℕ) : Type 0 where
   pub small : (i : ℕ) → i < k → row f i < 64
-  pub new : (i : ℕ) → i < k → getD s (row f i) 0 ≡ 0
+  pub new : (i : ℕ) → i < k → Has s (row f i) → ⊥
   pub distinct : (i j : ℕ) → i < j → j < k → row f i ≢ row f j
 
-pub record Extended (f : List ℕ) (k m : ℕ) (o s o′ s′ : List ℕ) : Type 0 where
+pub record Extended (f : List ℕ) (k m : ℕ) (o o′ : List ℕ) (s′ : ℕ) : Type 0 where
   pub settled : Settled (m + k) o′ s′
   pub kept : (i : ℕ) → i < m → row o′ i ≡ row o i
   pub new : (i : ℕ) → i < k → row o′ (m + i) ≡ row f i
 
-pub record Building (n : ℕ) (E : ℕ → ℕ → Type 0) (r c : ℕ) (o start left right s : List ℕ) : Type 0 where
+pub record Building (n : ℕ) (E : ℕ → ℕ → Type 0) (r c : ℕ) (o start left right : List ℕ) (s : ℕ) : Type 0 where
   pub settled : Settled (row start c) o s
   pub below : (i : ℕ) → i < row start c → row o i < n
   pub room : c + r ≤ row start c

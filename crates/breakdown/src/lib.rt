@@ -1,14 +1,12 @@
 // The breakdown of a floor into a base ring and handles, shortest first.
 use graph::Route;
 ghost use mathlib.Core.Path.{_≡_};
-ghost use mathlib.Core.Logic.{_↔_};
-ghost use Prim.Native.Nat.{ℕ, _+_, _*_, _≤_, _<_};
-ghost use lib.ListN.{getD};
+ghost use Prim.Native.Nat.{_+_, _<_};
+ghost use Rattle.sets.specs.Sets.{Has};
 ghost use Rattle.graph.specs.Connected.{Except, Below, BiConnected};
-ghost use Rattle.graph.specs.Matrix.{Edge, Marked, Matrix};
-ghost use Rattle.graph.specs.Zeros.{Blank};
+ghost use Rattle.graph.specs.Rows.{Edge, Rows};
 ghost use Rattle.graph.specs.Nearest.{Nearest};
-ghost use Rattle.breakdown.specs.Choice.{Beside, Better, RingChoice, HandleChoice};
+ghost use Rattle.breakdown.specs.Choice.{Beside, Before, Better, RingChoice, HandleChoice, Size};
 ghost use Rattle.breakdown.specs.Building.{row, Settled, Fresh, Extended, Building};
 ghost use Rattle.breakdown.specs.Answer.{Answer, Handled};
 
@@ -32,40 +30,11 @@ pub struct Breakdown {
 }
 
 // A shortest way to a target that avoids x.
-fn way_round(edges: &[u8; 4096], n: usize, x: usize, targets: &[u8; 64], from: usize) -> Route
-    requires { ⌜ Matrix n (now edges) ⌝ ∗ ⌜ (x < n) × (from < n) ⌝ }
-    ensures { λ r. ⌜ Nearest (Edge n (now (edges .entry))) (Except (Below n) x) (Marked (now (targets .entry))) from (r .size) (row (r .at)) ⌝ }
+fn way_round(rows: &[u64; 64], n: usize, x: usize, targets: u64, from: usize) -> Route
+    requires { ⌜ Rows n (now rows) ⌝ ∗ ⌜ (x < n) × (from < n) ⌝ }
+    ensures { λ r. ⌜ Nearest (Edge (now (rows .entry))) (Except (Below n) x) (Has targets) from (r .size) (row (r .at)) ⌝ }
 {
-    let held = graph::only(x);
-    graph::search(edges, n, &held, targets, from)
-}
-
-// The mark of v among the positions joined to a, without b.
-fn beside_mark(edges: &[u8; 4096], a: usize, b: usize, v: usize) -> u8
-    requires { ⌜ (a < 64) × (v < 64) ⌝ }
-    ensures { λ r. ⌜ (0 < r) ↔ ((getD (now (edges .entry)) (a * 64 + v) 0 ≡ 1) × (v ≡ b → ⊥)) ⌝ }
-{
-    if v == b {
-        return 0;
-    }
-    if edges[a * 64 + v] != 1 {
-        return 0;
-    }
-    1
-}
-
-// The positions joined to a, without b.
-fn beside(edges: &[u8; 4096], n: usize, a: usize, b: usize) -> [u8; 64]
-    requires { ⌜ (n ≤ 64) × (a < n) ⌝ }
-    ensures { λ r. ⌜ ((v : ℕ) → Marked r v ↔ Beside (Edge n (now (edges .entry))) a b v) ⌝ }
-{
-    let mut marks = [0u8; 64];
-    let mut v: usize = 0;
-    while v < n {
-        marks[v] = beside_mark(edges, a, b, v);
-        v += 1;
-    }
-    marks
+    graph::search(rows, sets::without(sets::below(n), x), targets, from)
 }
 
 // The better of the best pair so far and the pair (u, w) with a way of that size.
@@ -88,113 +57,126 @@ fn better(best: Pair, u: usize, w: usize, size: usize) -> Pair
     }
 }
 
-// The cycle through the edge from a to b: on from b to another neighbour of a, avoiding a.
-fn try_ring(edges: &[u8; 4096], n: usize, a: usize, b: usize, best: Pair) -> Pair
-    requires { ⌜ Matrix n (now edges) ⌝ ∗ ⌜ (a < n) × (b < 64) ⌝ ∗ ⌜ RingChoice n (now edges) (a * 64 + b) (best .from) (best .to) (best .size) ⌝ }
-    ensures { λ r. ⌜ RingChoice n (now (edges .entry)) (a * 64 + b + 1) (r .from) (r .to) (r .size) ⌝ }
+// The way round of a cycle through the edge from a to b: on from b to another neighbour of a, avoiding a.
+fn ring_way(rows: &[u64; 64], n: usize, a: usize, b: usize) -> Route
+    requires { ⌜ Rows n (now rows) ⌝ ∗ ⌜ (a < n) × (b < n) ⌝ }
+    ensures { λ r. ⌜ Nearest (Edge (now (rows .entry))) (Except (Below n) a) (Beside (Edge (now (rows .entry))) a b) b (r .size) (row (r .at)) ⌝ }
 {
-    if n <= b {
-        return best;
-    }
-    if edges[a * 64 + b] != 1 {
-        return best;
-    }
-    let targets = beside(edges, n, a, b);
-    let route = way_round(edges, n, a, &targets, b);
-    better(best, a, b, route.size)
+    way_round(rows, n, a, sets::without(rows[a], b), b)
 }
 
-// An edge on a shortest cycle.
-fn choose_ring(edges: &[u8; 4096], n: usize) -> Pair
-    requires { ⌜ Matrix n (now edges) ⌝ }
-    ensures { λ r. ⌜ RingChoice n (now (edges .entry)) (n * 64) (r .from) (r .to) (r .size) ⌝ }
+// The size of that way.
+fn ring_size(rows: &[u64; 64], n: usize, a: usize, b: usize) -> usize
+    requires { ⌜ Rows n (now rows) ⌝ ∗ ⌜ (a < n) × (b < n) ⌝ }
+    ensures { λ r. ⌜ Size (Edge (now (rows .entry))) (Except (Below n) a) (Beside (Edge (now (rows .entry))) a b) b r ⌝ }
 {
-    let mut best = Pair {
-        from: 0,
-        to: 0,
-        size: 0,
-    };
-    let mut p: usize = 0;
-    while p < n * 64 {
-        best = try_ring(edges, n, p / 64, p % 64, best);
-        p += 1;
+    let route = ring_way(rows, n, a, b);
+    route.size
+}
+
+// The choice among the edges that begin before a, and those that begin at a.
+fn choose_ring_at(rows: &[u64; 64], n: usize, a: usize, best: Pair) -> Pair
+    requires { ⌜ Rows n (now rows) ⌝ ∗ ⌜ a < n ⌝ ∗ ⌜ RingChoice n (now rows) (Before a) (best .from) (best .to) (best .size) ⌝ }
+    ensures { λ r. ⌜ RingChoice n (now (rows .entry)) (Before (a + 1)) (r .from) (r .to) (r .size) ⌝ }
+{
+    let mut best = best;
+    let mut rest = rows[a];
+    while rest != 0 {
+        let b = sets::lowest(rest);
+        best = better(best, a, b, ring_size(rows, n, a, b));
+        rest = sets::without(rest, b);
     }
     best
 }
 
-// The handle that leaves the settled positions from u to w: on from w to a settled position, avoiding u. None is shorter than one inner position
-// and an end.
-fn try_handle(
-    edges: &[u8; 4096],
-    n: usize,
-    settled: &[u8; 64],
-    u: usize,
-    w: usize,
-    best: Pair,
-) -> Pair
-    requires { ⌜ Matrix n (now edges) ⌝ ∗ ⌜ (u < n) × (w < 64) ⌝ ∗ ⌜ HandleChoice n (now edges) (now settled) (u * 64 + w) (best .from) (best .to) (best .size) ⌝ }
-    ensures { λ r. ⌜ HandleChoice n (now (edges .entry)) (now (settled .entry)) (u * 64 + w + 1) (r .from) (r .to) (r .size) ⌝ }
-{
-    if best.size == 2 {
-        return best;
-    }
-    if n <= w {
-        return best;
-    }
-    if edges[u * 64 + w] != 1 {
-        return best;
-    }
-    if settled[u] == 0 {
-        return best;
-    }
-    if settled[w] != 0 {
-        return best;
-    }
-    let route = way_round(edges, n, u, settled, w);
-    better(best, u, w, route.size)
-}
-
-// The edge by which a shortest handle leaves the settled positions.
-fn choose_handle(edges: &[u8; 4096], n: usize, settled: &[u8; 64]) -> Pair
-    requires { ⌜ Matrix n (now edges) ⌝ }
-    ensures { λ r. ⌜ HandleChoice n (now (edges .entry)) (now (settled .entry)) (n * 64) (r .from) (r .to) (r .size) ⌝ }
+// An edge on a shortest cycle.
+fn choose_ring(rows: &[u64; 64], n: usize) -> Pair
+    requires { ⌜ Rows n (now rows) ⌝ }
+    ensures { λ r. ⌜ RingChoice n (now (rows .entry)) (Edge (now (rows .entry))) (r .from) (r .to) (r .size) ⌝ }
 {
     let mut best = Pair {
         from: 0,
         to: 0,
         size: 0,
     };
-    let mut p: usize = 0;
-    while p < n * 64 {
-        best = try_handle(edges, n, settled, p / 64, p % 64, best);
-        p += 1;
+    let mut a: usize = 0;
+    while a < n {
+        best = choose_ring_at(rows, n, a, best);
+        a += 1;
+    }
+    best
+}
+
+// The size of the way on of a handle that leaves the settled positions from u to w: from w to a settled position, avoiding u.
+fn handle_size(rows: &[u64; 64], n: usize, settled: u64, u: usize, w: usize) -> usize
+    requires { ⌜ Rows n (now rows) ⌝ ∗ ⌜ (u < n) × (w < n) ⌝ }
+    ensures { λ r. ⌜ Size (Edge (now (rows .entry))) (Except (Below n) u) (Has settled) w r ⌝ }
+{
+    let route = way_round(rows, n, u, settled, w);
+    route.size
+}
+
+// The choice among the edges that leave the settled positions before u, and those that leave from u. No handle is shorter than one inner position
+// and an end.
+fn choose_handle_at(rows: &[u64; 64], n: usize, settled: u64, u: usize, best: Pair) -> Pair
+    requires { ⌜ Rows n (now rows) ⌝ ∗ ⌜ u < n ⌝ ∗ ⌜ HandleChoice n (now rows) settled (Before u) (best .from) (best .to) (best .size) ⌝ }
+    ensures { λ r. ⌜ HandleChoice n (now (rows .entry)) settled (Before (u + 1)) (r .from) (r .to) (r .size) ⌝ }
+{
+    let mut best = best;
+    if !sets::has(settled, u) {
+        return best;
+    }
+    let mut rest = sets::minus(rows[u], settled);
+    while rest != 0 {
+        if best.size == 2 {
+            return best;
+        }
+        let w = sets::lowest(rest);
+        best = better(best, u, w, handle_size(rows, n, settled, u, w));
+        rest = sets::without(rest, w);
+    }
+    best
+}
+
+// The edge by which a shortest handle leaves the settled positions.
+fn choose_handle(rows: &[u64; 64], n: usize, settled: u64) -> Pair
+    requires { ⌜ Rows n (now rows) ⌝ }
+    ensures { λ r. ⌜ HandleChoice n (now (rows .entry)) settled (Edge (now (rows .entry))) (r .from) (r .to) (r .size) ⌝ }
+{
+    let mut best = Pair {
+        from: 0,
+        to: 0,
+        size: 0,
+    };
+    let mut u: usize = 0;
+    while u < n {
+        best = choose_handle_at(rows, n, settled, u, best);
+        u += 1;
     }
     best
 }
 
 // Puts the first k positions of `at` into the row from place m on, and settles them.
-fn extend(at: &[u8; 64], k: usize, m: usize, order: &mut [u8; 64], settled: &mut [u8; 64])
+fn extend(at: &[u8; 64], k: usize, m: usize, order: &mut [u8; 64], settled: &mut u64)
     requires { ⌜ Settled m (now order) (now settled) ⌝ ∗ ⌜ Fresh (now at) k (now settled) ⌝ }
-    ensures { λ r. ⌜ Extended (now (at .entry)) k m (now (order .entry)) (now (settled .entry)) (now (order .exit)) (now (settled .exit)) ⌝ }
+    ensures { λ r. ⌜ Extended (now (at .entry)) k m (now (order .entry)) (now (order .exit)) (now (settled .exit)) ⌝ }
 {
     let mut i: usize = 0;
     while i < k {
         let p = at[i];
         order[m + i] = p;
-        settled[p as usize] = 1;
+        *settled = sets::with(*settled, p as usize);
         i += 1;
     }
 }
 
 // The base ring by the chosen pair (a, b): the way round from b, then a.
-fn lay_ring(edges: &[u8; 4096], n: usize, pair: Pair, settled: &mut [u8; 64]) -> Breakdown
-    requires { ⌜ Matrix n (now edges) ⌝ ∗ ⌜ 0 < pair .size ⌝ ∗ ⌜ RingChoice n (now edges) (n * 64) (pair .from) (pair .to) (pair .size) ⌝ ∗ ⌜ Blank (now settled) ⌝ }
-    ensures { λ r. ⌜ Building n (Edge n (now (edges .entry))) (r .ring) (r .handles) (r .order) (r .start) (r .left) (r .right) (now (settled .exit)) ⌝ ∗ ⌜ r .ring ≡ pair .size + 1 ⌝ }
+fn lay_ring(rows: &[u64; 64], n: usize, pair: Pair, settled: &mut u64) -> Breakdown
+    requires { ⌜ Rows n (now rows) ⌝ ∗ ⌜ 0 < pair .size ⌝ ∗ ⌜ RingChoice n (now rows) (Edge (now rows)) (pair .from) (pair .to) (pair .size) ⌝ ∗ ⌜ now settled ≡ 0 ⌝ }
+    ensures { λ r. ⌜ Building n (Edge (now (rows .entry))) (r .ring) (r .handles) (r .order) (r .start) (r .left) (r .right) (now (settled .exit)) ⌝ ∗ ⌜ r .ring ≡ pair .size + 1 ⌝ }
 {
     let a = pair.from;
-    let b = pair.to;
-    let targets = beside(edges, n, a, b);
-    let route = way_round(edges, n, a, &targets, b);
+    let route = ring_way(rows, n, a, pair.to);
     let size = route.size;
     let at = route.at;
     let mut order = [0u8; 64];
@@ -214,15 +196,9 @@ fn lay_ring(edges: &[u8; 4096], n: usize, pair: Pair, settled: &mut [u8; 64]) ->
 }
 
 // One handle more, by the chosen pair.
-fn add_handle(
-    edges: &[u8; 4096],
-    n: usize,
-    pair: Pair,
-    settled: &mut [u8; 64],
-    b: Breakdown,
-) -> Breakdown
-    requires { ⌜ Matrix n (now edges) ⌝ ∗ ⌜ 0 < pair .size ⌝ ∗ ⌜ HandleChoice n (now edges) (now settled) (n * 64) (pair .from) (pair .to) (pair .size) ⌝ ∗ ⌜ Building n (Edge n (now edges)) (b .ring) (b .handles) (b .order) (b .start) (b .left) (b .right) (now settled) ⌝ }
-    ensures { λ r. ⌜ Building n (Edge n (now (edges .entry))) (r .ring) (r .handles) (r .order) (r .start) (r .left) (r .right) (now (settled .exit)) ⌝ ∗ ⌜ (r .ring ≡ b .ring) × (row (b .start) (b .handles) < row (r .start) (r .handles)) ⌝ }
+fn add_handle(rows: &[u64; 64], n: usize, pair: Pair, settled: &mut u64, b: Breakdown) -> Breakdown
+    requires { ⌜ Rows n (now rows) ⌝ ∗ ⌜ 0 < pair .size ⌝ ∗ ⌜ HandleChoice n (now rows) (now settled) (Edge (now rows)) (pair .from) (pair .to) (pair .size) ⌝ ∗ ⌜ Building n (Edge (now rows)) (b .ring) (b .handles) (b .order) (b .start) (b .left) (b .right) (now settled) ⌝ }
+    ensures { λ r. ⌜ Building n (Edge (now (rows .entry))) (r .ring) (r .handles) (r .order) (r .start) (r .left) (r .right) (now (settled .exit)) ⌝ ∗ ⌜ (r .ring ≡ b .ring) × (row (b .start) (b .handles) < row (r .start) (r .handles)) ⌝ }
 {
     let u = pair.from;
     let handles = b.handles;
@@ -231,7 +207,7 @@ fn add_handle(
     let mut left = b.left;
     let mut right = b.right;
     let m = start[handles] as usize;
-    let route = way_round(edges, n, u, settled, pair.to);
+    let route = way_round(rows, n, u, *settled, pair.to);
     let at = route.at;
     let inner = route.size - 1;
     extend(&at, inner, m, &mut order, settled);
@@ -263,9 +239,9 @@ fn nothing() -> Breakdown
 }
 
 // The handles on a base ring, one after another, until every position is settled.
-fn add_handles(edges: &[u8; 4096], n: usize, settled: &mut [u8; 64], b: Breakdown) -> Breakdown
-    requires { ⌜ Matrix n (now edges) ⌝ ∗ ⌜ b .ring < n ⌝ ∗ ⌜ Building n (Edge n (now edges)) (b .ring) (b .handles) (b .order) (b .start) (b .left) (b .right) (now settled) ⌝ }
-    ensures { λ r. ⌜ Handled n (Edge n (now (edges .entry))) (r .ring) (r .handles) (r .order) (r .start) (r .left) (r .right) ⌝ }
+fn add_handles(rows: &[u64; 64], n: usize, settled: &mut u64, b: Breakdown) -> Breakdown
+    requires { ⌜ Rows n (now rows) ⌝ ∗ ⌜ b .ring < n ⌝ ∗ ⌜ Building n (Edge (now rows)) (b .ring) (b .handles) (b .order) (b .start) (b .left) (b .right) (now settled) ⌝ }
+    ensures { λ r. ⌜ Handled n (Edge (now (rows .entry))) (r .ring) (r .handles) (r .order) (r .start) (r .left) (r .right) ⌝ }
 {
     let mut b = b;
     loop {
@@ -274,28 +250,28 @@ fn add_handles(edges: &[u8; 4096], n: usize, settled: &mut [u8; 64], b: Breakdow
         if n <= start[handles] as usize {
             return b;
         }
-        let pair = choose_handle(edges, n, settled);
+        let pair = choose_handle(rows, n, *settled);
         if pair.size == 0 {
             return nothing();
         }
-        b = add_handle(edges, n, pair, settled, b);
+        b = add_handle(rows, n, pair, settled, b);
     }
 }
 
 // The breakdown of a floor, for every floor that is bi-connected and no ring; for any other a ring of 0. A base ring through every position leaves
 // nowhere to exchange racks: a shortest ring that long is the whole floor.
-pub fn break_down(edges: &[u8; 4096], n: usize) -> Breakdown
-    requires { ⌜ Matrix n (now edges) ⌝ }
-    ensures { λ r. ⌜ Answer n (now (edges .entry)) (r .ring) (r .handles) (r .order) (r .start) (r .left) (r .right) ⌝ }
+pub fn break_down(rows: &[u64; 64], n: usize) -> Breakdown
+    requires { ⌜ Rows n (now rows) ⌝ }
+    ensures { λ r. ⌜ Answer n (now (rows .entry)) (r .ring) (r .handles) (r .order) (r .start) (r .left) (r .right) ⌝ }
 {
-    let pair = choose_ring(edges, n);
+    let pair = choose_ring(rows, n);
     if pair.size == 0 {
         return nothing();
     }
-    let mut settled = [0u8; 64];
-    let b = lay_ring(edges, n, pair, &mut settled);
+    let mut settled: u64 = 0;
+    let b = lay_ring(rows, n, pair, &mut settled);
     if n <= b.ring {
         return nothing();
     }
-    add_handles(edges, n, &mut settled, b)
+    add_handles(rows, n, &mut settled, b)
 }

@@ -1,6 +1,5 @@
 -- Laws of whole sets of positions and of bi-connected floors.
 --
---     Symmetric E             an edge joins both ways
 --     whole-hung              what hangs on a whole set by ways is whole with it
 --     whole-same              two sets with the same positions are whole together
 --     whole-base              positions that all have a way to one of them are whole
@@ -11,12 +10,9 @@ use Prim.Native.Nat.{ℕ, _≤_, _<_}
 use mathlib.Core.Logic.{_≢_, by-cases}
 use native.Mathlib.Decide.{ℕ-discrete}
 use native.Mathlib.Omega.{arith}
-use Rattle.graph.specs.Walk.{Way}
+use Rattle.graph.specs.Walk.{Way, Symmetric}
 use Rattle.graph.specs.WalkLaws.{way-append, way-inside, way-reverse}
 use Rattle.graph.specs.Connected.{Whole, ConnectedWithout, BiConnected}
-
-abbrev pub Symmetric : (ℕ → ℕ → Type 0) → Type 0
-Symmetric E = (p q : ℕ) → E p q → E q p
 
 -- A position q of Q that hangs on P: a way inside Q leads from q to a position of P.
 pub record Hangs (E : ℕ → ℕ → Type 0) (P Q : ℕ → Type 0) (q : ℕ) : Type 0 where

@@ -17,11 +17,12 @@ use mathlib.Core.Logic.{_≢_, by-cases}
 use native.Mathlib.Decide.{ℕ-discrete, decLt}
 use native.Mathlib.Omega.{arith}
 use lib.ListN.{getD}
+use Rattle.sets.specs.Sets.{bit}
 use Rattle.graph.specs.WalkLaws.{walk-starts}
 use Rattle.graph.specs.Connected.{BiConnected}
 use Rattle.graph.specs.ConnectedLaws.{third}
-use Rattle.graph.specs.Matrix.{Edge, Matrix}
-use Rattle.graph.specs.MatrixLaws.{edge-other}
+use Rattle.graph.specs.Rows.{Edge, Rows}
+use Rattle.graph.specs.RowLaws.{edge-same, edge-loopless}
 use Rattle.graph.specs.EdgeCount.{rowSum, edgeCount}
 
 unfoldable pub rowsSum : List ℕ → ℕ → ℕ → ℕ
@@ -31,29 +32,29 @@ rowsSum g (suc a) k = rowsSum g a k + rowSum g a k
 -- a column as far as a, which is a row as far as a
 columnSum : List ℕ → ℕ → ℕ → ℕ
 columnSum g zero k = 0
-columnSum g (suc a) k = columnSum g a k + getD g (a * 64 + k) 0
+columnSum g (suc a) k = columnSum g a k + bit (getD g a 0) k
 
 rows-wider : (g : List ℕ) (m k : ℕ) → rowsSum g m (suc k) ≡ rowsSum g m k + columnSum g m k
 unfolding rowsSum rowSum columnSum
 rows-wider g zero k = refl
 rows-wider g (suc a) k = let r = rows-wider g a k in omega arith
 
-column-row : {n : ℕ} (g : List ℕ) → Matrix n g → (a k : ℕ) → a ≤ k → k < n → columnSum g a k ≡ rowSum g k a
+column-row : {n : ℕ} (g : List ℕ) → Rows n g → (a k : ℕ) → a ≤ k → k < n → columnSum g a k ≡ rowSum g k a
 unfolding columnSum rowSum
 column-row g m zero k l h = refl
 column-row g m (suc a) k l h =
     let r = column-row g m a k (omega arith) h in
-    let s = m .symmetric a k (omega arith) h in
+    let s = edge-same m a k in
     omega arith
 
-pub handshake : {n : ℕ} (g : List ℕ) → Matrix n g → (k : ℕ) → k ≤ n → rowsSum g k k ≡ 2 * edgeCount g k
+pub handshake : {n : ℕ} (g : List ℕ) → Rows n g → (k : ℕ) → k ≤ n → rowsSum g k k ≡ 2 * edgeCount g k
 unfolding rowsSum rowSum edgeCount
 handshake g m zero l = refl
 handshake g m (suc k) l =
     let r = handshake g m k (omega arith) in
     let w = rows-wider g k k in
     let c = column-row g m k k (omega arith) (omega arith) in
-    let d = m .loopless k (omega arith) in
+    let d = edge-loopless m k in
     omega arith
 
 -- The sum of a row, as far as k, whose only 1s stand at p and q.
@@ -62,8 +63,8 @@ record TwoOnes (g : List ℕ) (a p q k : ℕ) : Type 0 where
   middle : p < k → k ≤ q → rowSum g a k ≡ 1
   after : q < k → rowSum g a k ≡ 2
 
-two-ones : (g : List ℕ) (a p q n : ℕ) → p < q → getD g (a * 64 + p) 0 ≡ 1 → getD g (a * 64 + q) 0 ≡ 1
-    → ((b : ℕ) → b < n → b ≢ p → b ≢ q → getD g (a * 64 + b) 0 ≡ 0) → (k : ℕ) → k ≤ n → TwoOnes g a p q k
+two-ones : (g : List ℕ) (a p q n : ℕ) → p < q → bit (getD g a 0) p ≡ 1 → bit (getD g a 0) q ≡ 1
+    → ((b : ℕ) → b < n → b ≢ p → b ≢ q → bit (getD g a 0) b ≡ 0) → (k : ℕ) → k ≤ n → TwoOnes g a p q k
 unfolding rowSum
 two-ones g a p q n l e f rest zero h = record { before = λ x. refl; middle = λ x. omega arith; after = λ x. omega arith }
 two-ones g a p q n l e f rest (suc k) h =
@@ -71,12 +72,12 @@ two-ones g a p q n l e f rest (suc k) h =
     by-cases (ℕ-discrete k p)
     (λ i.
     let z = r .before (omega arith) in
-    let o : getD g (a * 64 + k) 0 ≡ 1 = ap (λ (x : ℕ). getD g (a * 64 + x) 0) i ∙ e in
+    let o : bit (getD g a 0) k ≡ 1 = ap (λ (x : ℕ). bit (getD g a 0) x) i ∙ e in
     record { before = λ x. omega arith; middle = λ x y. omega arith; after = λ x. omega arith })
     (λ i. by-cases (ℕ-discrete k q)
     (λ j.
     let z = r .middle (omega arith) (omega arith) in
-    let o : getD g (a * 64 + k) 0 ≡ 1 = ap (λ (x : ℕ). getD g (a * 64 + x) 0) j ∙ f in
+    let o : bit (getD g a 0) k ≡ 1 = ap (λ (x : ℕ). bit (getD g a 0) x) j ∙ f in
     record { before = λ x. omega arith; middle = λ x y. omega arith; after = λ x. omega arith })
     (λ j.
     let o = rest k (omega arith) i j in
@@ -86,8 +87,8 @@ two-ones g a p q n l e f rest (suc k) h =
       after = λ x. let z = r .after (omega arith) in omega arith;
     }))
 
-pub rowSum-two : (g : List ℕ) (a p q n : ℕ) → p < n → q < n → p ≢ q → getD g (a * 64 + p) 0 ≡ 1 → getD g (a * 64 + q) 0 ≡ 1
-    → ((b : ℕ) → b < n → b ≢ p → b ≢ q → getD g (a * 64 + b) 0 ≡ 0) → rowSum g a n ≡ 2
+pub rowSum-two : (g : List ℕ) (a p q n : ℕ) → p < n → q < n → p ≢ q → bit (getD g a 0) p ≡ 1 → bit (getD g a 0) q ≡ 1
+    → ((b : ℕ) → b < n → b ≢ p → b ≢ q → bit (getD g a 0) b ≡ 0) → rowSum g a n ≡ 2
 rowSum-two g a p q n hp hq other e f rest =
     by-cases (decLt p q)
     (λ l. two-ones g a p q n l e f rest n (omega arith) .after hq)
@@ -111,7 +112,7 @@ rowSum-mono g a j (suc d) =
     omega arith
 
 -- a 1 at p adds to what stands before it
-rowSum-past : (g : List ℕ) (a p k : ℕ) → p < k → getD g (a * 64 + p) 0 ≡ 1 → rowSum g a p + 1 ≤ rowSum g a k
+rowSum-past : (g : List ℕ) (a p k : ℕ) → p < k → bit (getD g a 0) p ≡ 1 → rowSum g a p + 1 ≤ rowSum g a k
 unfolding rowSum
 rowSum-past g a p k l e =
     let r = rowSum-mono g a (suc p) (k - suc p) in
@@ -120,20 +121,20 @@ rowSum-past g a p k l e =
     omega arith
 
 module _ (g : List ℕ) (a n : ℕ) where
-  least-two : (p q : ℕ) → p < q → q < n → getD g (a * 64 + p) 0 ≡ 1 → getD g (a * 64 + q) 0 ≡ 1 → 2 ≤ rowSum g a n
+  least-two : (p q : ℕ) → p < q → q < n → bit (getD g a 0) p ≡ 1 → bit (getD g a 0) q ≡ 1 → 2 ≤ rowSum g a n
   least-two p q l h e f = let x = rowSum-past g a p q l e in let y = rowSum-past g a q n h f in omega arith
 
-  least-three : (p q r : ℕ) → p < q → q < r → r < n → getD g (a * 64 + p) 0 ≡ 1 → getD g (a * 64 + q) 0 ≡ 1 → getD g (a * 64 + r) 0 ≡ 1
+  least-three : (p q r : ℕ) → p < q → q < r → r < n → bit (getD g a 0) p ≡ 1 → bit (getD g a 0) q ≡ 1 → bit (getD g a 0) r ≡ 1
       → 3 ≤ rowSum g a n
   least-three p q r l k h e f i =
       let x = rowSum-past g a p q l e in let y = rowSum-past g a q r k f in let z = rowSum-past g a r n h i in omega arith
 
-  pub rowSum-least-two : (p q : ℕ) → p < n → q < n → p ≢ q → getD g (a * 64 + p) 0 ≡ 1 → getD g (a * 64 + q) 0 ≡ 1 → 2 ≤ rowSum g a n
+  pub rowSum-least-two : (p q : ℕ) → p < n → q < n → p ≢ q → bit (getD g a 0) p ≡ 1 → bit (getD g a 0) q ≡ 1 → 2 ≤ rowSum g a n
   rowSum-least-two p q hp hq other e f =
       by-cases (decLt p q) (λ l. least-two p q l hq e f) (λ l. least-two q p (omega arith) hp f e)
 
   pub rowSum-least-three : (p q r : ℕ) → p < n → q < n → r < n → p ≢ q → p ≢ r → q ≢ r
-      → getD g (a * 64 + p) 0 ≡ 1 → getD g (a * 64 + q) 0 ≡ 1 → getD g (a * 64 + r) 0 ≡ 1 → 3 ≤ rowSum g a n
+      → bit (getD g a 0) p ≡ 1 → bit (getD g a 0) q ≡ 1 → bit (getD g a 0) r ≡ 1 → 3 ≤ rowSum g a n
   rowSum-least-three p q r hp hq hr x y z e f i =
       by-cases (decLt p q)
       (λ l. by-cases (decLt q r) (λ m. least-three p q r l m hr e f i)
@@ -163,16 +164,16 @@ rowsSum-more g u (suc m) n two l three =
     let t = two m (omega arith) in
     omega arith)
 
-pub record Neighbours (n : ℕ) (g : List ℕ) (a : ℕ) : Type 0 where
+pub record Neighbours (g : List ℕ) (a : ℕ) : Type 0 where
   pub one : ℕ
   pub two : ℕ
-  pub first : Edge n g a one
-  pub second : Edge n g a two
+  pub first : Edge g a one
+  pub second : Edge g a two
   pub differ : one ≢ two
 
-module _ {n : ℕ} {g : List ℕ} (matrix : Matrix n g) (bi : BiConnected n (Edge n g)) where
+module _ {n : ℕ} {g : List ℕ} (rows : Rows n g) (bi : BiConnected n (Edge g)) where
   -- a walk away from a starts at one neighbour, and one that avoids it at another
-  pub biConnected-neighbours : (a : ℕ) → a < n → Neighbours n g a
+  pub biConnected-neighbours : (a : ℕ) → a < n → Neighbours g a
   biConnected-neighbours a below =
       let three = bi .three in
       let x = third a a in
@@ -181,7 +182,7 @@ module _ {n : ℕ} {g : List ℕ} (matrix : Matrix n g) (bi : BiConnected n (Edg
       let one = walk-starts (way .walk) (x .first) in
       let y = third a (one .to) in
       let hy = y .small in
-      let round = bi .without (one .to) (one .edge .to) a (y .at) (record { there = below; other = edge-other matrix a (one .to) (one .edge) })
+      let round = bi .without (one .to) (rows .inside a (one .to) (one .edge) .1) a (y .at) (record { there = below; other = rows .other a (one .to) (one .edge) })
       (record { there = omega arith; other = λ e. y .second (sym e) }) in
       let two = walk-starts (round .walk) (y .first) in
       record { one = one .to; two = two .to; first = one .edge; second = two .edge; differ = λ e. two .there .other (sym e) }
@@ -189,10 +190,10 @@ module _ {n : ℕ} {g : List ℕ} (matrix : Matrix n g) (bi : BiConnected n (Edg
   pub biConnected-degree : (a : ℕ) → a < n → 2 ≤ rowSum g a n
   biConnected-degree a below =
       let t = biConnected-neighbours a below in
-      rowSum-least-two g a n (t .one) (t .two) (t .first .to) (t .second .to) (t .differ) (t .first .one) (t .second .one)
+      rowSum-least-two g a n (t .one) (t .two) (rows .inside a (t .one) (t .first) .1) (rows .inside a (t .two) (t .second) .1) (t .differ) (t .first) (t .second)
 
   pub biConnected-edges : n ≤ edgeCount g n
   biConnected-edges =
-      let twice = handshake g matrix n (omega arith) in
+      let twice = handshake g rows n (omega arith) in
       let rows = rowsSum-least g n n biConnected-degree in
       omega arith

@@ -1,22 +1,23 @@
 -- Floors on which the definitions are seen to hold, by computation: what the contracts assume can be met.
 --
---     matrixTest n g, matrix-tested    a test that computes, and what it shows: g is the matrix of a floor of n
---     join g a b        the matrix g with an edge that joins a and b
+--     rowsTest n g, rows-tested    a test that computes, and what it shows: g are the rows of a floor of n
 --     floorF            document 01, "Case book": "F is that order's floor: n = 4, edges 0-1, 0-2, 1-2, 1-3, 2-3"
---     floorF-matrix     it is the matrix of a floor of 4
+--     floorF-rows       they are the rows of a floor of 4
 --     floorF-edges      it has five edges
---     triangle, triangle-matrix, triangle-edges    three positions in a ring, three edges
+--     triangle, triangle-rows, triangle-edges    three positions in a ring, three edges
 -- Assumes nothing.
-use Prim.Native.Nat.{ℕ, zero, suc, _+_, _*_, _<_}
-use mathlib.Core.Bool.{Bool, true, false}
-use mathlib.Core.Path.{_≡_, refl, subst}
-use mathlib.Core.List.{List}
-use mathlib.Core.Logic.{by-cases}
-use native.Mathlib.Decide.{ℕ-discrete}
+use Prim.Native.Nat.{ℕ, zero, suc, _^_, _≤_, _<_}
+use mathlib.Core.Bool.{Bool, true, false, not}
+use mathlib.Core.Path.{_≡_, refl, sym, subst, ap, _∙_}
+use mathlib.Core.List.{List, [], _∷_, _++_}
+use mathlib.Core.Logic.{by-cases, ⊎-elim}
+use native.Mathlib.Decide.{ℕ-discrete, decLt}
 use native.Mathlib.Omega.{arith}
-use lib.Dec.{T, leb, eqb, leb→le, eqb→eq}
-use lib.ListN.{getD, set, replicate}
-use Rattle.graph.specs.Matrix.{Matrix}
+use lib.Dec.{T, leb, ltb, eqb, leb→le, ltb→lt, eqb→eq}
+use lib.ListN.{getD, length, replicate, List·getD-eq-default}
+use Rattle.sets.specs.Sets.{bit, Has}
+use Rattle.sets.specs.SetLaws.{has-none, has-below, has-or-not}
+use Rattle.graph.specs.Rows.{Edge, Rows}
 use Rattle.graph.specs.EdgeCount.{rowSum, edgeCount}
 
 abbrev both : Bool → Bool → Bool
@@ -43,59 +44,80 @@ every-at zero f t i l = absurd (none l)
     none h = omega arith
 every-at (suc n) f t i l =
     by-cases (ℕ-discrete i n)
-    (λ e. subst (λ (x : ℕ). T (f x)) (e′ e) (both-left (f n) (every n f) t))
+    (λ e. subst (λ (x : ℕ). T (f x)) (sym e) (both-left (f n) (every n f) t))
     (λ e. every-at n f (both-right (f n) (every n f) t) i (omega arith))
-  where
-    e′ : i ≡ n → n ≡ i
-    e′ e = omega arith
 
+-- of two positions below n: joined both ways or not at all
 abbrev pair-right : List ℕ → ℕ → ℕ → Bool
-pair-right g a b = both (leb (getD g (a * 64 + b) 0) 1) (eqb (getD g (a * 64 + b) 0) (getD g (b * 64 + a) 0))
+pair-right g a b = eqb (bit (getD g a 0) b) (bit (getD g b 0) a)
 
+-- the row of a has positions below n alone, and not a
 abbrev row-right : ℕ → List ℕ → ℕ → Bool
-row-right n g a = both (eqb (getD g (a * 64 + a) 0) 0) (every n (pair-right g a))
+row-right n g a = both (eqb (bit (getD g a 0) a) 0) (both (ltb (getD g a 0) (2 ^ n)) (every n (pair-right g a)))
 
-abbrev pub matrixTest : ℕ → List ℕ → Bool
-matrixTest n g = both (leb n 64) (every n (row-right n g))
+abbrev rest-right : ℕ → List ℕ → Bool
+rest-right n g = both (leb (length g) n) (every n (row-right n g))
 
-pub matrix-tested : (n : ℕ) (g : List ℕ) → T (matrixTest n g) → Matrix n g
-matrix-tested n g t =
-    record {
-      small = leb→le n 64 (both-left (leb n 64) (every n (row-right n g)) t);
-      bits = λ a b ha hb. leb→le (getD g (a * 64 + b) 0) 1 (both-left (leb (getD g (a * 64 + b) 0) 1) (eqb (getD g (a * 64 + b) 0) (getD g (b * 64 + a) 0)) (pair a b ha hb));
-      symmetric = λ a b ha hb. eqb→eq (getD g (a * 64 + b) 0) (getD g (b * 64 + a) 0) (both-right (leb (getD g (a * 64 + b) 0) 1) (eqb (getD g (a * 64 + b) 0) (getD g (b * 64 + a) 0)) (pair a b ha hb));
-      loopless = λ a ha. eqb→eq (getD g (a * 64 + a) 0) 0 (both-left (eqb (getD g (a * 64 + a) 0) 0) (every n (pair-right g a)) (line a ha));
-    }
+abbrev pub rowsTest : ℕ → List ℕ → Bool
+rowsTest n g = both (leb n 64) (rest-right n g)
+
+pub rows-tested : (n : ℕ) (g : List ℕ) → T (rowsTest n g) → Rows n g
+rows-tested n g t = record { small = leb→le n 64 (both-left (leb n 64) (rest-right n g) t); inside = inside; symmetric = symmetric; other = other }
   where
     line : (a : ℕ) → a < n → T (row-right n g a)
-    line = every-at n (row-right n g) (both-right (leb n 64) (every n (row-right n g)) t)
+    line = every-at n (row-right n g) (both-right (leb (length g) n) (every n (row-right n g)) (both-right (leb n 64) (rest-right n g) t))
 
-    pair : (a b : ℕ) → a < n → b < n → T (pair-right g a b)
-    pair a b ha hb = every-at n (pair-right g a) (both-right (eqb (getD g (a * 64 + a) 0) 0) (every n (pair-right g a)) (line a ha)) b hb
+    more : (a : ℕ) → a < n → T (both (ltb (getD g a 0) (2 ^ n)) (every n (pair-right g a)))
+    more a l = both-right (eqb (bit (getD g a 0) a) 0) (both (ltb (getD g a 0) (2 ^ n)) (every n (pair-right g a))) (line a l)
 
-unfoldable pub join : List ℕ → ℕ → ℕ → List ℕ
-join g a b = set (set g (a * 64 + b) 1) (b * 64 + a) 1
+    below : (a b : ℕ) → Edge g a b → a < n
+    below a b e =
+        by-cases (decLt a n) (λ l. l)
+        (λ l.
+        let short = leb→le (length g) n (both-left (leb (length g) n) (every n (row-right n g)) (both-right (leb n 64) (rest-right n g) t)) in
+        absurd (has-none b (subst (λ (x : ℕ). Has x b) (List·getD-eq-default g 0 (omega arith)) e)))
 
+    inside : (a b : ℕ) → Edge g a b → (a < n) × (b < n)
+    inside a b e =
+        let l = below a b e in
+        (l, has-below n (getD g a 0) b (ltb→lt (getD g a 0) (2 ^ n) (both-left (ltb (getD g a 0) (2 ^ n)) (every n (pair-right g a)) (more a l))) e)
+
+    symmetric : (a b : ℕ) → Edge g a b → Edge g b a
+    symmetric a b e =
+        let l = inside a b e in
+        let same = eqb→eq (bit (getD g a 0) b) (bit (getD g b 0) a)
+        (every-at n (pair-right g a) (both-right (ltb (getD g a 0) (2 ^ n)) (every n (pair-right g a)) (more a (l .0))) b (l .1)) in
+        sym same ∙ e
+
+    other : (a b : ℕ) → Edge g a b → a ≡ b → ⊥
+    other a b e same =
+        let l = below a b e in
+        let none = eqb→eq (bit (getD g a 0) a) 0 (both-left (eqb (bit (getD g a 0) a) 0) (both (ltb (getD g a 0) (2 ^ n)) (every n (pair-right g a))) (line a l)) in
+        let on : bit (getD g a 0) a ≡ 1 = ap (λ (x : ℕ). bit (getD g a 0) x) same ∙ e in
+        clash none on
+      where
+        clash : {x : ℕ} → x ≡ 0 → x ≡ 1 → ⊥
+        clash p q = omega arith
+
+-- row 0 has 1 and 2; row 1 has 0, 2 and 3; row 2 has 0, 1 and 3; row 3 has 1 and 2
 unfoldable pub floorF : List ℕ
-unfolding join
-floorF = join (join (join (join (join (replicate 4096 0) 0 1) 0 2) 1 2) 1 3) 2 3
+floorF = 6 ∷ 13 ∷ 11 ∷ 6 ∷ []
 
 unfoldable pub triangle : List ℕ
-unfolding join
-triangle = join (join (join (replicate 4096 0) 0 1) 0 2) 1 2
+triangle = 6 ∷ 5 ∷ 3 ∷ []
 
-pub floorF-matrix : Matrix 4 floorF
-unfolding floorF
-floorF-matrix = matrix-tested 4 floorF tt
+pub floorF-rows : Rows 4 floorF
+unfolding floorF bit
+floorF-rows = rows-tested 4 floorF tt
 
 pub floorF-edges : edgeCount floorF 4 ≡ 5
-unfolding floorF edgeCount rowSum
+unfolding floorF edgeCount rowSum bit
 floorF-edges = refl
 
-pub triangle-matrix : Matrix 3 triangle
-unfolding triangle
-triangle-matrix = matrix-tested 3 triangle tt
+pub triangle-rows : Rows 3 triangle
+unfolding triangle bit
+triangle-rows = rows-tested 3 triangle tt
 
 pub triangle-edges : edgeCount triangle 3 ≡ 3
-unfolding triangle edgeCount rowSum
+unfolding triangle edgeCount rowSum bit
 triangle-edges = refl

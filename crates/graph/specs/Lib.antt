@@ -2,9 +2,8 @@ pub mod Walk
 pub mod WalkLaws
 pub mod Connected
 pub mod ConnectedLaws
-pub mod Matrix
-pub mod Zeros
-pub mod MatrixLaws
+pub mod Rows
+pub mod RowLaws
 pub mod Levels
 pub mod Nearest
 pub mod NearestLaws

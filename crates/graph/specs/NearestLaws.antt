@@ -13,7 +13,7 @@ use native.Mathlib.Decide.{ℕ-discrete}
 use native.Mathlib.Omega.{arith}
 use Rattle.graph.specs.Walk.{Walk}
 use Rattle.graph.specs.WalkLaws.{walk-inside, walk-segment}
-use Rattle.graph.specs.Zeros.{pigeonhole}
+use Rattle.sets.specs.CountLaws.{pigeonhole}
 use Rattle.graph.specs.Nearest.{Nearest}
 
 pub nearest-same : {E : ℕ → ℕ → Type 0} {P Q T : ℕ → Type 0} {a k : ℕ} {f : ℕ → ℕ} → ((p : ℕ) → P p → Q p) → ((p : ℕ) → Q p → P p)

@@ -3,6 +3,7 @@
 --
 --     Walk E P a b k     a walk along edges of E from a to b, k positions counted with repetition, each of them (both ends too) allowed by P
 --     Way E P a b        some walk leads from a to b
+--     Symmetric E        an edge joins both ways
 --     Path E P a b k f   the k positions f 0, f 1, .. are a walk from a to b and no two of them are the same
 -- Assumes nothing.
 use Prim.Native.Nat.{ℕ, suc, _+_, _-_, _<_}
@@ -13,6 +14,9 @@ use mathlib.Core.Logic.{_≢_}
 pub data Walk (E : ℕ → ℕ → Type 0) (P : ℕ → Type 0) : ℕ → ℕ → ℕ → Type 0 where
   alone : {a : ℕ} → P a → Walk E P a a 1
   step : {a b c k : ℕ} → P a → E a b → Walk E P b c k → Walk E P a c (suc k)
+
+abbrev pub Symmetric : (ℕ → ℕ → Type 0) → Type 0
+Symmetric E = (p q : ℕ) → E p q → E q p
 
 pub record Way (E : ℕ → ℕ → Type 0) (P : ℕ → Type 0) (a b : ℕ) : Type 0 where
   pub size : ℕ

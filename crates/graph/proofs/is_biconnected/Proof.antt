@@ -8,16 +8,16 @@ use borrow.Author.Count.{below-more, below-none}
 use borrow.Author.Tests.{not-true, not-false}
 use Rattle.graph.specs.ConnectedLaws.{biConnected-without}
 use Rattle.graph.specs.Connected.{ConnectedWithout}
-use Rattle.graph.specs.Matrix.{Edge}
+use Rattle.graph.specs.Rows.{Edge}
 use Rattle.graph.specs.Decision.{says-yes, says-no}
 use Rattle.graph.proofs.is_biconnected.Statement.{statement}
 use Rattle.graph.proofs.is_biconnected.Tie as tie
 
 abbrev Inv-loop : tie.InvT-loop
-Inv-loop edges n x₀ x = (x ≤ n) × (3 ≤ n) × ((y : ℕ) → y < x → ConnectedWithout n (Edge n edges) y)
+Inv-loop rows n x₀ x = (x ≤ n) × (3 ≤ n) × ((y : ℕ) → y < x → ConnectedWithout n (Edge rows) y)
 
 abbrev μ-loop : tie.MeasureT-loop
-μ-loop edges n x₀ x = n - x
+μ-loop rows n x₀ x = n - x
 
 returns : tie.Need-returns Inv-loop μ-loop
 returns c = says-no (λ b. let three = b .three in omega arith)

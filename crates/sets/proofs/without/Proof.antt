@@ -1,0 +1,17 @@
+-- `sets::without` meets its contract. Assumes nothing.
+use Rattle.sets.proofs.WordLaws.{without-is}
+use borrow.Author.Needs.{needs}
+use Rattle.sets.proofs.without.Statement.{statement}
+use Rattle.sets.proofs.without.Tie as tie
+
+only-requires : tie.Need-only-requires
+only-requires c κs = search needs
+
+minus-requires : tie.Need-minus-requires
+minus-requires c κs = search needs
+
+returns : tie.Need-returns
+returns c p = without-is (c .before .before .args .s) (c .before .only .result) (c .before .before .args .v) (c .minus .result) p (c .before .only .ensures p) (c .minus .ensures p)
+
+pub without-spec : {M : Type 1} → statement M
+without-spec = tie.close (tie.spec only-requires minus-requires returns)

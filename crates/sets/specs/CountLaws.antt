@@ -1,0 +1,200 @@
+-- How many positions are in a set: `ones` counts the digits of a word.
+--
+--     ones-subset     a set within another has no more
+--     ones-less       and fewer, where the other has one that it has not
+--     ones-push       one position more
+--     ones-least      at least n, where each position below n is in the set
+--     ones-most       at most n, where no other position is
+--     ones-all        with n and no others, each position below n is in the set
+--     ones-parts      two sets apart within another have no more together
+--     pigeonhole      k different numbers below n: k is at most n
+-- Assumes nothing.
+use Prim.Native.Nat.{ℕ, zero, suc, _+_, _-_, _*_, _/_, _%_, _^_, _≤_, _<_}
+use mathlib.Core.Path.{_≡_, refl, sym, ap, subst, _∙_}
+use mathlib.Core.Logic.{_↔_, _≢_, _⊎_, inl, inr, ⊎-elim, by-cases}
+use native.Mathlib.Decide.{ℕ-discrete}
+use native.Mathlib.Omega.{arith}
+use lib.Arith.{bin-ind}
+use lib.Bits.{bitOr}
+use lib.Count.{ones, ones-step}
+use Rattle.sets.specs.Sets.{bit, Has}
+use Rattle.sets.specs.SetLaws.{bit-low, bit-high, bit-two, has-none, has-or-not, has-or, has-only}
+
+ones-none : ones 0 ≡ 0
+unfolding ones
+ones-none = refl
+
+half-within : (s t : ℕ) → ((p : ℕ) → Has s p → Has t p) → (p : ℕ) → Has (s / 2) p → Has (t / 2) p
+half-within s t w p h = sym (bit-high t p) ∙ w (suc p) (bit-high s p ∙ h)
+
+low-within : (s t : ℕ) → ((p : ℕ) → Has s p → Has t p) → s % 2 ≤ t % 2
+low-within s t w =
+    let a = bit-low s in
+    let b = bit-low t in
+    by-cases (ℕ-discrete (s % 2) 1) (λ e. let r = w 0 (omega arith) in omega arith) (λ e. omega arith)
+
+pub ones-subset : (s t : ℕ) → ((p : ℕ) → Has s p → Has t p) → ones s ≤ ones t
+ones-subset =
+    bin-ind (λ (s : ℕ). (t : ℕ) → ((p : ℕ) → Has s p → Has t p) → ones s ≤ ones t)
+    (λ t w. let z = ones-none in omega arith)
+    (λ s ih t w.
+    let a = ones-step s in
+    let b = ones-step t in
+    let l = low-within s t w in
+    let r = ih (t / 2) (half-within s t w) in
+    omega arith)
+
+pub ones-less : (x s t : ℕ) → ((p : ℕ) → Has s p → Has t p) → Has t x → (Has s x → ⊥) → ones s < ones t
+ones-less zero s t w on off =
+    let a = ones-step s in
+    let b = ones-step t in
+    let e = bit-low s in
+    let f = bit-low t in
+    let r = ones-subset (s / 2) (t / 2) (half-within s t w) in
+    ⊎-elim (λ h. absurd (off h)) (λ h. omega arith) (has-or-not s 0)
+ones-less (suc x) s t w on off =
+    let a = ones-step s in
+    let b = ones-step t in
+    let l = low-within s t w in
+    let r = ones-less x (s / 2) (t / 2) (half-within s t w) (sym (bit-high t x) ∙ on) (λ h. off (bit-high s x ∙ h)) in
+    omega arith
+
+pub ones-push : (x s t : ℕ) → ((p : ℕ) → Has t p ↔ (Has s p ⊎ (p ≡ x))) → (Has s x → ⊥) → ones t ≡ ones s + 1
+ones-push zero s t w off =
+    let a = ones-step s in
+    let b = ones-step t in
+    let e = bit-low s in
+    let f = bit-low t in
+    let on = w 0 .1 (inr refl) in
+    let r = ones-subset (s / 2) (t / 2) (half-within′ (λ p h. w (suc p) .1 (inl h))) in
+    let q = ones-subset (t / 2) (s / 2) (λ p h. back p (w (suc p) .0 (bit-high t p ∙ h))) in
+    ⊎-elim (λ h. absurd (off h)) (λ h. omega arith) (has-or-not s 0)
+  where
+    half-within′ : ((p : ℕ) → Has s (suc p) → Has t (suc p)) → (p : ℕ) → Has (s / 2) p → Has (t / 2) p
+    half-within′ f p h = sym (bit-high t p) ∙ f p (bit-high s p ∙ h)
+
+    never : {p : ℕ} → suc p ≡ 0 → ⊥
+    never e = omega arith
+
+    back : (p : ℕ) → Has s (suc p) ⊎ (suc p ≡ 0) → Has (s / 2) p
+    back p h = ⊎-elim (λ i. sym (bit-high s p) ∙ i) (λ e. absurd (never e)) h
+ones-push (suc x) s t w off =
+    let a = ones-step s in
+    let b = ones-step t in
+    let e = bit-low s in
+    let f = bit-low t in
+    let r = ones-push x (s / 2) (t / 2) (λ p. (
+      λ h. ⊎-elim (λ i. inl (sym (bit-high s p) ∙ i)) (λ i. inr (down i)) (w (suc p) .0 (bit-high t p ∙ h)),
+      λ h. sym (bit-high t p) ∙ w (suc p) .1 (⊎-elim (λ i. inl (bit-high s p ∙ i)) (λ i. inr (ap suc i)) h),
+    )) (λ h. off (bit-high s x ∙ h)) in
+    let same = low in
+    omega arith
+  where
+    down : {p : ℕ} → suc p ≡ suc x → p ≡ x
+    down e = omega arith
+
+    never : 0 ≡ suc x → ⊥
+    never e = omega arith
+
+    low : t % 2 ≡ s % 2
+    low =
+        let e = bit-low s in
+        let f = bit-low t in
+        let h = bit-two s 0 in
+        let g = bit-two t 0 in
+        ⊎-elim (λ i. let j = w 0 .1 (inl i) in omega arith)
+        (λ i. by-cases (ℕ-discrete (bit t 0) 1)
+        (λ j. ⊎-elim (λ k. omega arith) (λ k. absurd (never k)) (w 0 .0 j))
+        (λ j. omega arith))
+        (has-or-not s 0)
+
+pub ones-least : (n s : ℕ) → ((p : ℕ) → p < n → Has s p) → n ≤ ones s
+ones-least zero s all = omega arith
+ones-least (suc n) s all =
+    let a = ones-step s in
+    let e = bit-low s in
+    let h = all 0 (omega arith) in
+    let r = ones-least n (s / 2) (λ p l. sym (bit-high s p) ∙ all (suc p) (omega arith)) in
+    omega arith
+
+pub ones-most : (n s : ℕ) → ((p : ℕ) → Has s p → p < n) → ones s ≤ n
+ones-most zero s none = let r = ones-subset s 0 (λ p h. absurd (never (none p h))) in let z = ones-none in omega arith
+  where
+    never : {p : ℕ} → p < 0 → ⊥
+    never l = omega arith
+ones-most (suc n) s below =
+    let a = ones-step s in
+    let r = ones-most n (s / 2) (λ p h. let l = below (suc p) (bit-high s p ∙ h) in omega arith) in
+    omega arith
+
+pub ones-all : (n s : ℕ) → ((p : ℕ) → Has s p → p < n) → ones s ≡ n → (p : ℕ) → p < n → Has s p
+ones-all zero s below e p l = absurd (never l)
+  where
+    never : {p : ℕ} → p < 0 → ⊥
+    never l = omega arith
+ones-all (suc n) s below e zero l =
+    let a = ones-step s in
+    let b = bit-low s in
+    let r = ones-most n (s / 2) (λ p h. let l = below (suc p) (bit-high s p ∙ h) in omega arith) in
+    omega arith
+ones-all (suc n) s below e (suc p) l =
+    let a = ones-step s in
+    let r = ones-most n (s / 2) (λ q h. let k = below (suc q) (bit-high s q ∙ h) in omega arith) in
+    by-cases (ℕ-discrete (ones (s / 2)) n)
+    (λ i. bit-high s p ∙ ones-all n (s / 2) (λ q h. let k = below (suc q) (bit-high s q ∙ h) in omega arith) i p (omega arith))
+    (λ i. omega arith)
+
+pub ones-parts : (s a b : ℕ) → ((p : ℕ) → Has a p → Has s p) → ((p : ℕ) → Has b p → Has s p) → ((p : ℕ) → Has a p → Has b p → ⊥)
+    → ones a + ones b ≤ ones s
+ones-parts =
+    bin-ind (λ (s : ℕ). (a b : ℕ) → ((p : ℕ) → Has a p → Has s p) → ((p : ℕ) → Has b p → Has s p) → ((p : ℕ) → Has a p → Has b p → ⊥)
+    → ones a + ones b ≤ ones s)
+    (λ a b wa wb apart. let x = ones-subset a 0 wa in let y = ones-subset b 0 wb in let z = ones-none in omega arith)
+    (λ s ih a b wa wb apart.
+    let x = ones-step a in
+    let y = ones-step b in
+    let z = ones-step s in
+    let la = low-within a s wa in
+    let lb = low-within b s wb in
+    let r = ih (a / 2) (b / 2) (half-within a s wa) (half-within b s wb) (λ p h i. apart (suc p) (bit-high a p ∙ h) (bit-high b p ∙ i)) in
+    let low : a % 2 + b % 2 ≤ s % 2 = low-parts a b s la lb (apart 0) in
+    omega arith)
+  where
+    low-parts : (a b s : ℕ) → a % 2 ≤ s % 2 → b % 2 ≤ s % 2 → (Has a 0 → Has b 0 → ⊥) → a % 2 + b % 2 ≤ s % 2
+    low-parts a b s la lb apart =
+        let x = bit-low a in
+        let y = bit-low b in
+        ⊎-elim (λ h. ⊎-elim (λ i. absurd (apart h i)) (λ i. omega arith) (has-or-not b 0)) (λ h. omega arith) (has-or-not a 0)
+
+-- The first i numbers f 0, f 1, .. as a set.
+record Placed (f : ℕ → ℕ) (i : ℕ) : Type 0 where
+  set : ℕ
+  count : ones set ≡ i
+  among : (p : ℕ) → Has set p → (j : ℕ) × (j < i) × (f j ≡ p)
+
+module _ (n : ℕ) (f : ℕ → ℕ) (k : ℕ) (below : (i : ℕ) → i < k → f i < n) (distinct : (i j : ℕ) → i < j → j < k → f i ≢ f j) where
+  placed : (i : ℕ) → i ≤ k → Placed f i
+  placed zero l = record { set = 0; count = ones-none; among = λ p h. absurd (has-none p h) }
+  placed (suc i) l =
+      let r = placed i (omega arith) in
+      let has : (p : ℕ) → Has (bitOr (r .set) (2 ^ f i)) p ↔ (Has (r .set) p ⊎ (p ≡ f i)) = λ p.
+      let o = has-or (r .set) (2 ^ f i) p in
+      let v = has-only (f i) p in
+      (λ h. ⊎-elim (λ x. inl x) (λ x. inr (v .0 x)) (o .0 h), λ h. o .1 (⊎-elim (λ x. inl x) (λ x. inr (v .1 x)) h)) in
+      let one-more = ones-push (f i) (r .set) (bitOr (r .set) (2 ^ f i)) has (λ h. let a = r .among (f i) h in distinct (a .0) i (a .1) l (a .2)) in
+      record {
+        set = bitOr (r .set) (2 ^ f i);
+        count = (let c = r .count in omega arith);
+        among = λ p h.
+            ⊎-elim
+            (λ x. let a = r .among p x in let b = a .1 in (a .0, omega arith, a .2))
+            (λ x. (i, omega arith, sym x))
+            (has p .0 h);
+      }
+
+  pub pigeonhole : k ≤ n
+  pigeonhole =
+      let r = placed k (omega arith) in
+      let c = r .count in
+      let m = ones-most n (r .set) (λ p h. let a = r .among p h in let b = below (a .0) (a .1) in let e = a .2 in omega arith) in
+      omega arith
