@@ -53,6 +53,7 @@ pub record Spread (E : ℕ → ℕ → Type 0) (P T G : ℕ → Type 0) (l : Lis
   pub levels : Levels E P T d l
   pub met : 0 < d → Met G l d
   pub none : d ≡ 0 → (v t k : ℕ) → Walk E P v t k → T t → G v → ⊥
+  pub within : (v : ℕ) → Has x v → P v
   pub gone : d ≡ 0 → (v t k : ℕ) → Walk E P v t k → T t → Has x v → ⊥
   pub near : d ≡ 0 → (v : ℕ) → P v → (Has x v → ⊥) → (k : ℕ) × Near E P T v k
 

@@ -4,7 +4,7 @@ ghost use mathlib.Core.Bool.{true};
 ghost use mathlib.Core.Logic.{_↔_};
 ghost use mathlib.Core.Path.{_≡_};
 ghost use Prim.Native.Nat.{ℕ, _+_, _-_, _≤_, _<_};
-ghost use lib.ListN.{getD};
+ghost use lib.ListN.{getD, length};
 ghost use Rattle.sets.specs.Sets.{Has};
 ghost use Rattle.graph.specs.Walk.{Symmetric};
 ghost use Rattle.graph.specs.Connected.{Whole, Connected, ConnectedWithout, BiConnected, Ring};
@@ -36,14 +36,8 @@ struct Reach {
 
 // Breadth-first from the targets, level by level, until a level has a position of the goal or there is nothing more to reach. Each level but the
 // first is what touches the one before it and was not reached yet.
-fn spread(
-    rows: &[u64; 64],
-    free: u64,
-    targets: u64,
-    goal: u64,
-    levels: &mut [u64; 64],
-) -> Reach
-    requires { ⌜ Symmetric (Edge (now rows)) ⌝ }
+fn spread(rows: &[u64; 64], free: u64, targets: u64, goal: u64, levels: &mut [u64; 64]) -> Reach
+    requires { ⌜ Symmetric (Edge (now rows)) ⌝ ∗ ⌜ length (now levels) ≡ 64 ⌝ }
     ensures { λ r. ⌜ Spread (Edge (now (rows .entry))) (Has free) (Has targets) (Has goal) (now (levels .exit)) (r .depth) (r .left) ⌝ }
 {
     let mut fresh = free & targets;

@@ -2,6 +2,7 @@
 --
 --     ones-subset     a set within another has no more
 --     ones-less       and fewer, where the other has one that it has not
+--     ones-without    one position less: what bounds a loop that takes them one after another
 --     ones-push       one position more
 --     ones-least      at least n, where each position below n is in the set
 --     ones-most       at most n, where no other position is
@@ -58,6 +59,9 @@ ones-less (suc x) s t w on off =
     let l = low-within s t w in
     let r = ones-less x (s / 2) (t / 2) (half-within s t w) (sym (bit-high t x) ∙ on) (λ h. off (bit-high s x ∙ h)) in
     omega arith
+
+pub ones-without : (x s t : ℕ) → Has s x → ((p : ℕ) → Has t p ↔ (Has s p × (p ≢ x))) → ones t < ones s
+ones-without x s t on less = ones-less x t s (λ p h. less p .0 h .0) on (λ h. less x .0 h .1 refl)
 
 pub ones-push : (x s t : ℕ) → ((p : ℕ) → Has t p ↔ (Has s p ⊎ (p ≡ x))) → (Has s x → ⊥) → ones t ≡ ones s + 1
 ones-push zero s t w off =

@@ -8,7 +8,8 @@
 --     has-only                2 ^ v is the set of v alone
 --     has-first               2 ^ n - 1 is the set of the positions below n
 --     has-and, has-or, has-not    `&`, `|` and `!`
---     has-some, none-empty    the lowest position of a set; a set without any is empty
+--     First, trailing-first   the lowest position of a set
+--     has-some, has-positive, none-empty    a set that is not empty has a position, and the other way round
 -- Assumes nothing.
 use Prim.Native.Nat.{ℕ, zero, suc, _+_, _-_, _*_, _/_, _%_, _^_, _≤_, _<_, min, max}
 use mathlib.Core.Path.{_≡_, refl, sym, ap, ap₂, subst, _∙_}
@@ -193,5 +194,15 @@ trailing-first zero s some l = absurd (none s some l)
 trailing-first (suc k) s some l =
     under-first k s (s % 2) (trailingZeros k (s / 2)) refl (λ e. trailing-first k (s / 2) (omega arith) (half-lt s k l))
 
-pub none-empty : (k s : ℕ) → s < 2 ^ k → ((p : ℕ) → Has s p → ⊥) → s ≡ 0
-none-empty k s l none = by-cases (ℕ-discrete s 0) (λ e. e) (λ e. absurd (none (trailingZeros k s) (trailing-first k s (omega arith) l .has)))
+below-pow : (s : ℕ) → s < 2 ^ s
+below-pow zero = omega arith
+below-pow (suc s) = let r = below-pow s in let e = pow-suc 2 s in omega arith
+
+pub has-some : (s : ℕ) → 0 < s → (p : ℕ) × Has s p
+has-some s some = (trailingZeros s s, trailing-first s s some (below-pow s) .has)
+
+pub has-positive : (s p : ℕ) → Has s p → 0 < s
+has-positive s p h = by-cases (ℕ-discrete s 0) (λ e. absurd (has-none p (subst (λ (x : ℕ). Has x p) e h))) (λ e. omega arith)
+
+pub none-empty : (s : ℕ) → ((p : ℕ) → Has s p → ⊥) → s ≡ 0
+none-empty s none = by-cases (ℕ-discrete s 0) (λ e. e) (λ e. let h = has-some s (omega arith) in absurd (none (h .0) (h .1)))

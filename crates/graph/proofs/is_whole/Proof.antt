@@ -1,0 +1,29 @@
+-- `graph::is_whole` meets its contract.
+-- Assumes nothing.
+use mathlib.Core.Path.{refl}
+use borrow.Author.Needs.{needs}
+use Rattle.graph.specs.Decision.{says-yes}
+use Rattle.graph.proofs.SearchLaws.{whole-nothing, whole-reached, empty-test}
+use Rattle.graph.proofs.is_whole.Statement.{statement}
+use Rattle.graph.proofs.is_whole.Tie as tie
+
+returns : tie.Need-returns
+returns c = says-yes (whole-nothing (c .before .args .rows .now) (c .before .args .set) (c .if1 .taken))
+
+lowest-requires : tie.Need-lowest-requires
+lowest-requires c κs = search needs
+
+only-requires : tie.Need-only-requires
+only-requires c κs = search needs
+
+spread-requires : tie.Need-spread-requires
+spread-requires c κs = (c .before .before .before .before .pre, refl)
+
+returns-2 : tie.Need-returns-2
+returns-2 c =
+    let s = c .before .before .before .before .before .before in
+    empty-test _ (whole-reached (s .args .rows .now) (s .args .set) _ _ _ _ _ (s .pre) (c .before .before .before .before .lowest .ensures .1 .0) (c .before .before .before .only .ensures) (c .before .spread .ensures))
+
+pub is-whole-spec : {M : Type 1} → statement M
+is-whole-spec =
+    tie.close (tie.spec returns lowest-requires only-requires spread-requires returns-2)
