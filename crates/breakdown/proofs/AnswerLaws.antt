@@ -10,25 +10,24 @@ use mathlib.Core.Logic.{by-cases}
 use native.Mathlib.Decide.{ℕ-discrete}
 use native.Mathlib.Omega.{arith}
 use Rattle.graph.specs.Connected.{BiConnected, Ring}
-use Rattle.graph.specs.Matrix.{Edge, Matrix}
-use Rattle.graph.specs.MatrixLaws.{edge-symmetric}
+use Rattle.graph.specs.Rows.{Edge, Rows}
 use Rattle.graph.specs.EdgeCount.{edgeCount}
 use Rattle.breakdown.specs.StageLaws.{breakdown-biConnected}
 use Rattle.breakdown.specs.CountLaws.{breakdown-no-ring}
 use Rattle.breakdown.specs.Answer.{Handled, Answer}
 
 module _ {n : ℕ} {g : List ℕ} {r c : ℕ} {o start left right : List ℕ} where
-  pub answer-found : Matrix n g → Handled n (Edge n g) r c o start left right → Answer n g r c o start left right
-  answer-found matrix h =
+  pub answer-found : Rows n g → Handled n (Edge g) r c o start left right → Answer n g r c o start left right
+  answer-found rows h =
       record {
         found = h .found;
         exactly = (
-          λ l. let b = h .found l in (breakdown-biConnected (edge-symmetric matrix) b, breakdown-no-ring matrix b),
+          λ l. let b = h .found l in (breakdown-biConnected rows.symmetric b, breakdown-no-ring rows b),
           λ p. by-cases (ℕ-discrete r 0) (λ e. absurd (h .none e (p .0))) (λ e. omega arith),
         );
       }
 
-  pub answer-none : r ≡ 0 → (BiConnected n (Edge n g) → (Ring n (Edge n g) (edgeCount g n) → ⊥) → ⊥) → Answer n g r c o start left right
+  pub answer-none : r ≡ 0 → (BiConnected n (Edge g) → (Ring n (Edge g) (edgeCount g n) → ⊥) → ⊥) → Answer n g r c o start left right
   answer-none zero not =
       record { found = λ l. absurd (never l); exactly = (λ l. absurd (never l), λ p. absurd (not (p .0) (p .1))) }
     where

@@ -1,11 +1,14 @@
 -- Laws of a breakdown in the making.
 --
 --     settled-none        with nothing settled the row is empty
+--     settled-most        the row has at most 64 positions
 --     settled-room        where a position is not settled the row is not full
 --     settled-push        one position more, settled and in the row
 --     extended-none, extended-push    the row extended by none, and by one more
 --     handle-same         a handle in a row stays one in a row that agrees with it
 --     building-ring       a base ring in the row
+--     building-full       the row has at most 64 positions
+--     building-few        each handle has one of them at least, and the base ring three
 --     building-add        one handle more
 --     building-all, building-every    a row of n positions or more has all n of them
 --     building-done       a row with n positions is a breakdown
@@ -13,91 +16,89 @@
 use Prim.Native.Nat.{ℕ, zero, suc, _+_, _-_, _≤_, _<_}
 use mathlib.Core.Path.{_≡_, refl, sym, subst, subst₂, ap, _∙_}
 use mathlib.Core.List.{List}
-use mathlib.Core.Logic.{_≢_, by-cases}
+use mathlib.Core.Logic.{_↔_, _≢_, _⊎_, inl, inr, ⊎-elim, by-cases}
 use native.Mathlib.Decide.{ℕ-discrete, decLt}
 use native.Mathlib.Nat.{add-zero}
 use native.Mathlib.Omega.{arith}
-use lib.ListN.{getD, set, length, length-set}
+use lib.Count.{ones}
+use lib.ListN.{set, length, length-set}
 use lib.Seq.{getD-set-same, getD-set-other}
+use Rattle.sets.specs.Sets.{Has}
+use Rattle.sets.specs.SetLaws.{has-none}
+use Rattle.sets.specs.CountLaws.{ones-push, ones-most, ones-all}
 use Rattle.graph.specs.Walk.{Path}
 use Rattle.graph.specs.Connected.{Except, Below}
-use Rattle.graph.specs.Matrix.{Marked}
-use Rattle.graph.specs.Zeros.{Blank, zeros, zeros-set, zeros-least, zeros-all}
 use Rattle.graph.specs.Nearest.{Nearest}
 use Rattle.breakdown.specs.Breakdown.{Among, Handle, Breakdown}
 use Rattle.breakdown.specs.Choice.{Beside, Leaves}
 use Rattle.breakdown.specs.Building.{row, Settled, Extended, Building}
 
-pub settled-none : (o s : List ℕ) → length o ≡ 64 → Blank s → Settled 0 o s
-settled-none o s long blank =
+pub settled-none : (o : List ℕ) (s : ℕ) → length o ≡ 64 → s ≡ 0 → Settled 0 o s
+settled-none o s long empty =
     record {
       long = long;
-      wide = blank .long;
       small = λ i l. absurd (none l);
       distinct = λ i j l k. absurd (none k);
       marked = λ i l. absurd (none l);
       among = λ p h. absurd (clear p h);
-      count = let c = blank .count in omega arith;
+      count = let m = ones-most 0 s (λ p h. absurd (clear p h)) in omega arith;
     }
   where
     none : {x : ℕ} → x < 0 → ⊥
     none h = omega arith
 
-    clear : (p : ℕ) → 0 < getD s p 0 → ⊥
-    clear p h = let e = blank .none p in omega arith
+    clear : (p : ℕ) → Has s p → ⊥
+    clear p h = has-none p (subst (λ (x : ℕ). Has x p) empty h)
 
-module _ {m : ℕ} {o s : List ℕ} (r : Settled m o s) (p : ℕ) (small : p < 64) (new : getD s p 0 ≡ 0) where
-  fewer : zeros (set s p 1) + 1 ≡ zeros s
-  fewer = zeros-set s p 0 (let w = r .wide in omega arith) new
+module _ {m : ℕ} {o : List ℕ} {s : ℕ} (r : Settled m o s) where
+  settled-below : (p : ℕ) → Has s p → p < 64
+  settled-below p h = let a = r .among p h in let b = r .small (a .place) (a .before) in let e = a .is in omega arith
 
-  pub settled-room : m < 64
-  settled-room = let f = fewer in let c = r .count in omega arith
+  pub settled-most : m ≤ 64
+  settled-most = let l = ones-most 64 s settled-below in let c = r .count in omega arith
 
-  pub settled-push : Settled (m + 1) (set o m p) (set s p 1)
-  settled-push =
-      record {
-        long = length-set o m p ∙ r .long;
-        wide = length-set s p 1 ∙ r .wide;
-        small = λ i l.
-            by-cases (ℕ-discrete i m)
-            (λ e. let h = here i e in omega arith)
-            (λ e. let h = there i e in let b = r .small i (omega arith) in omega arith);
-        distinct = λ i j l k.
-            by-cases (ℕ-discrete j m)
-            (λ e. λ q. other i (omega arith) (sym (there i (omega arith)) ∙ q ∙ here j e))
-            (λ e. λ q. r .distinct i j l (omega arith) (sym (there i (omega arith)) ∙ q ∙ there j e));
-        marked = λ i l.
-            by-cases (ℕ-discrete i m)
-            (λ e. subst (Marked (set s p 1)) (sym (here i e)) (let k = mark in omega arith))
-            (λ e. subst (Marked (set s p 1)) (sym (there i e))
-            (let k = unmark (row o i) (other i (omega arith)) in let b = r .marked i (omega arith) in omega arith));
-        among = λ q h.
-            by-cases (ℕ-discrete q p)
-            (λ e. record { place = m; before = omega arith; is = here m refl ∙ sym e })
-            (λ e.
-            let k = unmark q e in
-            let a = r .among q (omega arith) in
-            let b = a .before in
-            record { place = a .place; before = omega arith; is = there (a .place) (omega arith) ∙ a .is });
-        count = let f = fewer in let c = r .count in omega arith;
-      }
-    where
-      here : (i : ℕ) → i ≡ m → row (set o m p) i ≡ p
-      here i e = ap (λ (x : ℕ). row (set o m p) x) e ∙ getD-set-same o m p 0 (let l = r .long in let k = settled-room in omega arith)
+  module _ (p : ℕ) (small : p < 64) (new : Has s p → ⊥) where
+    pub settled-room : m < 64
+    settled-room =
+        let l = settled-most in
+        by-cases (ℕ-discrete m 64) (λ e. absurd (new (ones-all 64 s settled-below (r .count ∙ e) p small))) (λ e. omega arith)
 
-      there : (i : ℕ) → i ≢ m → row (set o m p) i ≡ row o i
-      there i e = getD-set-other o m i p 0 e
+    pub settled-push : (s′ : ℕ) → ((q : ℕ) → Has s′ q ↔ (Has s q ⊎ (q ≡ p))) → Settled (m + 1) (set o m p) s′
+    settled-push s′ with-p =
+        record {
+          long = length-set o m p ∙ r .long;
+          small = λ i l.
+              by-cases (ℕ-discrete i m)
+              (λ e. let h = here i e in omega arith)
+              (λ e. let h = there i e in let b = r .small i (omega arith) in omega arith);
+          distinct = λ i j l k.
+              by-cases (ℕ-discrete j m)
+              (λ e. λ q. other i (omega arith) (sym (there i (omega arith)) ∙ q ∙ here j e))
+              (λ e. λ q. r .distinct i j l (omega arith) (sym (there i (omega arith)) ∙ q ∙ there j e));
+          marked = λ i l.
+              by-cases (ℕ-discrete i m)
+              (λ e. with-p (row (set o m p) i) .1 (inr (here i e)))
+              (λ e. with-p (row (set o m p) i) .1 (inl (subst (Has s) (sym (there i e)) (r .marked i (omega arith)))));
+          among = λ q h. ⊎-elim
+              (λ old.
+              let a = r .among q old in
+              let b = a .before in
+              record { place = a .place; before = omega arith; is = there (a .place) (omega arith) ∙ a .is })
+              (λ e. record { place = m; before = omega arith; is = here m refl ∙ sym e })
+              (with-p q .0 h);
+          count = let f = ones-push p s s′ with-p new in let c = r .count in omega arith;
+        }
+      where
+        here : (i : ℕ) → i ≡ m → row (set o m p) i ≡ p
+        here i e = ap (λ (x : ℕ). row (set o m p) x) e ∙ getD-set-same o m p 0 (let l = r .long in let k = settled-room in omega arith)
 
-      mark : getD (set s p 1) p 0 ≡ 1
-      mark = getD-set-same s p 1 0 (let w = r .wide in omega arith)
+        there : (i : ℕ) → i ≢ m → row (set o m p) i ≡ row o i
+        there i e = getD-set-other o m i p 0 e
 
-      unmark : (q : ℕ) → q ≢ p → getD (set s p 1) q 0 ≡ getD s q 0
-      unmark q e = getD-set-other s p q 1 0 e
+        other : (i : ℕ) → i < m → row o i ≢ p
+        other i l e = new (subst (Has s) e (r .marked i l))
 
-      other : (i : ℕ) → i < m → row o i ≢ p
-      other i l e = let b = r .marked i l in let q : getD s (row o i) 0 ≡ getD s p 0 = ap (λ (x : ℕ). getD s x 0) e in omega arith
-
-pub extended-none : (f : List ℕ) (m : ℕ) (o s : List ℕ) → Settled m o s → Extended f 0 m o s o s
+pub extended-none : (f : List ℕ) (m : ℕ) (o : List ℕ) (s : ℕ) → Settled m o s → Extended f 0 m o o s
 extended-none f m o s r =
     record {
       settled = subst (λ (x : ℕ). Settled x o s) (sym (add-zero m)) r;
@@ -105,12 +106,12 @@ extended-none f m o s r =
       new = λ i l. omega arith;
     }
 
-pub extended-push : (f : List ℕ) (i m : ℕ) (o s o′ s′ : List ℕ) → row f i < 64 → getD s′ (row f i) 0 ≡ 0 → Extended f i m o s o′ s′
-    → Extended f (i + 1) m o s (set o′ (m + i) (row f i)) (set s′ (row f i) 1)
-extended-push f i m o s o′ s′ small new x =
+pub extended-push : (f : List ℕ) (i m : ℕ) (o o′ : List ℕ) (s s′ : ℕ) → row f i < 64 → (Has s (row f i) → ⊥)
+    → ((q : ℕ) → Has s′ q ↔ (Has s q ⊎ (q ≡ row f i))) → Extended f i m o o′ s → Extended f (i + 1) m o (set o′ (m + i) (row f i)) s′
+extended-push f i m o o′ s s′ small new with-it x =
     let same : m + i + 1 ≡ m + (i + 1) = omega arith in
     record {
-      settled = subst (λ (k : ℕ). Settled k (set o′ (m + i) (row f i)) (set s′ (row f i) 1)) same (settled-push (x .settled) (row f i) small new);
+      settled = subst (λ (k : ℕ). Settled k (set o′ (m + i) (row f i)) s′) same (settled-push (x .settled) (row f i) small new s′ with-it);
       kept = λ j l. getD-set-other o′ (m + i) j (row f i) 0 (omega arith) ∙ x .kept j l;
       new = λ j l.
           by-cases (ℕ-discrete j i)
@@ -138,7 +139,7 @@ handle-same {E} {at} {at′} {s} {e} {u} {v} same h =
     }
 
 -- The way round from b, avoiding a, and then a: in the row as a ring.
-pub building-ring : {n : ℕ} {E : ℕ → ℕ → Type 0} (a b k : ℕ) (f o start left right s : List ℕ) → E a b → a < n → a ≢ b
+pub building-ring : {n : ℕ} {E : ℕ → ℕ → Type 0} (a b k : ℕ) (f o start left right : List ℕ) (s : ℕ) → E a b → a < n → a ≢ b
     → Nearest E (Except (Below n) a) (Beside E a b) b k (row f) → 0 < k → ((x y : ℕ) → E x y → E y x)
     → Settled (k + 1) o s → ((i : ℕ) → i < k → row o i ≡ row f i) → row o k ≡ a
     → row start 0 ≡ k + 1 → length start ≡ 64 → length left ≡ 64 → length right ≡ 64
@@ -183,7 +184,7 @@ building-ring {n} {E} a b k f o start left right s edge below other nearest some
         absurd (nearest .target some .other only))
         (λ e. omega arith)
 
-module _ {n : ℕ} {E : ℕ → ℕ → Type 0} {r c : ℕ} {o start left right s : List ℕ} (b : Building n E r c o start left right s) where
+module _ {n : ℕ} {E : ℕ → ℕ → Type 0} {r c : ℕ} {o start left right : List ℕ} {s : ℕ} (b : Building n E r c o start left right s) where
   starts-ascend : (d i : ℕ) → i + d ≡ c → row start i ≤ row start c
   starts-ascend zero i e = let same : row start i ≡ row start c = ap (row start) (omega arith) in omega arith
   starts-ascend (suc d) i e =
@@ -192,10 +193,13 @@ module _ {n : ℕ} {E : ℕ → ℕ → Type 0} {r c : ℕ} {o start left right 
       omega arith
 
   pub building-full : row start c ≤ 64
-  building-full = let e = b .settled .count in omega arith
+  building-full = settled-most (b .settled)
 
-  pub building-add : (u w k : ℕ) (f o′ s′ : List ℕ) → u < n → Leaves E s u w → Nearest E (Except (Below n) u) (Marked s) w k (row f) → 0 < k
-      → Extended f (k - 1) (row start c) o s o′ s′
+  pub building-few : c + 3 ≤ 64
+  building-few = let f = building-full in let p = b .room in let t = b .ring-three in omega arith
+
+  pub building-add : (u w k : ℕ) (f o′ : List ℕ) (s′ : ℕ) → u < n → Leaves E s u w → Nearest E (Except (Below n) u) (Has s) w k (row f) → 0 < k
+      → Extended f (k - 1) (row start c) o o′ s′
       → Building n E r (c + 1) o′ (set start (c + 1) (row start c + (k - 1))) (set left c u) (set right c (row f (k - 1))) s′
       × (row start c < row (set start (c + 1) (row start c + (k - 1))) (c + 1))
   building-add u w k f o′ s′ below leaves nearest some x = (
@@ -230,24 +234,19 @@ module _ {n : ℕ} {E : ℕ → ℕ → Type 0} {r c : ℕ} {o start left right 
       path : Path E (Except (Below n) u) w (row f (k - 1)) k (row f)
       path = nearest .path some
 
-      full : row start c ≤ 64
-      full = building-full
-
       -- w is not settled, so that the way goes on
       two : 1 < k
       two =
           by-cases (ℕ-discrete k 1)
           (λ e.
           let only : row f (k - 1) ≡ w = ap (row f) (omega arith) ∙ path .first in
-          let marked : 0 < getD s w 0 = subst (Marked s) only (nearest .target some) in
-          let new = leaves .new in
-          omega arith)
+          absurd (leaves .new (subst (Has s) only (nearest .target some))))
           (λ e. omega arith)
 
       stop : row (set start (c + 1) (row start c + (k - 1))) (c + 1) ≡ row start c + (k - 1)
       stop =
           getD-set-same start (c + 1) (row start c + (k - 1)) 0
-          (let l = b .starts in let p = b .room in let t = b .ring-three in let q = full in omega arith)
+          (let l = b .starts in let q = building-few in omega arith)
 
       start-old : (i : ℕ) → i < c + 1 → row (set start (c + 1) (row start c + (k - 1))) i ≡ row start i
       start-old i l = getD-set-other start (c + 1) i (row start c + (k - 1)) 0 (omega arith)
@@ -258,14 +257,11 @@ module _ {n : ℕ} {E : ℕ → ℕ → Type 0} {r c : ℕ} {o start left right 
       right-old : (i : ℕ) → i < c → row (set right c (row f (k - 1))) i ≡ row right i
       right-old i l = getD-set-other right c i (row f (k - 1)) 0 (omega arith)
 
-      inside : c < 64
-      inside = let p = b .room in let t = b .ring-three in let q = full in omega arith
-
       left-new : row (set left c u) c ≡ u
-      left-new = getD-set-same left c u 0 (let l = b .lefts in let q = inside in omega arith)
+      left-new = getD-set-same left c u 0 (let l = b .lefts in let q = building-few in omega arith)
 
       right-new : row (set right c (row f (k - 1))) c ≡ row f (k - 1)
-      right-new = getD-set-same right c (row f (k - 1)) 0 (let l = b .rights in let q = inside in omega arith)
+      right-new = getD-set-same right c (row f (k - 1)) 0 (let l = b .rights in let q = building-few in omega arith)
 
       at-new : (i : ℕ) → row start c ≤ i → i < row start c + (k - 1) → row o′ i ≡ row f (i - row start c)
       at-new i l h = ap (row o′) (omega arith) ∙ x .new (i - row start c) (omega arith)
@@ -304,28 +300,20 @@ module _ {n : ℕ} {E : ℕ → ℕ → Type 0} {r c : ℕ} {o start left right 
           (subst₂ (Handle E (row o′) (row start i) (row start (i + 1))) (sym (left-old i (omega arith))) (sym (right-old i (omega arith)))
           (handle-same (λ j h. x .kept j (omega arith)) (b .handle i (omega arith)))))
 
-  unsettled : (p : ℕ) → n ≤ p → getD s p 0 ≡ 0
-  unsettled p l =
-      by-cases (ℕ-discrete (getD s p 0) 0) (λ e. e)
-      (λ e.
-      let a = b .settled .among p (omega arith) in
-      let q = b .below (a .place) (a .before) in
-      let i = a .is in
-      omega arith)
+  settled-inside : (p : ℕ) → Has s p → p < n
+  settled-inside p h = let a = b .settled .among p h in let q = b .below (a .place) (a .before) in let i = a .is in omega arith
 
-  pub building-all : n ≤ 64 → n ≤ row start c → row start c ≡ n
-  building-all small full = let z = zeros-least s n unsettled in let w = b .settled .wide in let t = b .settled .count in omega arith
+  pub building-all : n ≤ row start c → row start c ≡ n
+  building-all full = let m = ones-most n s settled-inside in let t = b .settled .count in omega arith
 
-  pub building-every : n ≤ 64 → n ≤ row start c → (p : ℕ) → p < n → Among (row o) n p
-  building-every small full p l =
-      let all = building-all small full in
-      let w = b .settled .wide in
-      let t = b .settled .count in
-      subst (λ (m : ℕ). Among (row o) m p) all (b .settled .among p (zeros-all s n unsettled (omega arith) (omega arith) p l))
+  pub building-every : n ≤ row start c → (p : ℕ) → p < n → Among (row o) n p
+  building-every full p l =
+      let all = building-all full in
+      subst (λ (m : ℕ). Among (row o) m p) all (b .settled .among p (ones-all n s settled-inside (b .settled .count ∙ all) p l))
 
-  pub building-done : n ≤ 64 → n ≤ row start c → r < n → Breakdown n E r c (row o) (row start) (row left) (row right)
-  building-done small full less =
-      let all = building-all small full in
+  pub building-done : n ≤ row start c → r < n → Breakdown n E r c (row o) (row start) (row left) (row right)
+  building-done full less =
+      let all = building-all full in
       record {
         ring-three = b .ring-three;
         ring-less = less;
@@ -336,5 +324,5 @@ module _ {n : ℕ} {E : ℕ → ℕ → Type 0} {r c : ℕ} {o start left right 
         stops = all;
         below = λ i l. b .below i (omega arith);
         distinct = λ i j l k. b .settled .distinct i j l (omega arith);
-        every = building-every small full;
+        every = building-every full;
       }

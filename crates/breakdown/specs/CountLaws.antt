@@ -10,10 +10,9 @@ use mathlib.Core.List.{List}
 use mathlib.Core.Logic.{_≢_, by-cases}
 use native.Mathlib.Decide.{ℕ-discrete, decLt}
 use native.Mathlib.Omega.{arith}
+use Rattle.graph.specs.Walk.{Symmetric}
 use Rattle.graph.specs.Connected.{Ring}
-use Rattle.graph.specs.ConnectedLaws.{Symmetric}
-use Rattle.graph.specs.Matrix.{Edge, Matrix}
-use Rattle.graph.specs.MatrixLaws.{edge-symmetric}
+use Rattle.graph.specs.Rows.{Edge, Rows}
 use Rattle.graph.specs.EdgeCount.{rowSum, edgeCount}
 use Rattle.graph.specs.EdgeCountLaws.{handshake, rowSum-least-three, rowsSum-more, biConnected-degree}
 use Rattle.breakdown.specs.Breakdown.{Breakdown}
@@ -66,7 +65,7 @@ ring-neighbours {E} at r i sy three joined closed l =
       second = joined i (omega arith);
     }))
 
-module _ {n : ℕ} {g : List ℕ} {r c : ℕ} {at start left right : ℕ → ℕ} (matrix : Matrix n g) (b : Breakdown n (Edge n g) r c at start left right) where
+module _ {n : ℕ} {g : List ℕ} {r c : ℕ} {at start left right : ℕ → ℕ} (rows : Rows n g) (b : Breakdown n (Edge g) r c at start left right) where
   first-handle : 0 < c
   first-handle =
       by-cases (ℕ-discrete c 0)
@@ -80,27 +79,27 @@ module _ {n : ℕ} {g : List ℕ} {r c : ℕ} {at start left right : ℕ → ℕ
       let begins = b .begins in
       let less = b .ring-less in
       let before : place < r = let l = h .left .before in omega arith in
-      let t = ring-neighbours at r place (edge-symmetric matrix) (b .ring-three) (b .ring-joined) (b .ring-closed) before in
+      let t = ring-neighbours at r place rows.symmetric (b .ring-three) (b .ring-joined) (b .ring-closed) before in
       let p = t .one-in in
       let q = t .two-in in
       let is : at place ≡ left 0 = h .left .is in
-      let out : Edge n g (at place) (at r) =
-      subst (λ (x : ℕ). Edge n g (at place) (at x)) begins (subst (λ (x : ℕ). Edge n g x (at (start 0))) (sym is) (h .first)) in
+      let out : Edge g (at place) (at r) =
+      subst (λ (x : ℕ). Edge g (at place) (at x)) begins (subst (λ (x : ℕ). Edge g x (at (start 0))) (sym is) (h .first)) in
       subst (λ (x : ℕ). 3 ≤ rowSum g x n) is
-      (rowSum-least-three g (at place) n (at (t .one)) (at (t .two)) (at r) (t .first .to) (t .second .to) (out .to)
+      (rowSum-least-three g (at place) n (at (t .one)) (at (t .two)) (at r) (rows .inside _ _ (t .first) .1) (rows .inside _ _ (t .second) .1) (rows .inside _ _ out .1)
       (by-cases (decLt (t .one) (t .two)) (λ l. b .distinct (t .one) (t .two) l (omega arith))
       (λ l e. b .distinct (t .two) (t .one) (let d = t .differ in omega arith) (omega arith) (sym e)))
       (b .distinct (t .one) r p less)
       (b .distinct (t .two) r q less)
-      (t .first .one) (t .second .one) (out .one))
+      (t .first) (t .second) out)
 
   pub breakdown-edges : n < edgeCount g n
   breakdown-edges =
-      let bi = breakdown-biConnected (edge-symmetric matrix) b in
-      let in-floor : left 0 < n = b .handle 0 first-handle .first .from in
-      let more = rowsSum-more g (left 0) n n (biConnected-degree matrix bi) in-floor branch in
-      let twice = handshake g matrix n (omega arith) in
+      let bi = breakdown-biConnected rows.symmetric b in
+      let in-floor : left 0 < n = rows .inside _ _ (b .handle 0 first-handle .first) .0 in
+      let more = rowsSum-more g (left 0) n n (biConnected-degree rows bi) in-floor branch in
+      let twice = handshake g rows n (omega arith) in
       omega arith
 
-  pub breakdown-no-ring : Ring n (Edge n g) (edgeCount g n) → ⊥
+  pub breakdown-no-ring : Ring n (Edge g) (edgeCount g n) → ⊥
   breakdown-no-ring r = let e = r .count in let more = breakdown-edges in omega arith

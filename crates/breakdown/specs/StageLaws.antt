@@ -19,10 +19,10 @@ use mathlib.Core.Logic.{_≢_, by-cases, _⊎_, inl, inr, ⊎-elim}
 use native.Mathlib.Decide.{ℕ-discrete, decLt}
 use native.Mathlib.Numerals.{add-one}
 use native.Mathlib.Omega.{arith}
-use Rattle.graph.specs.Walk.{Way}
+use Rattle.graph.specs.Walk.{Way, Symmetric}
 use Rattle.graph.specs.WalkLaws.{Start, walk-starts, walk-segment, way-stay, way-step, way-append, way-reverse}
 use Rattle.graph.specs.Connected.{Whole, Except, BiConnected, Robust}
-use Rattle.graph.specs.ConnectedLaws.{Symmetric, Hangs, whole-hung, whole-same, whole-base}
+use Rattle.graph.specs.ConnectedLaws.{Hangs, whole-hung, whole-same, whole-base}
 use Rattle.breakdown.specs.Breakdown.{Among, Between, Handle, Breakdown}
 
 abbrev pub Both : (ℕ → Type 0) → (ℕ → Type 0) → ℕ → Type 0

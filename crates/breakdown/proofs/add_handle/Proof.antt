@@ -3,13 +3,13 @@
 use mathlib.Core.Path.{refl}
 use native.Mathlib.Omega.{arith}
 use borrow.Author.Needs.{needs}
-use Rattle.breakdown.proofs.BuildingLaws.{building-add}
-use Rattle.breakdown.proofs.LayLaws.{handle-way, handle-fresh}
+use Rattle.breakdown.proofs.BuildingLaws.{settled-most, building-few, building-add}
+use Rattle.breakdown.proofs.LayLaws.{handle-found, handle-fresh}
 use Rattle.breakdown.proofs.add_handle.Statement.{statement}
 use Rattle.breakdown.proofs.add_handle.Tie as tie
 
 array-read-m : tie.Need-array-read-m
-array-read-m c = search needs
+array-read-m c = let f = building-few (c .before .before .before .before .pre .1 .1 .1) in omega arith
 
 cast-m : tie.Need-cast-m
 cast-m c = search needs
@@ -17,14 +17,13 @@ cast-m c = search needs
 way-round-requires : tie.Need-way-round-requires
 way-round-requires c κs =
     let s = c .before .before .before .before .before in
-    let e = s .pre .1 .1 .0 .pair (s .pre .1 .0) .edge in
-    (s .pre .0, (e .from, e .to))
+    (s .pre .0, s .pre .0 .inside _ _ (s .pre .1 .1 .0 .pair (s .pre .1 .0) .edge))
 
 sub-inner : tie.Need-sub-inner
 sub-inner c =
     let s = c .before .before .before .before .before .before .before .before in
     let w = c .before .before .way-round in
-    handle-way (s .args .settled .now) (s .args .pair .from) (s .args .pair .to) (s .args .pair .size) (w .result .size) (w .result .at) (s .pre .0) (s .pre .1 .0) (s .pre .1 .1 .0) (w .ensures)
+    handle-found (s .args .settled .now) (s .args .pair .from) (s .args .pair .to) (s .args .pair .size) (w .result .size) (w .result .at) (s .pre .0) (s .pre .1 .0) (s .pre .1 .1 .0) (w .ensures)
 
 extend-requires : tie.Need-extend-requires
 extend-requires c κs =
@@ -33,43 +32,48 @@ extend-requires c κs =
     (s .pre .1 .1 .1 .settled, handle-fresh (s .args .settled .now) (s .args .pair .from) (s .args .pair .to) (s .args .pair .size) (w .result .size) (w .result .at) (s .pre .0) (s .pre .1 .0) (s .pre .1 .1 .0) (w .ensures))
 
 add-start : tie.Need-add-start
-add-start c = search needs
+add-start c = let m = settled-most (c .extend .ensures .settled) in omega arith
 
 cast-start : tie.Need-cast-start
-cast-start c = search needs
+cast-start c = let m = settled-most (c .extend .ensures .settled) in omega arith
 
 add-start-2 : tie.Need-add-start-2
-add-start-2 c = search needs
+add-start-2 c = let f = building-few (c .before .before .before .before .before .before .before .before .before .before .before .before .pre .1 .1 .1) in omega arith
 
 array-write-start : tie.Need-array-write-start
-array-write-start c = search needs
+array-write-start c = let f = building-few (c .before .before .before .before .before .before .before .before .before .before .before .before .pre .1 .1 .1) in omega arith
 
 cast-left : tie.Need-cast-left
 cast-left c =
     let s = c .before .before .before .before .before .before .before .before .before .before .before .before in
     let m = s .pre .0 .small in
-    let e = s .pre .1 .1 .0 .pair (s .pre .1 .0) .edge .from in
+    let e = s .pre .0 .inside _ _ (s .pre .1 .1 .0 .pair (s .pre .1 .0) .edge) .0 in
     omega arith
 
 array-write-left : tie.Need-array-write-left
-array-write-left c = search needs
+array-write-left c = let f = building-few (c .before .before .before .before .before .before .before .before .before .before .before .before .pre .1 .1 .1) in omega arith
 
 array-read-right : tie.Need-array-read-right
-array-read-right c = search needs
+array-read-right c =
+    let b = c .before .before .before .before .before .before .before .before .before .before .before .before .pre .1 .1 .1 in
+    let r = b .room in
+    let t = b .ring-three in
+    let m = settled-most (c .extend .ensures .settled) in
+    omega arith
 
 array-write-right : tie.Need-array-write-right
-array-write-right c = search needs
+array-write-right c = let f = building-few (c .before .before .before .before .before .before .before .before .before .before .before .before .pre .1 .1 .1) in omega arith
 
 add-t24 : tie.Need-add-t24
-add-t24 c = search needs
+add-t24 c = let f = building-few (c .before .before .before .before .before .before .before .before .before .before .before .before .pre .1 .1 .1) in omega arith
 
 returns : tie.Need-returns
 returns c =
     let s = c .before .before .before .before .before .before .before .before .before .before .before .before in
     let w = c .before .before .before .before .before .before .way-round in
     let pair = s .pre .1 .1 .0 .pair (s .pre .1 .0) in
-    let some = handle-way (s .args .settled .now) (s .args .pair .from) (s .args .pair .to) (s .args .pair .size) (w .result .size) (w .result .at) (s .pre .0) (s .pre .1 .0) (s .pre .1 .1 .0) (w .ensures) in
-    let next = building-add (s .pre .1 .1 .1) (s .args .pair .from) (s .args .pair .to) (w .result .size) (w .result .at) _ _ (pair .edge .from) pair (w .ensures) some (c .extend .ensures) in
+    let some = handle-found (s .args .settled .now) (s .args .pair .from) (s .args .pair .to) (s .args .pair .size) (w .result .size) (w .result .at) (s .pre .0) (s .pre .1 .0) (s .pre .1 .1 .0) (w .ensures) in
+    let next = building-add (s .pre .1 .1 .1) (s .args .pair .from) (s .args .pair .to) (w .result .size) (w .result .at) _ _ (s .pre .0 .inside _ _ (pair .edge) .0) pair (w .ensures) some (c .extend .ensures) in
     (next .0, (refl, next .1))
 
 pub add-handle-spec : {M : Type 1} → statement M

@@ -2,43 +2,33 @@
 -- Assumes nothing.
 use Prim.Native.Nat.{_-_, _<_}
 use native.Mathlib.Omega.{arith}
-use Rattle.graph.specs.Matrix.{Edge}
+use Rattle.graph.specs.Rows.{Edge}
 use Rattle.breakdown.proofs.ExistLaws.{handle-exists}
-use Rattle.breakdown.proofs.BuildingLaws.{building-full, building-done}
+use Rattle.breakdown.proofs.BuildingLaws.{building-full, building-few, building-done}
 use Rattle.breakdown.specs.Building.{row, Building}
 use Rattle.breakdown.proofs.add_handles.Statement.{statement}
 use Rattle.breakdown.proofs.add_handles.Tie as tie
 
 abbrev Inv-loop : tie.InvT-loop
-Inv-loop edges n settled₀ b₀ settled b = Building n (Edge n edges) (b .ring) (b .handles) (b .order) (b .start) (b .left) (b .right) settled × (b .ring < n)
+Inv-loop rows n settled₀ b₀ settled b = Building n (Edge rows) (b .ring) (b .handles) (b .order) (b .start) (b .left) (b .right) settled × (b .ring < n)
 
 abbrev μ-loop : tie.MeasureT-loop
-μ-loop edges n settled₀ b₀ settled b = 64 - row (b .start) (b .handles)
+μ-loop rows n settled₀ b₀ settled b = 64 - row (b .start) (b .handles)
 
 loop-holds : tie.Need-loop-holds Inv-loop μ-loop
 loop-holds c = (c .pre .1 .1, c .pre .1 .0)
 
 array-read-if1 : tie.Need-array-read-if1 Inv-loop μ-loop
-array-read-if1 c =
-    let b = c .before .loop .inv .0 in
-    let r = b .room in
-    let t = b .ring-three in
-    let f = building-full b in
-    omega arith
+array-read-if1 c = let f = building-few (c .before .loop .inv .0) in omega arith
 
 cast-if1 : tie.Need-cast-if1 Inv-loop μ-loop
-cast-if1 c =
-    let b = c .before .loop .inv .0 in
-    let r = b .room in
-    let t = b .ring-three in
-    let f = building-full b in
-    omega arith
+cast-if1 c = let f = building-full (c .before .loop .inv .0) in omega arith
 
 returns : tie.Need-returns Inv-loop μ-loop
 returns c =
     let l = c .before .before .loop in
     let s = c .before .before .before in
-    record { found = λ h. building-done (l .inv .0) (s .pre .0 .small) (c .if1 .taken) (l .inv .1); none = λ e bi. let t = l .inv .0 .ring-three in omega arith }
+    record { found = λ h. building-done (l .inv .0) (c .if1 .taken) (l .inv .1); none = λ e bi. let t = l .inv .0 .ring-three in omega arith }
 
 choose-handle-requires : tie.Need-choose-handle-requires Inv-loop μ-loop
 choose-handle-requires c κs = c .before .before .before .before .pre .0

@@ -1,8 +1,8 @@
 -- `breakdown::break_down` meets its contract. On a bi-connected floor there is a ring to choose (`ExistLaws`), and one through every position is the whole floor (`RingLaws`).
 -- Assumes nothing.
+use mathlib.Core.Path.{refl}
 use native.Mathlib.Omega.{arith}
 use borrow.Author.Needs.{needs}
-use Rattle.graph.specs.Zeros.{blank}
 use Rattle.breakdown.proofs.AnswerLaws.{answer-found, answer-none}
 use Rattle.breakdown.proofs.RingLaws.{ring-counts}
 use Rattle.breakdown.proofs.ExistLaws.{ring-exists}
@@ -20,7 +20,7 @@ returns c =
     answer-none (c .nothing .ensures) (λ bi ring. ring-exists (c .before .before .before .before .pre) bi _ _ _ (c .before .before .before .choose-ring .ensures) (c .before .if1 .taken))
 
 lay-ring-requires : tie.Need-lay-ring-requires
-lay-ring-requires c κs = (c .before .before .before .before .pre, (omega arith, (c .before .before .before .choose-ring .ensures, blank)))
+lay-ring-requires c κs = (c .before .before .before .before .pre, (omega arith, (c .before .before .before .choose-ring .ensures, refl)))
 
 nothing-requires-2 : tie.Need-nothing-requires-2
 nothing-requires-2 c κs = search needs

@@ -1,62 +1,37 @@
--- `breakdown::choose_ring` meets its contract. The invariant: the best pair is the choice among the pairs before place p.
+-- `breakdown::choose_ring` meets its contract. The invariant: the best pair is the choice among the pairs that begin before a.
 -- Assumes nothing.
-use Prim.Native.Nat.{ℕ, _+_, _*_, _-_, _/_, _%_, _≤_}
-use mathlib.Core.Path.{_≡_, subst}
+use Prim.Native.Nat.{_-_, _≤_}
 use native.Mathlib.Omega.{arith}
-use Rattle.breakdown.proofs.ChoiceLaws.{ring-none}
-use Rattle.breakdown.specs.Choice.{RingChoice}
+use Rattle.breakdown.proofs.ChoiceLaws.{ring-none, ring-done}
+use Rattle.breakdown.specs.Choice.{Before, RingChoice}
 use Rattle.breakdown.proofs.choose_ring.Statement.{statement}
 use Rattle.breakdown.proofs.choose_ring.Tie as tie
 
 abbrev Inv-loop : tie.InvT-loop
-Inv-loop edges n best₀ p₀ best p = (p ≤ n * 64) × RingChoice n edges p (best .from) (best .to) (best .size)
+Inv-loop rows n best₀ a₀ best a = (a ≤ n) × RingChoice n rows (Before a) (best .from) (best .to) (best .size)
 
 abbrev μ-loop : tie.MeasureT-loop
-μ-loop edges n best₀ p₀ best p = n * 64 - p
+μ-loop rows n best₀ a₀ best a = n - a
 
 loop-holds : tie.Need-loop-holds Inv-loop μ-loop
-loop-holds c = (omega arith, ring-none _ _ (omega arith) _ _)
+loop-holds c = (omega arith, ring-none (c .pre) _ _)
 
-mul-loop : tie.Need-mul-loop Inv-loop μ-loop
-mul-loop c = omega arith
+choose-ring-at-requires : tie.Need-choose-ring-at-requires Inv-loop μ-loop
+choose-ring-at-requires c κs = (c .before .before .pre, (c .loop-test .taken, c .before .loop .inv .1))
 
-try-ring-requires : tie.Need-try-ring-requires Inv-loop μ-loop
-try-ring-requires c κs =
-    let a = c .before .before .args in
-    let l = c .before .loop in
-    let same : l .p ≡ l .p / 64 * 64 + l .p % 64 = omega arith in
-    (c .before .before .pre, ((omega arith, omega arith), subst (λ (p : ℕ). RingChoice (a .n) (a .edges .now) p (l .best .from) (l .best .to) (l .best .size)) same (l .inv .1)))
-
-add-p : tie.Need-add-p Inv-loop μ-loop
-add-p c = omega arith
+add-a : tie.Need-add-a Inv-loop μ-loop
+add-a c = omega arith
 
 loop-less : tie.Need-loop-less Inv-loop μ-loop
 loop-less c = omega arith
 
 loop-again : tie.Need-loop-again Inv-loop μ-loop
-loop-again c =
-    let a = c .before .before .before .args in
-    let l = c .before .before .loop in
-    let same : l .p / 64 * 64 + l .p % 64 + 1 ≡ l .p + 1 = omega arith in
-    (omega arith, subst (λ (p : ℕ). RingChoice (a .n) (a .edges .now) p (c .try-ring .result .from) (c .try-ring .result .to) (c .try-ring .result .size)) same (c .try-ring .ensures))
+loop-again c = (omega arith, c .choose-ring-at .ensures)
 
 returns : tie.Need-returns Inv-loop μ-loop
-returns c =
-    let a = c .before .before .args in
-    let l = c .before .loop in
-    let same : l .p ≡ a .n * 64 = omega arith in
-    subst (λ (p : ℕ). RingChoice (a .n) (a .edges .now) p (l .best .from) (l .best .to) (l .best .size)) same (l .inv .1)
+returns c = ring-done (c .before .before .pre) _ _ _ _ (omega arith) (c .before .loop .inv .1)
 
 pub choose-ring-spec : {M : Type 1} → statement M
 choose-ring-spec =
     tie.close
-    (tie.spec
-    Inv-loop
-    μ-loop
-    loop-holds
-    mul-loop
-    try-ring-requires
-    add-p
-    loop-less
-    loop-again
-    returns)
+    (tie.spec Inv-loop μ-loop loop-holds choose-ring-at-requires add-a loop-less loop-again returns)

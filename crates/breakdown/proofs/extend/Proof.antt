@@ -1,17 +1,17 @@
 -- `breakdown::extend` meets its contract. The invariant: the first i positions are in the row, and the others are still to settle.
 -- Assumes nothing.
 use Prim.Native.Nat.{ℕ, _-_, _≤_, _<_}
-use mathlib.Core.Path.{_≡_, sym, subst, _∙_}
+use mathlib.Core.Path.{_≡_, sym, subst}
+use mathlib.Core.Logic.{⊎-elim}
 use native.Mathlib.Omega.{arith}
-use lib.Seq.{getD-set-other}
-use lib.ListN.{getD}
+use Rattle.sets.specs.Sets.{Has}
 use Rattle.breakdown.proofs.BuildingLaws.{extended-none, extended-push, settled-room}
 use Rattle.breakdown.specs.Building.{row, Extended}
 use Rattle.breakdown.proofs.extend.Statement.{statement}
 use Rattle.breakdown.proofs.extend.Tie as tie
 
 abbrev Inv-loop : tie.InvT-loop
-Inv-loop at k m order₀ settled₀ i₀ order settled i = (i ≤ k) × Extended at i m order₀ settled₀ order settled × ((j : ℕ) → i ≤ j → j < k → getD settled (row at j) 0 ≡ 0)
+Inv-loop at k m order₀ settled₀ i₀ order settled i = (i ≤ k) × Extended at i m order₀ order settled × ((j : ℕ) → i ≤ j → j < k → Has settled (row at j) → ⊥)
 
 abbrev μ-loop : tie.MeasureT-loop
 μ-loop at k m order₀ settled₀ i₀ order settled i = k - i
@@ -40,21 +40,20 @@ element-write-order c =
     let room = settled-room (c .before .before .loop .inv .1 .settled) (row (c .before .before .before .args .at .now) i) small (c .before .before .loop .inv .2 i (omega arith) (omega arith)) in
     omega arith
 
-cast-settled : tie.Need-cast-settled Inv-loop μ-loop
-cast-settled c =
-    let i = c .before .before .loop .i in
-    let small = c .before .before .before .pre .1 .small i (omega arith) in
-    let room = settled-room (c .before .before .loop .inv .1 .settled) (row (c .before .before .before .args .at .now) i) small (c .before .before .loop .inv .2 i (omega arith) (omega arith)) in
+cast-with : tie.Need-cast-with Inv-loop μ-loop
+cast-with c =
+    let i = c .before .before .before .loop .i in
+    let small = c .before .before .before .before .pre .1 .small i (omega arith) in
     omega arith
 
-element-write-settled : tie.Need-element-write-settled Inv-loop μ-loop
-element-write-settled c = c .before .before .before .pre .1 .small (c .before .before .loop .i) (omega arith)
+with-requires : tie.Need-with-requires Inv-loop μ-loop
+with-requires c κs = c .before .before .before .before .pre .1 .small (c .before .before .before .loop .i) (omega arith)
 
 add-i : tie.Need-add-i Inv-loop μ-loop
 add-i c =
-    let i = c .before .before .loop .i in
-    let small = c .before .before .before .pre .1 .small i (omega arith) in
-    let room = settled-room (c .before .before .loop .inv .1 .settled) (row (c .before .before .before .args .at .now) i) small (c .before .before .loop .inv .2 i (omega arith) (omega arith)) in
+    let i = c .before .before .before .before .loop .i in
+    let small = c .before .before .before .before .before .pre .1 .small i (omega arith) in
+    let room = settled-room (c .before .before .before .before .loop .inv .1 .settled) (row (c .before .before .before .before .before .args .at .now) i) small (c .before .before .before .before .loop .inv .2 i (omega arith) (omega arith)) in
     omega arith
 
 loop-less : tie.Need-loop-less Inv-loop μ-loop
@@ -62,12 +61,13 @@ loop-less c = omega arith
 
 loop-again : tie.Need-loop-again Inv-loop μ-loop
 loop-again c =
-    let l = c .before .before .loop in
-    let fresh = c .before .before .before .pre .1 in
-    let at = c .before .before .before .args .at .now in (
+    let l = c .before .before .before .before .loop in
+    let fresh = c .before .before .before .before .before .pre .1 in
+    let at = c .before .before .before .before .before .args .at .now in
+    let w = c .with .ensures in (
       omega arith,
-      extended-push _ _ _ _ _ _ _ (fresh .small (l .i) (omega arith)) (l .inv .2 (l .i) (omega arith) (omega arith)) (l .inv .1),
-      λ j h k. getD-set-other (l .settled) (row at (l .i)) (row at j) 1 0 (λ e. fresh .distinct (l .i) j (omega arith) k (sym e)) ∙ l .inv .2 j (omega arith) k,
+      extended-push _ _ _ _ _ _ _ (fresh .small (l .i) (omega arith)) (l .inv .2 (l .i) (omega arith) (omega arith)) w (l .inv .1),
+      λ j h k x. ⊎-elim (λ y. l .inv .2 j (omega arith) k y) (λ e. fresh .distinct (l .i) j (omega arith) k (sym e)) (w (row at j) .0 x),
     )
 
 returns : tie.Need-returns Inv-loop μ-loop
@@ -75,7 +75,7 @@ returns c =
     let l = c .before .loop in
     let a = c .before .before .args in
     let same : l .i ≡ a .k = omega arith in
-    subst (λ (k : ℕ). Extended (a .at .now) k (a .m) (a .order .now) (a .settled .now) (l .order) (l .settled)) same (l .inv .1)
+    subst (λ (k : ℕ). Extended (a .at .now) k (a .m) (a .order .now) (l .order) (l .settled)) same (l .inv .1)
 
 pub extend-spec : {M : Type 1} → statement M
 extend-spec =
@@ -87,8 +87,8 @@ extend-spec =
     element-copy-out-p
     add-order
     element-write-order
-    cast-settled
-    element-write-settled
+    cast-with
+    with-requires
     add-i
     loop-less
     loop-again

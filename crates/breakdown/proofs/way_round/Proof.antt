@@ -1,26 +1,28 @@
--- `breakdown::way_round` meets its contract. With x held the free positions are those without x.
+-- `breakdown::way_round` meets its contract. The free positions are those without x.
 -- Assumes nothing.
 use Prim.Native.Nat.{ℕ}
 use mathlib.Core.Logic.{_↔_}
 use borrow.Author.Needs.{needs}
+use Rattle.sets.specs.Sets.{Has}
 use Rattle.graph.specs.NearestLaws.{nearest-same}
-use Rattle.graph.specs.MatrixLaws.{free-only}
-use Rattle.graph.specs.Matrix.{Free}
 use Rattle.graph.specs.Connected.{Except, Below}
 use Rattle.breakdown.proofs.way_round.Statement.{statement}
 use Rattle.breakdown.proofs.way_round.Tie as tie
 
-only-requires : tie.Need-only-requires
-only-requires c κs = search needs
+below-requires : tie.Need-below-requires
+below-requires c κs = search needs
+
+without-requires : tie.Need-without-requires
+without-requires c κs = search needs
 
 search-requires : tie.Need-search-requires
 search-requires c κs = search needs
 
 returns : tie.Need-returns
 returns c =
-    let a = c .before .before .before .args in
-    let i : (p : ℕ) → Free (a .n) (c .before .before .only .result) p ↔ Except (Below (a .n)) (a .x) p = λ p. free-only (a .n) (a .x) (c .before .before .only .result) p (c .before .before .only .ensures) in
-    nearest-same (λ p. i p .0) (λ p. i p .1) (c .search .ensures)
+    let b = c .before .before .below .ensures in
+    let w = c .before .without .ensures in
+    nearest-same (λ p h. record { there = b p .0 (w p .0 h .0); other = w p .0 h .1 }) (λ p e. w p .1 (b p .1 (e .there), e .other)) (c .search .ensures)
 
 pub way-round-spec : {M : Type 1} → statement M
-way-round-spec = tie.close (tie.spec only-requires search-requires returns)
+way-round-spec = tie.close (tie.spec below-requires without-requires search-requires returns)

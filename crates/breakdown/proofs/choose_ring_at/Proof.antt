@@ -1,0 +1,77 @@
+-- `breakdown::choose_ring_at` meets its contract. The invariant: of the pairs that begin at a, those that go on to none of `rest` are done, and
+-- `rest` has positions beside a alone.
+-- Assumes nothing.
+use Prim.Native.Nat.{ℕ}
+use native.Mathlib.Omega.{arith}
+use lib.Count.{ones}
+use Rattle.sets.specs.Sets.{Has}
+use Rattle.graph.specs.Rows.{Edge}
+use Rattle.breakdown.proofs.ChoiceLaws.{ring-enter, ring-turn, ring-leave, rest-less}
+use Rattle.breakdown.specs.Choice.{Upto, RingChoice}
+use Rattle.breakdown.proofs.choose_ring_at.Statement.{statement}
+use Rattle.breakdown.proofs.choose_ring_at.Tie as tie
+
+abbrev Inv-loop : tie.InvT-loop
+Inv-loop rows n a best₀ rest₀ best rest = RingChoice n rows (Upto a rest) (best .from) (best .to) (best .size) × ((y : ℕ) → Has rest y → Edge rows a y)
+
+abbrev μ-loop : tie.MeasureT-loop
+μ-loop rows n a best₀ rest₀ best rest = ones rest
+
+mul-rest : tie.Need-mul-rest Inv-loop μ-loop
+mul-rest c = omega arith
+
+element-copy-out-rest : tie.Need-element-copy-out-rest Inv-loop μ-loop
+element-copy-out-rest c = omega arith
+
+loop-holds : tie.Need-loop-holds Inv-loop μ-loop
+loop-holds c = (ring-enter (c .before .pre .0) _ _ _ _ (c .before .pre .1 .1), λ y h. h)
+
+lowest-requires : tie.Need-lowest-requires Inv-loop μ-loop
+lowest-requires c κs = omega arith
+
+ring-size-requires : tie.Need-ring-size-requires Inv-loop μ-loop
+ring-size-requires c κs =
+    let s = c .before .before .before .before in
+    let edge = c .before .before .loop .inv .1 (c .lowest .result) (c .lowest .ensures .1 .0) in
+    (s .pre .0, (s .pre .1 .0, s .pre .0 .inside _ _ edge .1))
+
+better-requires : tie.Need-better-requires Inv-loop μ-loop
+better-requires c κs = tt
+
+without-requires : tie.Need-without-requires Inv-loop μ-loop
+without-requires c κs = c .before .before .lowest .ensures .0
+
+loop-less : tie.Need-loop-less Inv-loop μ-loop
+loop-less c =
+    let w = c .before .before .before .lowest in
+    rest-less _ _ _ (w .ensures .1 .0) (c .without .ensures)
+
+loop-again : tie.Need-loop-again Inv-loop μ-loop
+loop-again c =
+    let w = c .before .before .before .lowest in
+    let l = c .before .before .before .before .before .loop in
+    let s = c .before .before .before .before .before .before .before in
+    let edge = l .inv .1 (w .result) (w .ensures .1 .0) in (
+      ring-turn (s .pre .0) _ _ _ _ _ _ _ _ _ _ _ (c .without .ensures) edge (c .before .before .ring-size .ensures) (c .before .better .ensures) (l .inv .0),
+      λ y h. l .inv .1 y (c .without .ensures y .0 h .0),
+    )
+
+returns : tie.Need-returns Inv-loop μ-loop
+returns c = ring-leave (c .before .before .before .pre .0) _ _ _ _ _ (omega arith) (c .before .loop .inv .0)
+
+pub choose-ring-at-spec : {M : Type 1} → statement M
+choose-ring-at-spec =
+    tie.close
+    (tie.spec
+    Inv-loop
+    μ-loop
+    mul-rest
+    element-copy-out-rest
+    loop-holds
+    lowest-requires
+    ring-size-requires
+    better-requires
+    without-requires
+    loop-less
+    loop-again
+    returns)

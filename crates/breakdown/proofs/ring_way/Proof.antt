@@ -1,0 +1,29 @@
+-- `breakdown::ring_way` meets its contract. The targets are the positions beside a, without b.
+-- Assumes nothing.
+use borrow.Author.Needs.{needs}
+use Rattle.graph.specs.NearestLaws.{nearest-targets}
+use Rattle.graph.specs.Rows.{Edge}
+use Rattle.breakdown.specs.Choice.{Beside}
+use Rattle.breakdown.proofs.ring_way.Statement.{statement}
+use Rattle.breakdown.proofs.ring_way.Tie as tie
+
+mul-without : tie.Need-mul-without
+mul-without c = search needs
+
+element-copy-out-without : tie.Need-element-copy-out-without
+element-copy-out-without c = search needs
+
+without-requires : tie.Need-without-requires
+without-requires c κs = search needs
+
+way-round-requires : tie.Need-way-round-requires
+way-round-requires c κs = search needs
+
+returns : tie.Need-returns
+returns c =
+    let a = c .before .before .before .args in
+    let w = c .before .without .ensures in
+    nearest-targets (Beside (Edge (a .rows .now)) (a .a) (a .b)) (λ p h. record { edge = w p .0 h .0; other = w p .0 h .1 }) (λ p e. w p .1 (e .edge, e .other)) (c .way-round .ensures)
+
+pub ring-way-spec : {M : Type 1} → statement M
+ring-way-spec = tie.close (tie.spec mul-without element-copy-out-without without-requires way-round-requires returns)
