@@ -4,11 +4,10 @@
 --     choice-less       the choice stands where no allowed pair is new
 --     choice-stop       a choice as short as any can be stands, whatever pairs are done
 --     choice-better     the better one of the choice and the one new pair
---     choice-enter, choice-turn, choice-leave    the pairs that begin at a: none of them is done, one more, all
---     ring-none, ring-enter, ring-turn, ring-leave, ring-done           these laws at the choice of a base ring; the pairs that begin before n are
---                                                                       all edges
---     handle-none, handle-skip, handle-enter, handle-stop, handle-turn, handle-leave, handle-done    and at that of a handle; from a position that
---                                                                       is not settled no handle leaves
+--     choice-enter, choice-turn, choice-leave    of the pairs that begin at a none is done, one more, all
+--     ring-none, ring-enter, ring-turn, ring-leave, ring-done    these laws at the choice of a base ring; done, where all that begin before n are
+--     handle-none, handle-enter, handle-turn, handle-leave, handle-done, handle-skip, handle-stop    and at that of a handle; a position that is
+--                       not settled is skipped, and one inner position with an end is as short as any handle can be
 --     rest-less         a set without one of its positions has fewer
 -- Assumes nothing.
 use Prim.Native.Nat.{ℕ, _+_, _≤_, _<_}
@@ -109,7 +108,7 @@ module _ {n : ℕ} {E : ℕ → ℕ → Type 0} (C : ℕ → ℕ → Type 0) (T 
       choice-less (Upto a rest) (Before (a + 1)) u w k (λ x y d c.
       by-cases (decLt x a) (λ l. inl l) (λ l. inr (omega arith, λ h. has-none y (subst (λ (v : ℕ). Has v y) empty h))))
 
-module _ {n : ℕ} {g : List ℕ} (rows : Rows n g) where
+module _ {n : ℕ} (g : List ℕ) where
   pub ring-none : (u w : ℕ) → RingChoice n g (Before 0) u w 0
   ring-none u w = choice-none (Edge g) (Beside (Edge g)) (Before 0) u w (λ x y l c. none l)
 
@@ -124,8 +123,8 @@ module _ {n : ℕ} {g : List ℕ} (rows : Rows n g) where
   pub ring-leave : (a rest u w k : ℕ) → rest ≡ 0 → RingChoice n g (Upto a rest) u w k → RingChoice n g (Before (a + 1)) u w k
   ring-leave = choice-leave (Edge g) (Beside (Edge g))
 
-  pub ring-done : (a u w k : ℕ) → n ≤ a → RingChoice n g (Before a) u w k → RingChoice n g (Edge g) u w k
-  ring-done a u w k all =
+  pub ring-done : Rows n g → (a u w k : ℕ) → n ≤ a → RingChoice n g (Before a) u w k → RingChoice n g (Edge g) u w k
+  ring-done rows a u w k all =
       choice-less (Edge g) (Beside (Edge g)) (Before a) (Edge g) u w k (λ x y e c. let l = rows .inside x y e .0 in omega arith)
 
   module _ (s : ℕ) where
@@ -159,8 +158,8 @@ module _ {n : ℕ} {g : List ℕ} (rows : Rows n g) where
     pub handle-leave : (a rest u w k : ℕ) → rest ≡ 0 → HandleChoice n g s (Upto a rest) u w k → HandleChoice n g s (Before (a + 1)) u w k
     handle-leave = choice-leave (Leaves (Edge g) s) (λ a b. Has s)
 
-    pub handle-done : (a u w k : ℕ) → n ≤ a → HandleChoice n g s (Before a) u w k → HandleChoice n g s (Edge g) u w k
-    handle-done a u w k all =
+    pub handle-done : Rows n g → (a u w k : ℕ) → n ≤ a → HandleChoice n g s (Before a) u w k → HandleChoice n g s (Edge g) u w k
+    handle-done rows a u w k all =
         choice-less (Leaves (Edge g) s) (λ a b. Has s) (Before a) (Edge g) u w k (λ x y e c. let l = rows .inside x y e .0 in omega arith)
 
 pub rest-less : (b rest rest′ : ℕ) → Has rest b → ((p : ℕ) → Has rest′ p ↔ (Has rest p × (p ≢ b))) → ones rest′ < ones rest

@@ -11,7 +11,7 @@ use mathlib.Core.List.{List}
 use mathlib.Core.Logic.{_≢_, by-cases, _⊎_, inl, inr, ⊎-elim}
 use native.Mathlib.Decide.{ℕ-discrete}
 use native.Mathlib.Omega.{arith}
-use Rattle.sets.specs.Sets.{bit, Has}
+use Rattle.sets.specs.Sets.{Has}
 use Rattle.sets.specs.SetLaws.{has-or-not}
 use Rattle.sets.specs.CountLaws.{ones-least}
 use Rattle.graph.specs.Walk.{Walk}

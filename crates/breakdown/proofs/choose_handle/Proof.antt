@@ -14,7 +14,7 @@ abbrev μ-loop : tie.MeasureT-loop
 μ-loop rows n settled best₀ u₀ best u = n - u
 
 loop-holds : tie.Need-loop-holds Inv-loop μ-loop
-loop-holds c = (omega arith, handle-none (c .pre) (c .args .settled) _ _)
+loop-holds c = (omega arith, handle-none (c .args .rows .now) (c .args .settled) _ _)
 
 choose-handle-at-requires : tie.Need-choose-handle-at-requires Inv-loop μ-loop
 choose-handle-at-requires c κs = (c .before .before .pre, (c .loop-test .taken, c .before .loop .inv .1))
@@ -29,7 +29,7 @@ loop-again : tie.Need-loop-again Inv-loop μ-loop
 loop-again c = (omega arith, c .choose-handle-at .ensures)
 
 returns : tie.Need-returns Inv-loop μ-loop
-returns c = handle-done (c .before .before .pre) (c .before .before .args .settled) _ _ _ _ (omega arith) (c .before .loop .inv .1)
+returns c = handle-done (c .before .before .args .rows .now) (c .before .before .args .settled) (c .before .before .pre) _ _ _ _ (omega arith) (c .before .loop .inv .1)
 
 pub choose-handle-spec : {M : Type 1} → statement M
 choose-handle-spec =

@@ -26,7 +26,7 @@ has-requires c κs = omega arith
 returns : tie.Need-returns Inv-loop μ-loop
 returns c =
     let s = c .before .before in
-    handle-skip (s .pre .0) (s .args .settled) (s .args .u) _ _ _ (λ h. false≢true (sym (not-true _ (c .if1 .taken)) ∙ c .before .has .ensures .1 h)) (s .pre .1 .1)
+    handle-skip (s .args .rows .now) (s .args .settled) (s .args .u) _ _ _ (λ h. false≢true (sym (not-true _ (c .if1 .taken)) ∙ c .before .has .ensures .1 h)) (s .pre .1 .1)
 
 mul-minus : tie.Need-mul-minus Inv-loop μ-loop
 mul-minus c = omega arith
@@ -42,14 +42,14 @@ loop-holds c =
     let s = c .before .before .before .before in
     let on = c .before .before .before .has .ensures .0 (not-false _ (c .before .before .if1 .left)) in
     let minus = c .minus .ensures in (
-      handle-enter (s .pre .0) (s .args .settled) (s .args .u) _ _ _ _ minus (s .pre .1 .1),
+      handle-enter (s .args .rows .now) (s .args .settled) (s .args .u) _ _ _ _ minus (s .pre .1 .1),
       λ y h. record { edge = minus y .0 h .0; settled = on; new = minus y .0 h .1 },
     )
 
 returns-2 : tie.Need-returns-2 Inv-loop μ-loop
 returns-2 c =
     let s = c .before .before .before .before .before .before .before .before in
-    handle-stop (s .pre .0) (s .args .settled) _ _ _ _ _ (c .if2 .taken) (c .before .before .before .loop .inv .0)
+    handle-stop (s .args .rows .now) (s .args .settled) _ _ _ _ _ (c .if2 .taken) (c .before .before .before .loop .inv .0)
 
 lowest-requires : tie.Need-lowest-requires Inv-loop μ-loop
 lowest-requires c κs = omega arith
@@ -77,7 +77,7 @@ loop-again c =
     let l = c .before .before .before .before .before .before .before .loop in
     let s = c .before .before .before .before .before .before .before .before .before .before .before .before in
     let leaves = l .inv .1 (w .result) (w .ensures .1 .0) in (
-      handle-turn (s .pre .0) (s .args .settled) _ _ _ _ _ _ _ _ _ _ _ (c .without .ensures) leaves (c .before .before .handle-size .ensures)
+      handle-turn (s .args .rows .now) (s .args .settled) _ _ _ _ _ _ _ _ _ _ _ (c .without .ensures) leaves (c .before .before .handle-size .ensures)
           (c .before .better .ensures) (l .inv .0),
       λ y h. l .inv .1 y (c .without .ensures y .0 h .0),
     )
@@ -85,7 +85,7 @@ loop-again c =
 returns-3 : tie.Need-returns-3 Inv-loop μ-loop
 returns-3 c =
     let s = c .before .before .before .before .before .before in
-    handle-leave (s .pre .0) (s .args .settled) _ _ _ _ _ (omega arith) (c .before .loop .inv .0)
+    handle-leave (s .args .rows .now) (s .args .settled) _ _ _ _ _ (omega arith) (c .before .loop .inv .0)
 
 pub choose-handle-at-spec : {M : Type 1} → statement M
 choose-handle-at-spec =

@@ -14,7 +14,7 @@ abbrev μ-loop : tie.MeasureT-loop
 μ-loop rows n best₀ a₀ best a = n - a
 
 loop-holds : tie.Need-loop-holds Inv-loop μ-loop
-loop-holds c = (omega arith, ring-none (c .pre) _ _)
+loop-holds c = (omega arith, ring-none (c .args .rows .now) _ _)
 
 choose-ring-at-requires : tie.Need-choose-ring-at-requires Inv-loop μ-loop
 choose-ring-at-requires c κs = (c .before .before .pre, (c .loop-test .taken, c .before .loop .inv .1))
@@ -29,7 +29,7 @@ loop-again : tie.Need-loop-again Inv-loop μ-loop
 loop-again c = (omega arith, c .choose-ring-at .ensures)
 
 returns : tie.Need-returns Inv-loop μ-loop
-returns c = ring-done (c .before .before .pre) _ _ _ _ (omega arith) (c .before .loop .inv .1)
+returns c = ring-done (c .before .before .args .rows .now) (c .before .before .pre) _ _ _ _ (omega arith) (c .before .loop .inv .1)
 
 pub choose-ring-spec : {M : Type 1} → statement M
 choose-ring-spec =

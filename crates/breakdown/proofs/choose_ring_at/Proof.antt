@@ -24,7 +24,7 @@ element-copy-out-rest : tie.Need-element-copy-out-rest Inv-loop μ-loop
 element-copy-out-rest c = omega arith
 
 loop-holds : tie.Need-loop-holds Inv-loop μ-loop
-loop-holds c = (ring-enter (c .before .pre .0) _ _ _ _ (c .before .pre .1 .1), λ y h. h)
+loop-holds c = (ring-enter (c .before .args .rows .now) _ _ _ _ (c .before .pre .1 .1), λ y h. h)
 
 lowest-requires : tie.Need-lowest-requires Inv-loop μ-loop
 lowest-requires c κs = omega arith
@@ -52,12 +52,12 @@ loop-again c =
     let l = c .before .before .before .before .before .loop in
     let s = c .before .before .before .before .before .before .before in
     let edge = l .inv .1 (w .result) (w .ensures .1 .0) in (
-      ring-turn (s .pre .0) _ _ _ _ _ _ _ _ _ _ _ (c .without .ensures) edge (c .before .before .ring-size .ensures) (c .before .better .ensures) (l .inv .0),
+      ring-turn (s .args .rows .now) _ _ _ _ _ _ _ _ _ _ _ (c .without .ensures) edge (c .before .before .ring-size .ensures) (c .before .better .ensures) (l .inv .0),
       λ y h. l .inv .1 y (c .without .ensures y .0 h .0),
     )
 
 returns : tie.Need-returns Inv-loop μ-loop
-returns c = ring-leave (c .before .before .before .pre .0) _ _ _ _ _ (omega arith) (c .before .loop .inv .0)
+returns c = ring-leave (c .before .before .before .args .rows .now) _ _ _ _ _ (omega arith) (c .before .loop .inv .0)
 
 pub choose-ring-at-spec : {M : Type 1} → statement M
 choose-ring-at-spec =

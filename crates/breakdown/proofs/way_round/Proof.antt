@@ -1,11 +1,7 @@
 -- `breakdown::way_round` meets its contract. The free positions are those without x.
 -- Assumes nothing.
-use Prim.Native.Nat.{ℕ}
-use mathlib.Core.Logic.{_↔_}
 use borrow.Author.Needs.{needs}
-use Rattle.sets.specs.Sets.{Has}
 use Rattle.graph.specs.NearestLaws.{nearest-same}
-use Rattle.graph.specs.Connected.{Except, Below}
 use Rattle.breakdown.proofs.way_round.Statement.{statement}
 use Rattle.breakdown.proofs.way_round.Tie as tie
 
