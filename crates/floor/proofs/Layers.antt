@@ -2,8 +2,8 @@
 --
 --     order-refused     a refusal of the order reader is the answer
 --     crowded           20
---     matrix-right      the matrix that the order's edges fill is that of a floor
---     apart, ring, plain    21, 22, and acceptance, from what the search of the matrix says
+--     rows-right        the rows that the order's edges fill are those of a floor
+--     apart, ring, plain    21, 22, and acceptance, from what the search of the rows says
 -- Assumes nothing.
 use Prim.Native.Nat.{ℕ, _+_, _-_, _≤_, _<_}
 use mathlib.Core.Path.{_≡_, refl, sym, ap, subst, _∙_}
@@ -19,13 +19,12 @@ use Rattle.answers.specs.AnswerLaws.{passUp-refused}
 use Rattle.field.specs.Bits.{pairs}
 use Rattle.field.specs.RecordLaws.{length-pairs}
 use Rattle.order.specs.Order.{positionCount, edgeCount, rackCount, floorOf, orderAnswer}
-use Rattle.order.specs.Tables.{marked}
 use Rattle.tables.specs.Accepted.{OrderGave, order-gave}
-use Rattle.tables.specs.MovesOn.{matrixOf}
 use Rattle.graph.specs.Connected.{BiConnected, Ring}
-use Rattle.graph.specs.Matrix.{Edge, Matrix}
+use Rattle.graph.specs.Rows.{Edge, Rows}
 use Rattle.floor.specs.FloorAnswer.{Joins, biConnected?, ring?, holds, floorAnswer}
-use Rattle.floor.specs.FloorMatrix.{biConnected-matrix, filled-is, filled-matrix}
+use Rattle.floor.specs.JoinedRows.{joinedRows, rowsOf}
+use Rattle.floor.specs.FloorRows.{biConnected-rows, filled-is, filled-rows}
 use Rattle.floor.specs.FloorLaws.{holds-yes, holds-no, floorRefusals, floor-over}
 
 edges-length : (o : List ℕ) → length (floorOf o .edges) ≡ edgeCount o
@@ -57,18 +56,17 @@ module _ (o : List ℕ) (n e m : ℕ) (a : accepted (n ∷ e ∷ m ∷ []) ≡ o
       let r = gave .racks-are in
       sym (over ∙ rw (lt-ltb (positionCount o) (rackCount o + 2) (omega arith)) refl)
 
-  module _ (g : List ℕ) (filled : g ≡ marked (replicate 4096 0) (pairs (take (length o - 3) (drop 3 o)) 0 e)) where
-    matrix-is : g ≡ matrixOf (floorOf o)
-    matrix-is = filled-is o n e m gave g filled
+  module _ (g : List ℕ) (filled : g ≡ joinedRows (replicate 64 0) (pairs (take (length o - 3) (drop 3 o)) 0 e)) where
+    rows-are : g ≡ rowsOf (floorOf o)
+    rows-are = filled-is o n e m gave g filled
 
-    pub matrix-right : Matrix n g
-    matrix-right = filled-matrix o n e m gave g filled
+    pub rows-right : Rows n g
+    rows-right = filled-rows o n e m gave g filled
 
-    module _ (room : m + 2 ≤ n) (r : Bool) (t : (r ≡ true) ↔ BiConnected n (Edge n g)) where
-      same : BiConnected n (Edge n g) ↔ BiConnected (floorOf o .positions) (Joins (floorOf o))
+    module _ (room : m + 2 ≤ n) (r : Bool) (t : (r ≡ true) ↔ BiConnected n (Edge g)) where
+      same : BiConnected n (Edge g) ↔ BiConnected (floorOf o .positions) (Joins (floorOf o))
       same =
-          let p = gave .placed-well in
-          rw (gave .positions-are, matrix-is) (biConnected-matrix (floorOf o) (p .few-positions) (p .edges-below) (p .edges-right))
+          rw (gave .positions-are, rows-are) (biConnected-rows (floorOf o) (gave .placed-well .edges-below))
 
       vacant : ltb (positionCount o) (rackCount o + 2) ≡ false
       vacant =

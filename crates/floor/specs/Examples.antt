@@ -7,7 +7,7 @@
 --     pathOfThree    the path of three with two racks: 20, though 21 applies too
 --     turnedEdge     an edge with its higher position first: 13, the order reader's refusal
 --     floors-judged  these answers
---     plannable-met, matrix-met  what `Plannable` asks can be met, and what crates/breakdown asks of a floor's matrix
+--     plannable-met, rows-met    what `Plannable` asks can be met, and what crates/breakdown asks of a floor's rows
 -- Assumes nothing.
 use Prim.Native.Nat.{ℕ}
 use mathlib.Core.Path.{_≡_, refl}
@@ -18,12 +18,12 @@ use Rattle.field.specs.Bits.{bitsOf, bits, number, field, pairs, positions, pad
 use Rattle.field.specs.Units.{unitsLength, misfits, unclean}
 use Rattle.order.specs.Floor.{isPair, among, joined}
 use Rattle.order.specs.Order.{positionCount, edgeCount, rackCount, unitCount, floorOf, startsOf, goalsOf, orderOf, wrongLength, wrongPositions, paddingSet, some, badEdge, precedes, ascending, wrongEdges, repeats, wrongPlaces, wrongRacks, counts, orderAnswer}
-use Rattle.tables.specs.MovesOn.{matrixOf}
 use Rattle.graph.specs.Connected.{BiConnected, Ring}
-use Rattle.graph.specs.Matrix.{Edge}
+use Rattle.graph.specs.Rows.{Edge}
 use Rattle.graph.specs.EdgeCount.{edgeCount as edgesIn}
 use Rattle.floor.specs.FloorAnswer.{biConnected?, ring?, floorAnswer}
-use Rattle.floor.specs.FloorLaws.{Plannable, plannable, plannable-matrix}
+use Rattle.floor.specs.JoinedRows.{rowsOf}
+use Rattle.floor.specs.FloorLaws.{Plannable, plannable, plannable-rows}
 
 -- n = 3, edges 0-1, 0-2, 1-2, rack 1 from 0 to 1
 abbrev pub threeInRing : List ℕ
@@ -62,7 +62,7 @@ floors-judged = (refl, refl, refl, refl, refl, refl)
 pub plannable-met : Plannable twoRacks
 plannable-met = plannable twoRacks [] (floors-judged .2)
 
-pub matrix-met :
-    BiConnected 4 (Edge 4 (matrixOf (floorOf twoRacks))) × (Ring 4 (Edge 4 (matrixOf (floorOf twoRacks))) (edgesIn (matrixOf (floorOf twoRacks)) 4) → ⊥)
+pub rows-met :
+    BiConnected 4 (Edge (rowsOf (floorOf twoRacks))) × (Ring 4 (Edge (rowsOf (floorOf twoRacks))) (edgesIn (rowsOf (floorOf twoRacks)) 4) → ⊥)
 unfolding floorOf positionCount field number bitsOf bits
-matrix-met = plannable-matrix twoRacks plannable-met
+rows-met = plannable-rows twoRacks plannable-met

@@ -6,7 +6,7 @@
 --     Plannable o              the order o is well formed and none of 20 to 22 applies to it
 --     plannable, plannable-is  accepted is plannable, and plannable is accepted
 --     floorRefusals o          20 to 22
---     plannable-matrix         the matrix of a plannable order's floor is bi-connected and no ring: what crates/breakdown asks of a floor
+--     plannable-rows           a plannable order's floor, by its rows, is bi-connected and no ring: what crates/breakdown asks of a floor
 --     plannable-size           a plannable order's floor has four positions at least, and more edges than positions
 -- Assumes nothing.
 use Prim.Native.Nat.{ℕ, zero, suc, _+_, _*_, _≤_, _<_}
@@ -24,14 +24,15 @@ use Rattle.answers.specs.AnswerLaws.{refuse-not, refuse-else, passUp-low, passU
 use Rattle.order.specs.Order.{positionCount, rackCount, floorOf, counts, orderAnswer, WellFormed}
 use Rattle.order.specs.OrderLaws.{well-formed, accepted-is}
 use Rattle.tables.specs.Accepted.{well-placed}
-use Rattle.tables.specs.MovesOn.{matrixOf}
+use Rattle.sets.specs.SetLaws.{bit-two}
 use Rattle.graph.specs.Connected.{BiConnected, Ring}
-use Rattle.graph.specs.Matrix.{Edge, Matrix}
+use Rattle.graph.specs.Rows.{Edge}
 use Rattle.graph.specs.EdgeCount.{rowSum, edgeCount}
 use Rattle.graph.specs.EdgeCountLaws.{biConnected-edges}
 use Rattle.floor.specs.FloorAnswer.{Joins, biConnected?, ring?, holds, floorAnswer}
-use Rattle.floor.specs.FloorMatrix.{floor-matrix, biConnected-matrix}
-use Rattle.floor.specs.EdgesCounted.{edges-counted, ring-matrix}
+use Rattle.floor.specs.JoinedRows.{rowsOf}
+use Rattle.floor.specs.FloorRows.{floor-rows, biConnected-rows}
+use Rattle.floor.specs.EdgesCounted.{edges-counted, ring-rows}
 
 never : true ≡ false → ⊥
 never e = let z : _≡_ {A = ℕ} 0 1 = cc in omega arith
@@ -92,48 +93,48 @@ plannable-is o p =
     floor-over o (counts o) (accepted-is o (p .right))
     ∙ rw (le-ltb (positionCount o) (rackCount o + 2) (p .vacancies), holds-yes (biConnected? (floorOf o)) (p .biConnected), holds-no (ring? (floorOf o)) (p .noRing)) refl
 
--- a row of bytes 0 and 1 adds up to its length at most
-row-most : {n : ℕ} (g : List ℕ) → Matrix n g → (a k : ℕ) → a < n → k ≤ n → rowSum g a k ≤ k
+-- no more positions below k are joined to a than there are
+row-most : (g : List ℕ) (a k : ℕ) → rowSum g a k ≤ k
 unfolding rowSum
-row-most g m a zero la lk = omega arith
-row-most g m a (suc k) la lk =
-    let r = row-most g m a k la (omega arith) in
-    let b = m .bits a k la (omega arith) in
+row-most g a zero = omega arith
+row-most g a (suc k) =
+    let r = row-most g a k in
+    let b = bit-two (getD g a 0) k in
     omega arith
 
-count-three : (g : List ℕ) → Matrix 3 g → edgeCount g 3 ≤ 3
+count-three : (g : List ℕ) → edgeCount g 3 ≤ 3
 unfolding edgeCount
-count-three g m =
-    let r₀ = row-most g m 0 0 (omega arith) (omega arith) in
-    let r₁ = row-most g m 1 1 (omega arith) (omega arith) in
-    let r₂ = row-most g m 2 2 (omega arith) (omega arith) in
+count-three g =
+    let r₀ = row-most g 0 0 in
+    let r₁ = row-most g 1 1 in
+    let r₂ = row-most g 2 2 in
     omega arith
 
-four : (n : ℕ) (g : List ℕ) → Matrix n g → 3 ≤ n → n < edgeCount g n → 4 ≤ n
-four n g m l h =
+four : (n : ℕ) (g : List ℕ) → 3 ≤ n → n < edgeCount g n → 4 ≤ n
+four n g l h =
     by-cases (ℕ-discrete n 3)
     (λ e.
-    let t = count-three g (subst (λ (k : ℕ). Matrix k g) e m) in
+    let t = count-three g in
     let s : edgeCount g n ≡ edgeCount g 3 = ap (edgeCount g) e in
     omega arith)
     (λ d. omega arith)
 
 module _ (o : List ℕ) (p : Plannable o) where
-  pub plannable-matrix :
-      BiConnected (floorOf o .positions) (Edge (floorOf o .positions) (matrixOf (floorOf o)))
-      × (Ring (floorOf o .positions) (Edge (floorOf o .positions) (matrixOf (floorOf o))) (edgeCount (matrixOf (floorOf o)) (floorOf o .positions)) → ⊥)
-  plannable-matrix =
+  pub plannable-rows :
+      BiConnected (floorOf o .positions) (Edge (rowsOf (floorOf o)))
+      × (Ring (floorOf o .positions) (Edge (rowsOf (floorOf o))) (edgeCount (rowsOf (floorOf o)) (floorOf o .positions)) → ⊥)
+  plannable-rows =
       let w = well-placed o (p .right) in (
-        biConnected-matrix (floorOf o) (w .few-positions) (w .edges-below) (w .edges-right) .1 (p .biConnected),
-        λ r. p .noRing (ring-matrix (floorOf o) (w .few-positions) (w .edges-below) (w .edges-right) .0 r),
+        biConnected-rows (floorOf o) (w .edges-below) .1 (p .biConnected),
+        λ r. p .noRing (ring-rows (floorOf o) (w .edges-below) (w .edges-right) .0 r),
       )
 
   pub plannable-size : (4 ≤ floorOf o .positions) × (floorOf o .positions < length (floorOf o .edges))
   plannable-size =
       let w = well-placed o (p .right) in
-      let m = floor-matrix (floorOf o) (w .few-positions) (w .edges-below) (w .edges-right) in
-      let counted = edges-counted (floorOf o) (w .few-positions) (w .edges-below) (w .edges-right) in
-      let least = biConnected-edges m (plannable-matrix .0) in
+      let rows = floor-rows (floorOf o) (w .edges-below) (w .few-positions) (w .edges-right) in
+      let counted = edges-counted (floorOf o) (w .edges-below) (w .edges-right) in
+      let least = biConnected-edges rows (plannable-rows .0) in
       let other : length (floorOf o .edges) ≢ floorOf o .positions = λ e. p .noRing (record { biConnected = p .biConnected; count = e }) in
-      let more : floorOf o .positions < edgeCount (matrixOf (floorOf o)) (floorOf o .positions) = omega arith in
-      (four (floorOf o .positions) (matrixOf (floorOf o)) m (p .biConnected .three) more, omega arith)
+      let more : floorOf o .positions < edgeCount (rowsOf (floorOf o)) (floorOf o .positions) = omega arith in
+      (four (floorOf o .positions) (rowsOf (floorOf o)) (p .biConnected .three) more, omega arith)

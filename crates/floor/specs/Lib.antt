@@ -1,7 +1,8 @@
 pub mod FloorAnswer
 pub mod Verdict
 pub mod WayDecision
-pub mod FloorMatrix
+pub mod JoinedRows
+pub mod FloorRows
 pub mod EdgesCounted
 pub mod FloorLaws
 pub mod Examples

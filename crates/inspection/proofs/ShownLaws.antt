@@ -1,4 +1,4 @@
--- From what crates/breakdown answers for the matrix of an order's floor to what is shown of it.
+-- From what crates/breakdown answers for the rows of an order's floor to what is shown of it.
 --
 --     breakdown-along     a breakdown stays one where more edges join
 --     handles-few         there are fewer handles than positions
@@ -15,18 +15,16 @@ use Rattle.answers.specs.Answer.{accepted, refused}
 use Rattle.field.specs.Bits.{pairs}
 use Rattle.order.specs.Order.{edgeCount, floorOf, counts, orderAnswer}
 use Rattle.order.specs.OrderLaws.{accepted-is}
-use Rattle.order.specs.Tables.{marked}
 use Rattle.tables.specs.Accepted.{OrderGave, order-gave}
-use Rattle.tables.specs.MovesOn.{matrixOf}
 use Rattle.graph.specs.Connected.{BiConnected, Ring}
-use Rattle.graph.specs.Matrix.{Edge, Matrix}
-use Rattle.graph.specs.EdgeCount.{edgeCount as matrixEdges}
+use Rattle.graph.specs.Rows.{Rows}
 use Rattle.breakdown.specs.Breakdown.{Among, Handle, Breakdown}
 use Rattle.breakdown.specs.Building.{row}
 use Rattle.breakdown.specs.Answer.{Answer}
 use Rattle.floor.specs.FloorAnswer.{Joins}
-use Rattle.floor.specs.FloorMatrix.{edge-joins, biConnected-matrix, filled-is, filled-matrix}
-use Rattle.floor.specs.EdgesCounted.{ring-matrix}
+use Rattle.floor.specs.JoinedRows.{joinedRows, rowsOf}
+use Rattle.floor.specs.FloorRows.{edge-joins, biConnected-rows, filled-is, filled-rows}
+use Rattle.floor.specs.EdgesCounted.{ring-rows}
 use Rattle.inspection.specs.Inspection.{LaidOut, Shown, Breaks, Inspected}
 
 module _ {E D : ℕ → ℕ → Type 0} (more : (a b : ℕ) → E a b → D a b) where
@@ -87,23 +85,23 @@ order-refused o old number place f = nothing-shown o old (λ b. never (f ∙ acc
     never : refused number place ≡ accepted (counts o) → ⊥
     never e = let z : _≡_ {A = ℕ} 0 1 = cc in omega arith
 
-module _ (o : List ℕ) (n e m : ℕ) (a : accepted (n ∷ e ∷ m ∷ []) ≡ orderAnswer o) (g : List ℕ) (filled : g ≡ marked (replicate 4096 0) (pairs (take (length o - 3) (drop 3 o)) 0 e)) where
+module _ (o : List ℕ) (n e m : ℕ) (a : accepted (n ∷ e ∷ m ∷ []) ≡ orderAnswer o) (g : List ℕ) (filled : g ≡ joinedRows (replicate 64 0) (pairs (take (length o - 3) (drop 3 o)) 0 e)) where
   pub gave : OrderGave o n e m
   gave = order-gave o n e m a
 
-  pub matrix-right : Matrix n g
-  matrix-right = filled-matrix o n e m gave g filled
+  pub rows-right : Rows n g
+  rows-right = filled-rows o n e m gave g filled
 
   module _ (r c : ℕ) (row₁ row₂ row₃ row₄ : List ℕ) (answer : Answer n g r c row₁ row₂ row₃ row₄) where
     -- by the floor's own edges
-    on-floor : Answer (floorOf o .positions) (matrixOf (floorOf o)) r c row₁ row₂ row₃ row₄
+    on-floor : Answer (floorOf o .positions) (rowsOf (floorOf o)) r c row₁ row₂ row₃ row₄
     on-floor = rw (gave .positions-are, filled-is o n e m gave g filled) at answer
 
     exact : (0 < r) ↔ (BiConnected (floorOf o .positions) (Joins (floorOf o)) × (Ring (floorOf o .positions) (Joins (floorOf o)) (length (floorOf o .edges)) → ⊥))
     exact =
         let w = gave .placed-well in
-        let bi = biConnected-matrix (floorOf o) (w .few-positions) (w .edges-below) (w .edges-right) in
-        let ring = ring-matrix (floorOf o) (w .few-positions) (w .edges-below) (w .edges-right) in (
+        let bi = biConnected-rows (floorOf o) (w .edges-below) in
+        let ring = ring-rows (floorOf o) (w .edges-below) (w .edges-right) in (
           λ l. let x = on-floor .exactly .0 l in (bi .0 (x .0), λ k. x .1 (ring .1 k)),
           λ x. on-floor .exactly .1 (bi .1 (x .0), λ k. x .1 (ring .0 k)),
         )
@@ -113,9 +111,7 @@ module _ (o : List ℕ) (n e m : ℕ) (a : accepted (n ∷ e ∷ m ∷ []) ≡ o
 
     module _ (some : 0 < r) where
       broken : Breakdown (floorOf o .positions) (Joins (floorOf o)) r c (row row₁) (row row₂) (row row₃) (row row₄)
-      broken =
-          let w = gave .placed-well in
-          breakdown-along (edge-joins (floorOf o) (w .few-positions) (w .edges-below) (w .edges-right)) (on-floor .found some)
+      broken = breakdown-along (edge-joins (floorOf o) (gave .placed-well .edges-below)) (on-floor .found some)
 
       -- so that the answer fits
       pub small : r + c ≤ 64

@@ -49,9 +49,8 @@ pub extern "C" fn wichteab_inspect_breakdown(order: &[u8], buffer: &mut [u8]) ->
     };
     let n = counts.positions;
     let e = counts.edges;
-    let mut matrix = [0u8; 4096];
-    order::mark_edges(&order[3..], e, &mut matrix);
-    let found = breakdown::break_down(&matrix, n);
+    let rows = floor::rows_of(&order[3..], e);
+    let found = breakdown::break_down(&rows, n);
     let ring = found.ring;
     let handles = found.handles;
     if ring == 0 {

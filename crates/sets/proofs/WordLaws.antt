@@ -9,19 +9,15 @@ use Prim.Native.Nat.{ℕ, _-_, _*_, _/_, _%_, _^_, _≤_, _<_}
 use mathlib.Core.Path.{_≡_, sym, ap, subst, _∙_}
 use mathlib.Core.Bool.{true}
 use mathlib.Core.Logic.{_↔_, _≢_, _⊎_, inl, inr, ⊎-elim}
-use native.Mathlib.Nat.{one-mul}
 use native.Mathlib.Omega.{arith}
 use lib.Bits.{bitAnd, bitOr}
 use lib.Dec.{T, eqb, eqb→eq}
-use lib.Pow.{shl-exact, pow-pos}
+use lib.Pow.{pow-pos}
 use Rattle.sets.specs.Sets.{bit, Has}
-use Rattle.sets.specs.SetLaws.{has-only, has-first, has-and, has-or, has-not, has-below}
+use Rattle.sets.specs.SetLaws.{has-only, shifted, has-first, has-and, has-or, has-not, has-below}
 
 abbrev word : ℕ
 word = 18446744073709551616
-
-shifted : (v : ℕ) → v < 64 → (1 * 2 ^ v) % word ≡ 2 ^ v
-shifted v l = shl-exact 1 v 64 (omega arith) (omega arith) ∙ one-mul (2 ^ v)
 
 pub only-is : (v : ℕ) → v < 64 → (p : ℕ) → Has ((1 * 2 ^ v) % word) p ↔ (p ≡ v)
 only-is v l p = subst (λ (s : ℕ). Has s p ↔ (p ≡ v)) (sym (shifted v l)) (has-only v p)

@@ -5,7 +5,7 @@
 --     has-or-not              a position is in a set or it is not
 --     has-below               a word of k digits has no position from k on
 --     has-none                nothing is in the empty set
---     has-only                2 ^ v is the set of v alone
+--     has-only, shifted       2 ^ v is the set of v alone, and a 1 that is shifted by v
 --     has-first               2 ^ n - 1 is the set of the positions below n
 --     has-and, has-or, has-not    `&`, `|` and `!`
 --     First, trailing-first   the lowest position of a set
@@ -15,12 +15,12 @@ use Prim.Native.Nat.{ℕ, zero, suc, _+_, _-_, _*_, _/_, _%_, _^_, _≤_, _<_, m
 use mathlib.Core.Path.{_≡_, refl, sym, ap, ap₂, subst, _∙_}
 use mathlib.Core.Logic.{_↔_, _≢_, _⊎_, inl, inr, ⊎-elim, by-cases}
 use native.Mathlib.Decide.{ℕ-discrete}
-use native.Mathlib.Nat.{div-one, pow-suc, zero-min, zero-max}
+use native.Mathlib.Nat.{div-one, one-mul, pow-suc, zero-min, zero-max}
 use native.Mathlib.Numerals.{one-add}
 use native.Mathlib.Omega.{arith}
 use lib.Bits.{bitAnd, bitOr, and-step, or-step, and-shr, or-shr}
 use lib.Count.{trailingZeros, under}
-use lib.Pow.{shr-shr, pow-pos}
+use lib.Pow.{shl-exact, shr-shr, pow-pos}
 use Rattle.sets.specs.Sets.{bit, Has}
 
 pub bit-low : (s : ℕ) → bit s 0 ≡ s % 2
@@ -71,6 +71,9 @@ only-other (suc v) (suc p) h = ap suc (only-other v p (ap (λ (x : ℕ). bit x p
 
 pub has-only : (v p : ℕ) → Has (2 ^ v) p ↔ (p ≡ v)
 has-only v p = (only-other v p, λ e. subst (Has (2 ^ v)) (sym e) (bit-only v))
+
+pub shifted : (v : ℕ) → v < 64 → (1 * 2 ^ v) % 18446744073709551616 ≡ 2 ^ v
+shifted v l = shl-exact 1 v 64 (omega arith) (omega arith) ∙ one-mul (2 ^ v)
 
 ones-half : (n : ℕ) → (2 ^ suc n - 1) / 2 ≡ 2 ^ n - 1
 ones-half n = let e = pow-suc 2 n in let p = pow-pos n in omega arith

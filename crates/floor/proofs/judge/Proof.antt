@@ -9,7 +9,7 @@ use Rattle.answers.specs.Answer.{accepted}
 use Rattle.order.specs.Order.{orderAnswer}
 use Rattle.order.specs.Verdict.{answerOf as orderAnswerOf}
 use Rattle.order.specs.declared.Counts.{Counts}
-use Rattle.floor.proofs.Layers.{order-refused, gave, crowded, matrix-right, apart, ring, plain}
+use Rattle.floor.proofs.Layers.{order-refused, gave, crowded, rows-right, apart, ring, plain}
 use borrow.Author.Needs.{needs}
 use Rattle.floor.proofs.judge.Statement.{statement}
 use Rattle.floor.proofs.judge.Tie as tie
@@ -48,36 +48,36 @@ returns-2 : tie.Need-returns-2
 returns-2 c =
     crowded (bytes (c .before)) (told (c .before) .positions) (told (c .before) .edges) (told (c .before) .racks) (accepted-by (c .before)) (c .if1 .taken)
 
-sub-mark-edges : tie.Need-sub-mark-edges
-sub-mark-edges c =
+sub-rows-of : tie.Need-sub-rows-of
+sub-rows-of c =
     gave (bytes (c .before)) (told (c .before) .positions) (told (c .before) .edges) (told (c .before) .racks) (accepted-by (c .before)) .head-there
 
-part-mark-edges-start : tie.Need-part-mark-edges-start
-part-mark-edges-start c =
+part-rows-of-start : tie.Need-part-rows-of-start
+part-rows-of-start c =
     gave (bytes (c .before)) (told (c .before) .positions) (told (c .before) .edges) (told (c .before) .racks) (accepted-by (c .before)) .head-there
 
-part-mark-edges-end : tie.Need-part-mark-edges-end
-part-mark-edges-end c = search needs
+part-rows-of-end : tie.Need-part-rows-of-end
+part-rows-of-end c = search needs
 
-mark-edges-requires : tie.Need-mark-edges-requires
-mark-edges-requires c κs =
-    omega (arith, gave (bytes (c .before .before .before)) (told (c .before .before .before) .positions) (told (c .before .before .before) .edges) (told (c .before .before .before) .racks) (accepted-by (c .before .before .before)))
+rows-of-requires : tie.Need-rows-of-requires
+rows-of-requires c κs =
+    omega (arith, gave (bytes (c .before .before)) (told (c .before .before) .positions) (told (c .before .before) .edges) (told (c .before .before) .racks) (accepted-by (c .before .before)))
 
 is-biconnected-requires : tie.Need-is-biconnected-requires
 is-biconnected-requires c κs =
-    matrix-right (bytes (c .before .before .before .before .before)) (told (c .before .before .before .before .before) .positions) (told (c .before .before .before .before .before) .edges) (told (c .before .before .before .before .before) .racks) (accepted-by (c .before .before .before .before .before)) (c .before .mark-edges .last .1 .1 .0) (c .before .mark-edges .ensures)
+    rows-right (bytes (c .before .before .before .before)) (told (c .before .before .before .before) .positions) (told (c .before .before .before .before) .edges) (told (c .before .before .before .before) .racks) (accepted-by (c .before .before .before .before)) (c .before .rows-of .result) (c .before .rows-of .ensures)
 
 returns-3 : tie.Need-returns-3
 returns-3 c =
-    apart (bytes (c .before .before .before .before .before .before .before)) (told (c .before .before .before .before .before .before .before) .positions) (told (c .before .before .before .before .before .before .before) .edges) (told (c .before .before .before .before .before .before .before) .racks) (accepted-by (c .before .before .before .before .before .before .before)) (c .before .before .before .mark-edges .last .1 .1 .0) (c .before .before .before .mark-edges .ensures) (c .before .before .before .before .before .before .if1 .left) (c .before .is-biconnected .result) (c .before .is-biconnected .ensures) (not-true _ (c .if2 .taken))
+    apart (bytes (c .before .before .before .before .before .before)) (told (c .before .before .before .before .before .before) .positions) (told (c .before .before .before .before .before .before) .edges) (told (c .before .before .before .before .before .before) .racks) (accepted-by (c .before .before .before .before .before .before)) (c .before .before .before .rows-of .result) (c .before .before .before .rows-of .ensures) (c .before .before .before .before .before .if1 .left) (c .before .is-biconnected .result) (c .before .is-biconnected .ensures) (not-true _ (c .if2 .taken))
 
 returns-4 : tie.Need-returns-4
 returns-4 c =
-    ring (bytes (c .before .before .before .before .before .before .before .before)) (told (c .before .before .before .before .before .before .before .before) .positions) (told (c .before .before .before .before .before .before .before .before) .edges) (told (c .before .before .before .before .before .before .before .before) .racks) (accepted-by (c .before .before .before .before .before .before .before .before)) (c .before .before .before .before .mark-edges .last .1 .1 .0) (c .before .before .before .before .mark-edges .ensures) (c .before .before .before .before .before .before .before .if1 .left) (c .before .before .is-biconnected .result) (c .before .before .is-biconnected .ensures) (not-false _ (c .before .if2 .left)) (c .if3 .taken)
+    ring (bytes (c .before .before .before .before .before .before .before)) (told (c .before .before .before .before .before .before .before) .positions) (told (c .before .before .before .before .before .before .before) .edges) (told (c .before .before .before .before .before .before .before) .racks) (accepted-by (c .before .before .before .before .before .before .before)) (c .before .before .before .before .rows-of .result) (c .before .before .before .before .rows-of .ensures) (c .before .before .before .before .before .before .if1 .left) (c .before .before .is-biconnected .result) (c .before .before .is-biconnected .ensures) (not-false _ (c .before .if2 .left)) (c .if3 .taken)
 
 returns-5 : tie.Need-returns-5
 returns-5 c =
-    plain (bytes (c .before .before .before .before .before .before .before .before)) (told (c .before .before .before .before .before .before .before .before) .positions) (told (c .before .before .before .before .before .before .before .before) .edges) (told (c .before .before .before .before .before .before .before .before) .racks) (accepted-by (c .before .before .before .before .before .before .before .before)) (c .before .before .before .before .mark-edges .last .1 .1 .0) (c .before .before .before .before .mark-edges .ensures) (c .before .before .before .before .before .before .before .if1 .left) (c .before .before .is-biconnected .result) (c .before .before .is-biconnected .ensures) (not-false _ (c .before .if2 .left)) (c .if3 .left)
+    plain (bytes (c .before .before .before .before .before .before .before)) (told (c .before .before .before .before .before .before .before) .positions) (told (c .before .before .before .before .before .before .before) .edges) (told (c .before .before .before .before .before .before .before) .racks) (accepted-by (c .before .before .before .before .before .before .before)) (c .before .before .before .before .rows-of .result) (c .before .before .before .before .rows-of .ensures) (c .before .before .before .before .before .before .if1 .left) (c .before .before .is-biconnected .result) (c .before .before .is-biconnected .ensures) (not-false _ (c .before .if2 .left)) (c .if3 .left)
 
 pub judge-spec : {M : Type 1} → statement M
 judge-spec =
@@ -90,10 +90,10 @@ judge-spec =
     returns
     add-if1
     returns-2
-    sub-mark-edges
-    part-mark-edges-start
-    part-mark-edges-end
-    mark-edges-requires
+    sub-rows-of
+    part-rows-of-start
+    part-rows-of-end
+    rows-of-requires
     is-biconnected-requires
     returns-3
     returns-4

@@ -8,7 +8,7 @@ use Rattle.order.specs.Order.{orderAnswer}
 use Rattle.order.specs.Verdict.{answerOf}
 use Rattle.order.specs.declared.Counts.{Counts}
 use Rattle.tables.specs.Accepted.{order-gave}
-use Rattle.inspection.proofs.ShownLaws.{short, order-refused, matrix-right, not-found, small, found}
+use Rattle.inspection.proofs.ShownLaws.{short, order-refused, rows-right, not-found, small, found}
 use borrow.Author.Needs.{needs}
 use Rattle.inspection.proofs.wichteab_inspect_breakdown.Statement.{statement}
 use Rattle.inspection.proofs.wichteab_inspect_breakdown.Tie as tie
@@ -39,46 +39,46 @@ returns-2 : tie.Need-returns-2
 returns-2 c =
     order-refused _ _ _ _ (sym (ap answerOf (c .enum-told .given .1)) ∙ c .before .before .read .ensures)
 
-sub-mark-edges : tie.Need-sub-mark-edges
-sub-mark-edges c =
+sub-rows-of : tie.Need-sub-rows-of
+sub-rows-of c =
     order-gave (bytes (c)) (told (c) .positions) (told (c) .edges) (told (c) .racks) (accepted-by (c)) .head-there
 
-part-mark-edges-start : tie.Need-part-mark-edges-start
-part-mark-edges-start c =
+part-rows-of-start : tie.Need-part-rows-of-start
+part-rows-of-start c =
     order-gave (bytes (c)) (told (c) .positions) (told (c) .edges) (told (c) .racks) (accepted-by (c)) .head-there
 
-part-mark-edges-end : tie.Need-part-mark-edges-end
-part-mark-edges-end c = search needs
+part-rows-of-end : tie.Need-part-rows-of-end
+part-rows-of-end c = search needs
 
-mark-edges-requires : tie.Need-mark-edges-requires
-mark-edges-requires c κs =
-    omega (arith, order-gave (bytes (c .before .before)) (told (c .before .before) .positions) (told (c .before .before) .edges) (told (c .before .before) .racks) (accepted-by (c .before .before)))
+rows-of-requires : tie.Need-rows-of-requires
+rows-of-requires c κs =
+    omega (arith, order-gave (bytes (c .before)) (told (c .before) .positions) (told (c .before) .edges) (told (c .before) .racks) (accepted-by (c .before)))
 
 break-down-requires : tie.Need-break-down-requires
 break-down-requires c κs =
-    matrix-right (bytes (c .before .before .before .before)) (told (c .before .before .before .before) .positions) (told (c .before .before .before .before) .edges) (told (c .before .before .before .before) .racks) (accepted-by (c .before .before .before .before)) (c .before .mark-edges .last .1 .1 .0) (c .before .mark-edges .ensures)
+    rows-right (bytes (c .before .before .before)) (told (c .before .before .before) .positions) (told (c .before .before .before) .edges) (told (c .before .before .before) .racks) (accepted-by (c .before .before .before)) (c .before .rows-of .result) (c .before .rows-of .ensures)
 
 returns-3 : tie.Need-returns-3
 returns-3 c =
-    not-found (bytes (c .before .before .before .before .before .before)) (told (c .before .before .before .before .before .before) .positions) (told (c .before .before .before .before .before .before) .edges) (told (c .before .before .before .before .before .before) .racks) (accepted-by (c .before .before .before .before .before .before)) (c .before .before .before .mark-edges .last .1 .1 .0) (c .before .before .before .mark-edges .ensures) (c .before .break-down .result .ring) (c .before .break-down .result .handles) (c .before .break-down .result .order) (c .before .break-down .result .start) (c .before .break-down .result .left) (c .before .break-down .result .right) (c .before .break-down .ensures) _ (c .if2 .taken)
+    not-found (bytes (c .before .before .before .before .before)) (told (c .before .before .before .before .before) .positions) (told (c .before .before .before .before .before) .edges) (told (c .before .before .before .before .before) .racks) (accepted-by (c .before .before .before .before .before)) (c .before .before .before .rows-of .result) (c .before .before .before .rows-of .ensures) (c .before .break-down .result .ring) (c .before .break-down .result .handles) (c .before .break-down .result .order) (c .before .break-down .result .start) (c .before .break-down .result .left) (c .before .break-down .result .right) (c .before .break-down .ensures) _ (c .if2 .taken)
 
 lay-out-requires : tie.Need-lay-out-requires
 lay-out-requires c κs = search needs
 
 mul-result : tie.Need-mul-result
 mul-result c =
-    omega (arith, small (bytes (c .before .before .before .before .before .before .before .before .before .before)) (told (c .before .before .before .before .before .before .before .before .before .before) .positions) (told (c .before .before .before .before .before .before .before .before .before .before) .edges) (told (c .before .before .before .before .before .before .before .before .before .before) .racks) (accepted-by (c .before .before .before .before .before .before .before .before .before .before)) (c .before .before .before .before .before .before .before .mark-edges .last .1 .1 .0) (c .before .before .before .before .before .before .before .mark-edges .ensures) (c .before .before .before .before .before .break-down .result .ring) (c .before .before .before .before .before .break-down .result .handles) (c .before .before .before .before .before .break-down .result .order) (c .before .before .before .before .before .break-down .result .start) (c .before .before .before .before .before .break-down .result .left) (c .before .before .before .before .before .break-down .result .right) (c .before .before .before .before .before .break-down .ensures) (omega arith))
+    omega (arith, small (bytes (c .before .before .before .before .before .before .before .before .before)) (told (c .before .before .before .before .before .before .before .before .before) .positions) (told (c .before .before .before .before .before .before .before .before .before) .edges) (told (c .before .before .before .before .before .before .before .before .before) .racks) (accepted-by (c .before .before .before .before .before .before .before .before .before)) (c .before .before .before .before .before .before .before .rows-of .result) (c .before .before .before .before .before .before .before .rows-of .ensures) (c .before .before .before .before .before .break-down .result .ring) (c .before .before .before .before .before .break-down .result .handles) (c .before .before .before .before .before .break-down .result .order) (c .before .before .before .before .before .break-down .result .start) (c .before .before .before .before .before .break-down .result .left) (c .before .before .before .before .before .break-down .result .right) (c .before .before .before .before .before .break-down .ensures) (omega arith))
 
 add-result : tie.Need-add-result
 add-result c =
-    omega (arith, small (bytes (c .before .before .before .before .before .before .before .before .before .before)) (told (c .before .before .before .before .before .before .before .before .before .before) .positions) (told (c .before .before .before .before .before .before .before .before .before .before) .edges) (told (c .before .before .before .before .before .before .before .before .before .before) .racks) (accepted-by (c .before .before .before .before .before .before .before .before .before .before)) (c .before .before .before .before .before .before .before .mark-edges .last .1 .1 .0) (c .before .before .before .before .before .before .before .mark-edges .ensures) (c .before .before .before .before .before .break-down .result .ring) (c .before .before .before .before .before .break-down .result .handles) (c .before .before .before .before .before .break-down .result .order) (c .before .before .before .before .before .break-down .result .start) (c .before .before .before .before .before .break-down .result .left) (c .before .before .before .before .before .break-down .result .right) (c .before .before .before .before .before .break-down .ensures) (omega arith))
+    omega (arith, small (bytes (c .before .before .before .before .before .before .before .before .before)) (told (c .before .before .before .before .before .before .before .before .before) .positions) (told (c .before .before .before .before .before .before .before .before .before) .edges) (told (c .before .before .before .before .before .before .before .before .before) .racks) (accepted-by (c .before .before .before .before .before .before .before .before .before)) (c .before .before .before .before .before .before .before .rows-of .result) (c .before .before .before .before .before .before .before .rows-of .ensures) (c .before .before .before .before .before .break-down .result .ring) (c .before .before .before .before .before .break-down .result .handles) (c .before .before .before .before .before .break-down .result .order) (c .before .before .before .before .before .break-down .result .start) (c .before .before .before .before .before .break-down .result .left) (c .before .before .before .before .before .break-down .result .right) (c .before .before .before .before .before .break-down .ensures) (omega arith))
 
 same-length : tie.Need-same-length
 same-length c = search needs
 
 returns-4 : tie.Need-returns-4
 returns-4 c =
-    found (bytes (c .before .before .before .before .before .before .before .before .before .before)) (told (c .before .before .before .before .before .before .before .before .before .before) .positions) (told (c .before .before .before .before .before .before .before .before .before .before) .edges) (told (c .before .before .before .before .before .before .before .before .before .before) .racks) (accepted-by (c .before .before .before .before .before .before .before .before .before .before)) (c .before .before .before .before .before .before .before .mark-edges .last .1 .1 .0) (c .before .before .before .before .before .before .before .mark-edges .ensures) (c .before .before .before .before .before .break-down .result .ring) (c .before .before .before .before .before .break-down .result .handles) (c .before .before .before .before .before .break-down .result .order) (c .before .before .before .before .before .break-down .result .start) (c .before .before .before .before .before .break-down .result .left) (c .before .before .before .before .before .break-down .result .right) (c .before .before .before .before .before .break-down .ensures) (omega arith) _ _ (c .before .before .before .before .before .before .before .before .before .before .before .before .before .before .if1 .left) (c .before .before .lay-out .ensures)
+    found (bytes (c .before .before .before .before .before .before .before .before .before)) (told (c .before .before .before .before .before .before .before .before .before) .positions) (told (c .before .before .before .before .before .before .before .before .before) .edges) (told (c .before .before .before .before .before .before .before .before .before) .racks) (accepted-by (c .before .before .before .before .before .before .before .before .before)) (c .before .before .before .before .before .before .before .rows-of .result) (c .before .before .before .before .before .before .before .rows-of .ensures) (c .before .before .before .before .before .break-down .result .ring) (c .before .before .before .before .before .break-down .result .handles) (c .before .before .before .before .before .break-down .result .order) (c .before .before .before .before .before .break-down .result .start) (c .before .before .before .before .before .break-down .result .left) (c .before .before .before .before .before .break-down .result .right) (c .before .before .before .before .before .break-down .ensures) (omega arith) _ _ (c .before .before .before .before .before .before .before .before .before .before .before .before .before .if1 .left) (c .before .before .lay-out .ensures)
 
 pub wichteab-inspect-breakdown-spec : {M : Type 1} → statement M
 wichteab-inspect-breakdown-spec =
@@ -89,10 +89,10 @@ wichteab-inspect-breakdown-spec =
     enum-known-below
     enum-told
     returns-2
-    sub-mark-edges
-    part-mark-edges-start
-    part-mark-edges-end
-    mark-edges-requires
+    sub-rows-of
+    part-rows-of-start
+    part-rows-of-end
+    rows-of-requires
     break-down-requires
     returns-3
     lay-out-requires
