@@ -6,21 +6,21 @@
 --     apart, ring, plain    21, 22, and acceptance, from what the search of the rows says
 -- Assumes nothing.
 use Prim.Native.Nat.{ℕ, _+_, _-_, _≤_, _<_}
-use mathlib.Core.Path.{_≡_, refl, sym, ap, subst, _∙_}
-use mathlib.Core.Bool.{Bool, true, false, not}
+use mathlib.Core.Path.{_≡_, refl, sym, ap, _∙_}
+use mathlib.Core.Bool.{Bool, true, false}
 use mathlib.Core.List.{List, [], _∷_}
 use mathlib.Core.Logic.{_↔_}
 use native.Mathlib.Omega.{arith}
 use borrow.Author.Tests.{lt-ltb, le-ltb}
 use lib.ListN.{length, take, drop, replicate}
 use lib.Dec.{ltb}
-use Rattle.answers.specs.Answer.{Answer, accepted, refused, refuse, passUp}
+use Rattle.answers.specs.Answer.{Answer, accepted, refused, passUp}
 use Rattle.answers.specs.AnswerLaws.{passUp-refused}
 use Rattle.field.specs.Bits.{pairs}
 use Rattle.field.specs.RecordLaws.{length-pairs}
 use Rattle.order.specs.Order.{positionCount, edgeCount, rackCount, floorOf, orderAnswer}
 use Rattle.tables.specs.Accepted.{OrderGave, order-gave}
-use Rattle.graph.specs.Connected.{BiConnected, Ring}
+use Rattle.graph.specs.Connected.{BiConnected}
 use Rattle.graph.specs.Rows.{Edge, Rows}
 use Rattle.floor.specs.FloorAnswer.{Joins, biConnected?, ring?, holds, floorAnswer}
 use Rattle.floor.specs.JoinedRows.{joinedRows, rowsOf}

@@ -6,21 +6,21 @@
 --     edges-counted        the edges of a floor that 13 passes
 --     ring-rows            bi-connected with exactly n edges, by the rows and by the floor
 -- Assumes nothing.
-use Prim.Native.Nat.{ℕ, zero, suc, _+_, _*_, _^_, _≤_, _<_}
-use mathlib.Core.Path.{_≡_, refl, sym, ap, subst, _∙_}
-use mathlib.Core.Bool.{Bool, true, false, not, _||_, or-true}
+use Prim.Native.Nat.{ℕ, zero, suc, _+_, _^_, _≤_, _<_}
+use mathlib.Core.Path.{_≡_, refl, sym, ap, _∙_}
+use mathlib.Core.Bool.{true, false, not, or-true}
 use mathlib.Core.List.{List, [], _∷_}
-use mathlib.Core.Logic.{_↔_, _≢_, inl, inr, ⊎-elim, by-cases}
+use mathlib.Core.Logic.{_↔_, inl, inr, ⊎-elim, by-cases}
 use native.Mathlib.Decide.{ℕ-discrete}
 use native.Mathlib.Omega.{arith}
 use borrow.Author.Tests.{not-false}
 use lib.Bits.{bitOr}
-use lib.ListN.{length, getD, set, replicate, length-set, length-replicate}
-use Rattle.field.specs.RecordLaws.{BelowPairs, none₂, more₂}
+use lib.ListN.{length, getD, replicate, length-set, length-replicate}
+use Rattle.field.specs.RecordLaws.{BelowPairs, more₂}
 use Rattle.field.specs.UnitLaws.{or-left, or-right}
 use Rattle.order.specs.Floor.{Floor, isPair, among}
 use Rattle.order.specs.Order.{some, badEdge, precedes, ascending, wrongEdges}
-use Rattle.order.specs.EdgeLaws.{place, and-right, isPair-same, ascending-first, good-among}
+use Rattle.order.specs.EdgeLaws.{and-right, isPair-same, ascending-first, good-among}
 use Rattle.tables.specs.TableLaws.{zeros-at}
 use Rattle.sets.specs.Sets.{bit, Has}
 use Rattle.sets.specs.SetLaws.{has-or-not, bit-zero}

@@ -12,7 +12,6 @@
 use Prim.Native.Nat.{ℕ}
 use mathlib.Core.Path.{_≡_, refl}
 use mathlib.Core.List.{List, [], _∷_}
-use lib.ListN.{length}
 use Rattle.answers.specs.Answer.{accepted, refused}
 use Rattle.field.specs.Bits.{bitsOf, bits, number, field, pairs, positions, pad}
 use Rattle.field.specs.Units.{unitsLength, misfits, unclean}

@@ -9,9 +9,9 @@
 --     plannable-rows           a plannable order's floor, by its rows, is bi-connected and no ring: what crates/breakdown asks of a floor
 --     plannable-size           a plannable order's floor has four positions at least, and more edges than positions
 -- Assumes nothing.
-use Prim.Native.Nat.{ℕ, zero, suc, _+_, _*_, _≤_, _<_}
-use mathlib.Core.Path.{_≡_, refl, sym, ap, subst, _∙_}
-use mathlib.Core.Bool.{Bool, true, false, not}
+use Prim.Native.Nat.{ℕ, zero, suc, _+_, _≤_, _<_}
+use mathlib.Core.Path.{_≡_, refl, sym, ap, _∙_}
+use mathlib.Core.Bool.{true, false, not}
 use mathlib.Core.List.{List, []}
 use mathlib.Core.Logic.{_≢_, by-cases}
 use native.Mathlib.Decide.{ℕ-discrete}
@@ -19,7 +19,7 @@ use native.Mathlib.Omega.{arith}
 use borrow.Author.Tests.{le-ltb, ltb-false, not-false}
 use lib.ListN.{length, getD}
 use lib.Dec.{ltb}
-use Rattle.answers.specs.Answer.{Answer, accepted, refuse, passUp}
+use Rattle.answers.specs.Answer.{Answer, accepted, refuse}
 use Rattle.answers.specs.AnswerLaws.{refuse-not, refuse-else, passUp-low, passUp-high, passUp-accepted}
 use Rattle.order.specs.Order.{positionCount, rackCount, floorOf, counts, orderAnswer, WellFormed}
 use Rattle.order.specs.OrderLaws.{well-formed, accepted-is}

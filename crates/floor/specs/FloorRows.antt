@@ -3,21 +3,22 @@
 --     walk-along, biConnected-along      a walk, and a bi-connected floor, stay what they are where more edges join
 --     joining-edge                       one position more in a row is one edge more
 --     joined-edges                       the edges of a list are in its rows besides what was there before
---     joined-turned, joined-other        an edge joins both ways, and two different positions
+--     joined-turned                      an edge joins both ways
 --     edge-joins, joins-edge             the rows of a floor have the floor's edges and no others
---     floor-rows                         they are the rows of a floor
 --     biConnected-rows                   bi-connected by the rows is bi-connected
+--     joined-other                       an edge joins two different positions
+--     floor-rows                         the rows of a floor that 13 passes are what crates/graph asks for
 --     filled-is, filled-rows             what the edges of an accepted order's tail fill are those rows
 -- Assumes nothing.
-use Prim.Native.Nat.{ℕ, zero, suc, _+_, _-_, _*_, _^_, _≤_, _<_}
-use mathlib.Core.Path.{_≡_, refl, sym, ap, subst, _∙_}
-use mathlib.Core.Bool.{Bool, true, false, not, _||_, or-comm}
+use Prim.Native.Nat.{ℕ, _-_, _^_, _≤_, _<_}
+use mathlib.Core.Path.{_≡_, sym, ap, subst, _∙_}
+use mathlib.Core.Bool.{false, not, or-comm}
 use mathlib.Core.List.{List, [], _∷_}
 use mathlib.Core.Logic.{_↔_, _≢_, _⊎_, inl, inr, ⊎-elim}
 use native.Mathlib.Omega.{arith}
 use lib.Bits.{bitOr}
 use lib.Dec.{T, eqb}
-use lib.ListN.{length, take, drop, getD, set, replicate, length-set, length-replicate}
+use lib.ListN.{length, take, drop, getD, replicate, length-set, length-replicate}
 use lib.Seq.{getD-set-same, getD-set-other}
 use Rattle.field.specs.Bits.{pairs}
 use Rattle.field.specs.RecordLaws.{BelowPairs, none₂, more₂}
@@ -55,7 +56,7 @@ module _ {E D : ℕ → ℕ → Type 0} (more : (a b : ℕ) → E a b → D a b)
         without = λ x l u v hu hv. way-along (b .without x l u v hu hv);
       }
 
--- a statement about the row of a, with the row of x in it where a is x
+-- the row of x has y besides what it had; every other row is what it was
 pub joining-edge : (g : List ℕ) (x y : ℕ) → x < length g → (a b : ℕ) → Edge (joining g x y) a b ↔ (Edge g a b ⊎ ((a ≡ x) × (b ≡ y)))
 joining-edge g x y room a b = ⊎-elim here there (equal? a x)
   where

@@ -5,7 +5,7 @@
 --     short, order-refused, not-found, found    what is shown: nothing in too short a buffer, of a refused order, of a floor without a breakdown; else it
 -- Assumes nothing.
 use Prim.Native.Nat.{ℕ, zero, suc, _+_, _-_, _*_, _≤_, _<_}
-use mathlib.Core.Path.{_≡_, refl, sym, ap, subst, _∙_}
+use mathlib.Core.Path.{_≡_, refl, ap, _∙_}
 use mathlib.Core.List.{List, [], _∷_}
 use mathlib.Core.Logic.{_↔_}
 use native.Mathlib.Numerals.{add-one}
@@ -13,19 +13,19 @@ use native.Mathlib.Omega.{arith}
 use lib.ListN.{length, take, drop, replicate}
 use Rattle.answers.specs.Answer.{accepted, refused}
 use Rattle.field.specs.Bits.{pairs}
-use Rattle.order.specs.Order.{edgeCount, floorOf, counts, orderAnswer}
+use Rattle.order.specs.Order.{floorOf, counts, orderAnswer}
 use Rattle.order.specs.OrderLaws.{accepted-is}
 use Rattle.tables.specs.Accepted.{OrderGave, order-gave}
 use Rattle.graph.specs.Connected.{BiConnected, Ring}
 use Rattle.graph.specs.Rows.{Rows}
-use Rattle.breakdown.specs.Breakdown.{Among, Handle, Breakdown}
+use Rattle.breakdown.specs.Breakdown.{Handle, Breakdown}
 use Rattle.breakdown.specs.Building.{row}
 use Rattle.breakdown.specs.Answer.{Answer}
 use Rattle.floor.specs.FloorAnswer.{Joins}
 use Rattle.floor.specs.JoinedRows.{joinedRows, rowsOf}
 use Rattle.floor.specs.FloorRows.{edge-joins, biConnected-rows, filled-is, filled-rows}
 use Rattle.floor.specs.EdgesCounted.{ring-rows}
-use Rattle.inspection.specs.Inspection.{LaidOut, Shown, Breaks, Inspected}
+use Rattle.inspection.specs.Inspection.{LaidOut, Breaks, Inspected}
 
 module _ {E D : ℕ → ℕ → Type 0} (more : (a b : ℕ) → E a b → D a b) where
   handle-along : {at : ℕ → ℕ} {s e u v : ℕ} → Handle E at s e u v → Handle D at s e u v

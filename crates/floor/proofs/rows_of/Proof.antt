@@ -1,5 +1,5 @@
 -- `floor::rows_of` meets its contract. The loop's invariant: what is left to join decides the rows at the end. Assumes nothing.
-use Prim.Native.Nat.{_≤_, _-_, _+_, _*_}
+use Prim.Native.Nat.{_≤_, _-_}
 use native.Mathlib.Omega.{arith}
 use Rattle.floor.proofs.RowLaws.{ToJoin, join-first, join-next, join-last}
 use Rattle.floor.proofs.rows_of.Statement.{statement}
