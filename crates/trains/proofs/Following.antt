@@ -17,20 +17,17 @@ use mathlib.Core.Bool.{Bool, true, false, true≢false, false≢true}
 use mathlib.Core.List.{List, [], _∷_}
 use mathlib.Core.Logic.{⊎-elim, _≢_}
 use native.Mathlib.Omega.{arith}
-use native.Mathlib.Nat.{sub-zero}
 use borrow.Author.Tests.{eq-eqb, ne-eqb}
 use lib.ListN.{length, getD, set, replicate, length-set, length-replicate}
 use lib.Seq.{getD-set-same, getD-set-other}
 use Rattle.motion.specs.Test.{equal?}
 use Rattle.tables.specs.TableLaws.{zeros-at}
-use Rattle.field.specs.Bits.{field, pairs}
-use Rattle.field.specs.RecordLaws.{pairs-next}
 use Rattle.motion.specs.Step.{every}
 use Rattle.trains.specs.StepOn.{ledOn, allLed}
 use Rattle.tables.specs.Simulation.{Each, each-more}
-use Rattle.trains.specs.Chains.{Targets, Taking, Led, leads, follows, unvisited, Marks, Chain, Followed}
+use Rattle.trains.specs.Chains.{entries, Targets, Taking, Led, leads, follows, unvisited, Marks, Chain, Followed}
 use Rattle.trains.specs.ChainLaws.{led-on, unled-on}
-use Rattle.trains.proofs.Moves.{Left, left-first, left-at, left-next, left-last}
+use Rattle.trains.proofs.Moves.{Left, left-first, left-at, left-next, left-last, entriesFrom, entries-first, entries-last}
 
 pub unvisited-less : (t v : List ℕ) (p : ℕ) → getD t p 0 ≢ 0 → getD v p 0 ≡ 0 → p < length v → unvisited t (set v p 1) < unvisited t v
 unfolding unvisited
@@ -174,46 +171,46 @@ chain-marked t h w a b m l taken =
     whole : (n : ℕ) × Led t h n a
     whole = (suc (l .0), follows (taken .0) (λ z. omega (arith, taken .1, z)) (subst (Led t h (l .0)) (sym back) (l .1)))
 
--- the loop over the c moves of s, by the targets t and the table h
-module _ (s : List ℕ) (c : ℕ) (t h : List ℕ) where
+-- the loop over the c moves that the table d has, by the targets t and the table h
+module _ (d : List ℕ) (c : ℕ) (t h : List ℕ) where
   unfoldable pub judge : Unit {0} → List (ℕ × ℕ) → Bool
-  judge u ms = every (λ m. ledOn (length (pairs s 0 c)) (pairs s 0 c) h (m .1)) ms
+  judge u ms = every (λ m. ledOn (length (entries d 0 c)) (entries d 0 c) h (m .1)) ms
 
   -- at move j, where the marks v are those of chains that ended at their leaders
   pub record Leading (v : List ℕ) (j : ℕ) : Type 0 where
-    pub judging : Left judge s c tt tt j
+    pub judging : Left judge (entriesFrom d c) (entries d 0 c) tt tt j
     pub marks : Marks t h v
     pub none-passed : (q : ℕ) → getD v q 0 ≢ 1
-    pub taking : Each (Taking t h) (pairs s (12 * j) (c - j))
+    pub taking : Each (Taking t h) (entriesFrom d c j)
 
-  pub leading-first : Each (Taking t h) (pairs s 0 c) → Leading (replicate 64 0) 0
+  pub leading-first : Each (Taking t h) (entries d 0 c) → Leading (replicate 64 0) 0
   leading-first each =
       record {
-        judging = left-first judge s c tt;
+        judging = left-first judge (entriesFrom d c) (entries d 0 c) tt (entries-first d c);
         marks = record { size = length-replicate {A = ℕ} 64 0; known = λ q a b. absurd (a (zeros-at 64 q)) };
         none-passed = λ q e. omega (arith, zeros-at 64 q, e);
-        taking = rw (sub-zero c) each;
+        taking = subst (Each (Taking t h)) (sym (entries-first d c)) each;
       }
 
-  module _ (targets : Targets (pairs s 0 c) t) where
+  module _ (targets : Targets (entries d 0 c) t) where
     pub leading-chain : (v : List ℕ) (j b : ℕ) → Leading v j → Chain t h v b
     leading-chain v j b left = record { marks = left .marks; passed = λ q e. absurd (left .none-passed q e); below = targets .below }
 
-    module _ (v : List ℕ) (j a b : ℕ) (left : Leading v j) (k : j < c) (ea : a ≡ field s (12 * j) 6) (eb : b ≡ field s (12 * j + 6) 6)
+    module _ (v : List ℕ) (j a b : ℕ) (left : Leading v j) (at : entriesFrom d c j ≡ ((a, b) ∷ entriesFrom d c (j + 1)))
         (w : List ℕ) (r : Bool) (f : Followed t h v w b r) where
-      pub not-led : r ≡ false → false ≡ allLed h (pairs s 0 c)
+      pub not-led : r ≡ false → false ≡ allLed h (entries d 0 c)
       unfolding judge every allLed
-      not-led e = rw (unled-on (pairs s 0 c) t h targets b (f .unled e)) at (left-at judge s c tt tt j a b (left .judging) k ea eb)
+      not-led e = rw (unled-on (entries d 0 c) t h targets b (f .unled e)) at (left-at judge (entriesFrom d c) (entries d 0 c) tt tt j a b (left .judging) at)
 
-      here : Taking t h (a, b) × Each (Taking t h) (pairs s (12 * (j + 1)) (c - (j + 1)))
-      here = each-first (rw (ea, eb) (subst (Each (Taking t h)) (pairs-next s j c k) (left .taking)))
+      here : Taking t h (a, b) × Each (Taking t h) (entriesFrom d c (j + 1))
+      here = each-first (subst (Each (Taking t h)) at (left .taking))
 
       pub leading-next : r ≡ true → a < 64 → Leading (set w a 2) (j + 1)
       unfolding judge every
       leading-next e room =
           record {
-            judging = left-next judge s c tt tt j a b (left .judging) k ea eb tt
-                (λ ms. rw (led-on (pairs s 0 c) t h targets b (f .led e)) refl);
+            judging = left-next judge (entriesFrom d c) (entries d 0 c) tt tt j a b (left .judging) at tt
+                (λ ms. rw (led-on (entries d 0 c) t h targets b (f .led e)) refl);
             marks = chain-marked t h w a b (f .marks e) (f .led e) (here .0);
             none-passed = λ q z.
                 ⊎-elim
@@ -223,6 +220,6 @@ module _ (s : List ℕ) (c : ℕ) (t h : List ℕ) where
             taking = here .1;
           }
 
-  pub leading-last : (v : List ℕ) (j : ℕ) → Leading v j → c ≤ j → true ≡ allLed h (pairs s 0 c)
+  pub leading-last : (v : List ℕ) (j : ℕ) → Leading v j → c ≤ j → true ≡ allLed h (entries d 0 c)
   unfolding judge every allLed
-  leading-last v j left k = left-last judge s c tt tt j (left .judging) k
+  leading-last v j left k = left-last judge (entriesFrom d c) (entries d 0 c) tt tt j (left .judging) (entries-last d c j k)

@@ -8,7 +8,7 @@
 --     noting-next, noting-last     one that is sound leaves the rest; after the last the answer is yes
 -- Assumes nothing.
 use Prim.Native.Nat.{ℕ, _+_, _-_, _*_, _≤_, _<_}
-use mathlib.Core.Path.{_≡_, refl, _∙_}
+use mathlib.Core.Path.{_≡_, refl, subst, _∙_}
 use mathlib.Core.Bool.{Bool, true, false, not, _&&_, _||_, and-assoc, and-false, false≢true}
 use mathlib.Core.List.{List, [], _∷_}
 use mathlib.Core.Logic.{⊎-elim, _≢_}
@@ -26,7 +26,7 @@ use Rattle.tables.specs.Tables.{edgeAt, heldAt}
 use Rattle.tables.specs.TableLaws.{zeros-at}
 use Rattle.trains.specs.StepOn.{soundMoves}
 use Rattle.trains.specs.Chains.{noted, NotedMoves}
-use Rattle.trains.proofs.Moves.{Left, left-first, left-at, left-next, left-last}
+use Rattle.trains.proofs.Moves.{Left, left-first, left-at, left-next, left-last, pairsFrom, pairs-first, pairs-at, pairs-last, Kept, kept-first, kept-next, kept-all}
 
 unfoldable pub soundAfter : List ℕ → List ℕ → ℕ → List ℕ → List (ℕ × ℕ) → Bool
 soundAfter g h lowest v [] = true
@@ -103,54 +103,66 @@ module _ (g h s : List ℕ) (c : ℕ) (t₀ : List ℕ) where
   unfoldable pub judge : ℕ × List ℕ → List (ℕ × ℕ) → Bool
   judge x ms = soundAfter g h (x .0) (x .1) ms
 
-  -- at move j, where positions from `lowest` on may be left and those flagged in v have been entered; t has the targets so far
-  pub record Noting (lowest : ℕ) (v t : List ℕ) (j : ℕ) : Type 0 where
-    pub judging : Left judge s c (0, replicate 64 0) (lowest, v) j
-    pub noting : Left noted s c t₀ t j
+  -- at move j, where positions from `lowest` on may be left and those flagged in v have been entered; t has the targets so far, d the moves
+  pub record Noting (lowest : ℕ) (v t d : List ℕ) (j : ℕ) : Type 0 where
+    pub judging : Left judge (pairsFrom s c) (pairs s 0 c) (0, replicate 64 0) (lowest, v) j
+    pub noting : Left noted (pairsFrom s c) (pairs s 0 c) t₀ t j
+    pub kept : Kept s d j
+    pub low : j ≤ lowest
 
-  pub noting-first : Noting 0 (replicate 64 0) t₀ 0
-  noting-first = record { judging = left-first judge s c (0, replicate 64 0); noting = left-first noted s c t₀ }
+  pub noting-first : (d : List ℕ) → length d ≡ 64 → Noting 0 (replicate 64 0) t₀ d 0
+  noting-first d long =
+      record {
+        judging = left-first judge (pairsFrom s c) (pairs s 0 c) (0, replicate 64 0) (pairs-first s c);
+        noting = left-first noted (pairsFrom s c) (pairs s 0 c) t₀ (pairs-first s c);
+        kept = kept-first s d long;
+        low = omega arith;
+      }
 
   all-is : judge (0, replicate 64 0) (pairs s 0 c) ≡ soundMoves g h (pairs s 0 c)
   unfolding judge
   all-is = soundAfter-is g h (pairs-lt s 0 c)
 
-  module _ (lowest : ℕ) (v t : List ℕ) (j a b : ℕ) (left : Noting lowest v t j) (k : j < c) (ea : a ≡ field s (12 * j) 6) (eb : b ≡ field s (12 * j + 6) 6) where
+  module _ (lowest : ℕ) (v t d : List ℕ) (j a b : ℕ) (left : Noting lowest v t d j) (k : j < c) (ea : a ≡ field s (12 * j) 6) (eb : b ≡ field s (12 * j + 6) 6) where
     next : (leb lowest a && edgeAt g (a, b) && heldAt h a && not (heldAt v b) && soundAfter g h (a + 1) (set v b 1) (pairs s (12 * (j + 1)) (c - (j + 1)))) ≡ soundMoves g h (pairs s 0 c)
     unfolding judge soundAfter
-    next = left-at judge s c (0, replicate 64 0) (lowest, v) j a b (left .judging) k ea eb ∙ all-is
+    next = left-at judge (pairsFrom s c) (pairs s 0 c) (0, replicate 64 0) (lowest, v) j a b (left .judging) (pairs-at s c j a b k ea eb) ∙ all-is
 
-    wrong : false ≡ soundMoves g h (pairs s 0 c) → NotedMoves g h (pairs s 0 c) t₀ t false
-    wrong e = record { is = e; all = λ r. absurd (false≢true r) }
+    wrong : false ≡ soundMoves g h (pairs s 0 c) → NotedMoves g h (pairs s 0 c) t₀ t c d false
+    wrong e = record { is = e; all = λ r. absurd (false≢true r); few = λ r. absurd (false≢true r); kept = λ r. absurd (false≢true r) }
 
-    pub not-ascending : a < lowest → NotedMoves g h (pairs s 0 c) t₀ t false
+    pub not-ascending : a < lowest → NotedMoves g h (pairs s 0 c) t₀ t c d false
     not-ascending l = wrong (simp (lt-leb lowest a l) at next)
 
-    pub no-edge : getD g (a * 64 + b) 0 ≡ 0 → NotedMoves g h (pairs s 0 c) t₀ t false
+    pub no-edge : getD g (a * 64 + b) 0 ≡ 0 → NotedMoves g h (pairs s 0 c) t₀ t c d false
     unfolding edgeAt
     no-edge e = wrong (simp (eq-eqb (getD g (a * 64 + b) 0) 0 e, and-false) at next)
 
-    pub no-rack : getD h a 0 ≡ 0 → NotedMoves g h (pairs s 0 c) t₀ t false
+    pub no-rack : getD h a 0 ≡ 0 → NotedMoves g h (pairs s 0 c) t₀ t c d false
     unfolding heldAt
     no-rack e = wrong (simp (eq-eqb (getD h a 0) 0 e, and-false) at next)
 
-    pub entered-twice : (getD v b 0 ≡ 0 → ⊥) → NotedMoves g h (pairs s 0 c) t₀ t false
+    pub entered-twice : (getD v b 0 ≡ 0 → ⊥) → NotedMoves g h (pairs s 0 c) t₀ t c d false
     unfolding heldAt
     entered-twice d = wrong (simp (ne-eqb (getD v b 0) 0 d, and-false) at next)
 
-    pub noting-next : lowest ≤ a → (getD g (a * 64 + b) 0 ≡ 0 → ⊥) → (getD h a 0 ≡ 0 → ⊥) → getD v b 0 ≡ 0 → Noting (a + 1) (set v b 1) (set t a (b + 1)) (j + 1)
+    pub noting-next : lowest ≤ a → a < 64 → (getD g (a * 64 + b) 0 ≡ 0 → ⊥) → (getD h a 0 ≡ 0 → ⊥) → getD v b 0 ≡ 0 → Noting (a + 1) (set v b 1) (set t a (b + 1)) (set d j (a * 64 + b)) (j + 1)
     unfolding judge soundAfter edgeAt heldAt noted
-    noting-next l e r f =
+    noting-next l room e r f =
         record {
-          judging = left-next judge s c (0, replicate 64 0) (lowest, v) j a b (left .judging) k ea eb (a + 1, set v b 1)
+          judging = left-next judge (pairsFrom s c) (pairs s 0 c) (0, replicate 64 0) (lowest, v) j a b (left .judging) (pairs-at s c j a b k ea eb) (a + 1, set v b 1)
               (λ ms. rw (le-leb lowest a l, ne-eqb (getD g (a * 64 + b) 0) 0 e, ne-eqb (getD h a 0) 0 r, eq-eqb (getD v b 0) 0 f) refl);
-          noting = left-next noted s c t₀ t j a b (left .noting) k ea eb (set t a (b + 1)) (λ ms. refl);
+          noting = left-next noted (pairsFrom s c) (pairs s 0 c) t₀ t j a b (left .noting) (pairs-at s c j a b k ea eb) (set t a (b + 1)) (λ ms. refl);
+          kept = kept-next s d j a b (let low = left .low in omega arith) ea eb (left .kept);
+          low = (let low = left .low in omega arith);
         }
 
-  pub noting-last : (lowest : ℕ) (v t : List ℕ) (j : ℕ) → Noting lowest v t j → c ≤ j → NotedMoves g h (pairs s 0 c) t₀ t true
+  pub noting-last : (lowest : ℕ) (v t d : List ℕ) (j : ℕ) → Noting lowest v t d j → c ≤ j → j ≤ c → lowest ≤ 64 → NotedMoves g h (pairs s 0 c) t₀ t c d true
   unfolding judge soundAfter noted
-  noting-last lowest v t j left k =
+  noting-last lowest v t d j left k up small =
       record {
-        is = left-last judge s c (0, replicate 64 0) (lowest, v) j (left .judging) k ∙ all-is;
-        all = λ r. left-last noted s c t₀ t j (left .noting) k;
+        is = left-last judge (pairsFrom s c) (pairs s 0 c) (0, replicate 64 0) (lowest, v) j (left .judging) (pairs-last s c j k) ∙ all-is;
+        all = λ r. left-last noted (pairsFrom s c) (pairs s 0 c) t₀ t j (left .noting) (pairs-last s c j k);
+        few = λ r. let low = left .low in omega arith;
+        kept = λ r. let same : j ≡ c = omega arith in kept-all s d c (subst (Kept s d) same (left .kept));
       }

@@ -1,7 +1,8 @@
 -- What the passes over a step keep in tables: where the rack at each position goes, and which positions the chains have come through.
 --
 --     noted t ms           the table t with, for each position left by one of the moves ms, one more than the position entered
---     NotedMoves ..        the answer r and the targets t′ of the pass that judges and notes the moves
+--     entries d j k        the k moves that the table d has from place j on: a move from a to b is the number a * 64 + b
+--     NotedMoves ..        the answer r of the pass that judges and notes the c moves ms, the targets t′ and the table d of the moves
 --     Targets ms t         the table t says of each position where its rack goes, one more than it, and 0 where no move leaves it
 --     Taking t h m         the move m takes a rack along that the table h has, to where the table t says
 --     Led t h n p          by the table t the chain of a move into p comes through n positions that the table h does not have vacant, and
@@ -11,7 +12,7 @@
 --     Chain t h v p        the marks v where a chain is being followed that has come to p
 --     Followed t h v w p r the answer r and the marks w, where the chain was followed on from p with the marks v
 -- Assumes nothing.
-use Prim.Native.Nat.{ℕ, suc, _+_, _-_, _≤_, _<_}
+use Prim.Native.Nat.{ℕ, zero, suc, _+_, _-_, _/_, _%_, _≤_, _<_}
 use mathlib.Core.Path.{_≡_}
 use mathlib.Core.Bool.{Bool, true, false, not, cond, _&&_}
 use mathlib.Core.List.{List, [], _∷_}
@@ -25,9 +26,15 @@ unfoldable pub noted : List ℕ → List (ℕ × ℕ) → List ℕ
 noted t [] = t
 noted t (m ∷ ms) = noted (set t (m .0) (m .1 + 1)) ms
 
-pub record NotedMoves (g h : List ℕ) (ms : List (ℕ × ℕ)) (t t′ : List ℕ) (r : Bool) : Type 0 where
+unfoldable pub entries : List ℕ → ℕ → ℕ → List (ℕ × ℕ)
+entries d j zero = []
+entries d j (suc k) = (getD d j 0 / 64 % 64, getD d j 0 % 64) ∷ entries d (j + 1) k
+
+pub record NotedMoves (g h : List ℕ) (ms : List (ℕ × ℕ)) (t t′ : List ℕ) (c : ℕ) (d : List ℕ) (r : Bool) : Type 0 where
   pub is : r ≡ soundMoves g h ms
   pub all : r ≡ true → t′ ≡ noted t ms
+  pub few : r ≡ true → c ≤ 64
+  pub kept : r ≡ true → entries d 0 c ≡ ms
 
 pub record Targets (ms : List (ℕ × ℕ)) (t : List ℕ) : Type 0 where
   pub goes : (p : ℕ) → getD t p 0 ≡ cond (leaves ms p) (goesTo ms p + 1) 0

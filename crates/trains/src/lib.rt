@@ -1,32 +1,47 @@
 // One step of a timetable on tables: judged, and made if it is legal. specs/StepOn.antt says what that means; the laws of specs/
 // say that it is document 01's legal step. `run_step` is the entry point.
 ghost use mathlib.Core.Path.{_≡_};
-ghost use Prim.Native.Nat.{_*_, _≤_, _<_};
+ghost use Prim.Native.Nat.{_*_, _/_, _%_, _≤_, _<_};
 ghost use lib.ListN.{length};
 ghost use Rattle.field.specs.Bits.{pairs};
 ghost use Rattle.trains.specs.StepOn.{allLed, legalStepOn, takenUp, putDown, stepOn, ranOn};
 ghost use Rattle.tables.specs.Simulation.{Each};
-ghost use Rattle.trains.specs.Chains.{NotedMoves, Targets, Taking, Chain, Followed};
+ghost use Rattle.trains.specs.Chains.{entries, NotedMoves, Targets, Taking, Chain, Followed};
+
+// The position that a move kept as one number leaves.
+fn left_by(x: u16) -> usize
+    ensures { λ r. ⌜ r ≡ x / 64 % 64 ⌝ }
+{
+    x as usize / 64 % 64
+}
+
+// The position that it enters.
+fn entered_by(x: u16) -> usize
+    ensures { λ r. ⌜ r ≡ x % 64 ⌝ }
+{
+    x as usize % 64
+}
 
 // Whether a step's c moves ascend by position left, run along edges, take racks along and enter no position twice. Notes for each
-// position left one more than the position entered.
+// position left one more than the position entered, and each move as one number: the passes that follow read no bits again.
 fn note_moves(
     moves: &[u8],
     c: usize,
     matrix: &[u8; 4096],
     racks: &[u8; 64],
     target: &mut [u8; 64],
+    step: &mut [u16; 64],
 ) -> bool
-    requires { ⌜ 12 * c ≤ 8 * length (now moves) ⌝ }
-    ensures { λ r. ⌜ NotedMoves (now (matrix .entry)) (now (racks .entry)) (pairs (now (moves .entry)) 0 c) (now (target .entry)) (now (target .exit)) r ⌝ }
+    requires { ⌜ 12 * c ≤ 8 * length (now moves) ⌝ ∗ ⌜ length (now step) ≡ 64 ⌝ }
+    ensures { λ r. ⌜ NotedMoves (now (matrix .entry)) (now (racks .entry)) (pairs (now (moves .entry)) 0 c) (now (target .entry)) (now (target .exit)) c (now (step .exit)) r ⌝ }
 {
     let mut entered = [0u8; 64];
     let mut lowest = 0;
     let mut j = 0;
     while j < c {
-        let step = field::pair_at(moves, j);
-        let a = step.first;
-        let b = step.second;
+        let pair = field::pair_at(moves, j);
+        let a = pair.first;
+        let b = pair.second;
         if a < lowest {
             return false;
         }
@@ -41,6 +56,7 @@ fn note_moves(
         }
         entered[b] = 1;
         target[a] = (b + 1) as u8;
+        step[j] = (a * 64 + b) as u16;
         lowest = a + 1;
         j += 1;
     }
@@ -91,16 +107,15 @@ fn led(p: usize, target: &[u8; 64], racks: &[u8; 64], marks: &mut [u8; 64]) -> b
 }
 
 // Whether each of a step's c moves belongs to a train with a leader. The position that a led move leaves is marked: who enters it is led.
-fn all_led(moves: &[u8], c: usize, target: &[u8; 64], racks: &[u8; 64]) -> bool
-    requires { ⌜ (12 * c ≤ 8 * length (now moves)) × Targets (pairs (now moves) 0 c) (now target) × Each (Taking (now target) (now racks)) (pairs (now moves) 0 c) ⌝ }
-    ensures { λ r. ⌜ r ≡ allLed (now (racks .entry)) (pairs (now (moves .entry)) 0 c) ⌝ }
+fn all_led(step: &[u16; 64], c: usize, target: &[u8; 64], racks: &[u8; 64]) -> bool
+    requires { ⌜ (c ≤ 64) × Targets (entries (now step) 0 c) (now target) × Each (Taking (now target) (now racks)) (entries (now step) 0 c) ⌝ }
+    ensures { λ r. ⌜ r ≡ allLed (now (racks .entry)) (entries (now (step .entry)) 0 c) ⌝ }
 {
     let mut marks = [0u8; 64];
     let mut j = 0;
     while j < c {
-        let step = field::pair_at(moves, j);
-        let a = step.first;
-        let b = step.second;
+        let a = left_by(step[j]);
+        let b = entered_by(step[j]);
         if !led(b, target, racks, &mut marks) {
             return false;
         }
@@ -111,42 +126,40 @@ fn all_led(moves: &[u8], c: usize, target: &[u8; 64], racks: &[u8; 64]) -> bool
 }
 
 // Takes up the racks at the positions that a step's c moves leave.
-fn take_up(moves: &[u8], c: usize, racks: &mut [u8; 64])
-    requires { ⌜ 12 * c ≤ 8 * length (now moves) ⌝ }
-    ensures { λ _. ⌜ now (racks .exit) ≡ takenUp (now (racks .entry)) (pairs (now (moves .entry)) 0 c) ⌝ }
+fn take_up(step: &[u16; 64], c: usize, racks: &mut [u8; 64])
+    requires { ⌜ c ≤ 64 ⌝ }
+    ensures { λ _. ⌜ now (racks .exit) ≡ takenUp (now (racks .entry)) (entries (now (step .entry)) 0 c) ⌝ }
 {
     let mut j = 0;
     while j < c {
-        let step = field::pair_at(moves, j);
-        let a = step.first;
+        let a = left_by(step[j]);
         racks[a] = 0;
         j += 1;
     }
 }
 
 // Puts them down at the positions entered: the racks that stood at the positions left before the step.
-fn put_down(moves: &[u8], c: usize, before: &[u8; 64], racks: &mut [u8; 64])
-    requires { ⌜ 12 * c ≤ 8 * length (now moves) ⌝ }
-    ensures { λ _. ⌜ now (racks .exit) ≡ putDown (now (before .entry)) (now (racks .entry)) (pairs (now (moves .entry)) 0 c) ⌝ }
+fn put_down(step: &[u16; 64], c: usize, before: &[u8; 64], racks: &mut [u8; 64])
+    requires { ⌜ c ≤ 64 ⌝ }
+    ensures { λ _. ⌜ now (racks .exit) ≡ putDown (now (before .entry)) (now (racks .entry)) (entries (now (step .entry)) 0 c) ⌝ }
 {
     let mut j = 0;
     while j < c {
-        let step = field::pair_at(moves, j);
-        let a = step.first;
-        let b = step.second;
+        let a = left_by(step[j]);
+        let b = entered_by(step[j]);
         racks[b] = before[a];
         j += 1;
     }
 }
 
 // Makes a step's c moves all at once.
-fn make_step(moves: &[u8], c: usize, racks: &mut [u8; 64])
-    requires { ⌜ 12 * c ≤ 8 * length (now moves) ⌝ }
-    ensures { λ _. ⌜ now (racks .exit) ≡ stepOn (now (racks .entry)) (pairs (now (moves .entry)) 0 c) ⌝ }
+fn make_step(step: &[u16; 64], c: usize, racks: &mut [u8; 64])
+    requires { ⌜ c ≤ 64 ⌝ }
+    ensures { λ _. ⌜ now (racks .exit) ≡ stepOn (now (racks .entry)) (entries (now (step .entry)) 0 c) ⌝ }
 {
     let before = *racks;
-    take_up(moves, c, racks);
-    put_down(moves, c, &before, racks);
+    take_up(step, c, racks);
+    put_down(step, c, &before, racks);
 }
 
 // Judges the step of the c moves that the slice begins with, by a matrix of the floor's edges and the rack at each position, and makes
@@ -157,12 +170,13 @@ pub fn run_step(moves: &[u8], c: usize, matrix: &[u8; 4096], racks: &mut [u8; 64
     ensures made { λ _. ⌜ now (racks .exit) ≡ ranOn (now (matrix .entry)) (now (racks .entry)) (pairs (now (moves .entry)) 0 c) ⌝ }
 {
     let mut target = [0u8; 64];
-    if !note_moves(moves, c, matrix, racks, &mut target) {
+    let mut step = [0u16; 64];
+    if !note_moves(moves, c, matrix, racks, &mut target, &mut step) {
         return false;
     }
-    if !all_led(moves, c, &target, racks) {
+    if !all_led(&step, c, &target, racks) {
         return false;
     }
-    make_step(moves, c, racks);
+    make_step(&step, c, racks);
     true
 }

@@ -3,30 +3,50 @@
 use Prim.Native.Nat.{_≤_, _-_}
 use native.Mathlib.Omega.{arith}
 use borrow.Author.Tests.{not-true, not-false}
+use Rattle.trains.proofs.Moves.{entries-at}
 use Rattle.trains.proofs.Following.{Leading, leading-first, leading-chain, not-led, leading-next, leading-last}
 use Rattle.trains.proofs.all_led.Statement.{statement}
 use Rattle.trains.proofs.all_led.Tie as tie
 
 abbrev Inv-loop : tie.InvT-loop
-Inv-loop moves c target racks marks₀ j₀ marks j = (j ≤ c) × Leading moves c target racks marks j
+Inv-loop step c target racks marks₀ j₀ marks j = (j ≤ c) × Leading step c target racks marks j
 
 abbrev μ-loop : tie.MeasureT-loop
-μ-loop moves c target racks marks₀ j₀ marks j = c - j
+μ-loop step c target racks marks₀ j₀ marks j = c - j
 
 loop-holds : tie.Need-loop-holds Inv-loop μ-loop
-loop-holds c =
-    (omega arith, leading-first (c .before .args .moves .now) (c .before .args .c) (c .before .args .target .now) (c .before .args .racks .now) (c .before .pre .2))
+loop-holds c = let a = c .args in (omega arith, leading-first (a .step .now) (a .c) (a .target .now) (a .racks .now) (c .pre .2))
 
-pair-at-requires : tie.Need-pair-at-requires Inv-loop μ-loop
-pair-at-requires c κs = omega arith
+mul-left-by : tie.Need-mul-left-by Inv-loop μ-loop
+mul-left-by c = omega arith
+
+element-copy-out-left-by : tie.Need-element-copy-out-left-by Inv-loop μ-loop
+element-copy-out-left-by c = omega arith
+
+left-by-requires : tie.Need-left-by-requires Inv-loop μ-loop
+left-by-requires c κs = tt
+
+mul-entered-by : tie.Need-mul-entered-by Inv-loop μ-loop
+mul-entered-by c = omega arith
+
+element-copy-out-entered-by : tie.Need-element-copy-out-entered-by Inv-loop μ-loop
+element-copy-out-entered-by c = omega arith
+
+entered-by-requires : tie.Need-entered-by-requires Inv-loop μ-loop
+entered-by-requires c κs = tt
 
 led-requires : tie.Need-led-requires Inv-loop μ-loop
 led-requires c κs =
-    (omega arith, leading-chain (c .before .before .before .before .before .args .moves .now) (c .before .before .before .before .before .args .c) (c .before .before .before .before .before .args .target .now) (c .before .before .before .before .before .args .racks .now) (c .before .before .before .before .before .pre .1) (c .before .before .before .loop .marks) (c .before .before .before .loop .j) (c .before .pair-at .result .second) (c .before .before .before .loop .inv .1))
+    let a = c .before .before .before .before .before .before .before .args in
+    let l = c .before .before .before .before .before .before .loop in
+    (omega arith, leading-chain (a .step .now) (a .c) (a .target .now) (a .racks .now) (c .before .before .before .before .before .before .before .pre .1) (l .marks) (l .j) _ (l .inv .1))
 
 returns : tie.Need-returns Inv-loop μ-loop
 returns c =
-    not-led (c .before .before .before .before .before .before .before .args .moves .now) (c .before .before .before .before .before .before .before .args .c) (c .before .before .before .before .before .before .before .args .target .now) (c .before .before .before .before .before .before .before .args .racks .now) (c .before .before .before .before .before .before .before .pre .1) (c .before .before .before .before .before .loop .marks) (c .before .before .before .before .before .loop .j) (c .before .before .before .pair-at .result .first) (c .before .before .before .pair-at .result .second) (c .before .before .before .before .before .loop .inv .1) (omega arith) (c .before .before .before .pair-at .ensures .first-is) (c .before .before .before .pair-at .ensures .second-is) (c .before .led .last .1 .1 .1 .0) (c .before .led .result) (c .before .led .ensures) (not-true _ (c .if1 .taken))
+    let a = c .before .before .before .before .before .before .before .before .before .args in
+    let l = c .before .before .before .before .before .before .before .before .loop in
+    not-led (a .step .now) (a .c) (a .target .now) (a .racks .now) (c .before .before .before .before .before .before .before .before .before .pre .1) (l .marks) (l .j) _ _ (l .inv .1) (entries-at (a .step .now) (a .c) (l .j) _ _ (omega arith) (c .before .before .before .before .before .left-by .ensures) (c .before .before .before .entered-by .ensures))
+    (c .before .led .last .1 .1 .1 .0) (c .before .led .result) (c .before .led .ensures) (not-true _ (c .if1 .taken))
 
 array-write-marks : tie.Need-array-write-marks Inv-loop μ-loop
 array-write-marks c = omega arith
@@ -39,11 +59,18 @@ loop-less c = omega arith
 
 loop-again : tie.Need-loop-again Inv-loop μ-loop
 loop-again c =
-    (omega arith, leading-next (c .before .before .before .before .before .before .before .args .moves .now) (c .before .before .before .before .before .before .before .args .c) (c .before .before .before .before .before .before .before .args .target .now) (c .before .before .before .before .before .before .before .args .racks .now) (c .before .before .before .before .before .before .before .pre .1) (c .before .before .before .before .before .loop .marks) (c .before .before .before .before .before .loop .j) (c .before .before .before .pair-at .result .first) (c .before .before .before .pair-at .result .second) (c .before .before .before .before .before .loop .inv .1) (omega arith) (c .before .before .before .pair-at .ensures .first-is) (c .before .before .before .pair-at .ensures .second-is) (c .before .led .last .1 .1 .1 .0) (c .before .led .result) (c .before .led .ensures) (not-false _ (c .if1 .left)) (omega arith))
+    let a = c .before .before .before .before .before .before .before .before .before .args in
+    let l = c .before .before .before .before .before .before .before .before .loop in (
+      omega arith,
+      leading-next (a .step .now) (a .c) (a .target .now) (a .racks .now) (c .before .before .before .before .before .before .before .before .before .pre .1) (l .marks) (l .j) _ _ (l .inv .1) (entries-at (a .step .now) (a .c) (l .j) _ _ (omega arith) (c .before .before .before .before .before .left-by .ensures) (c .before .before .before .entered-by .ensures))
+          (c .before .led .last .1 .1 .1 .0) (c .before .led .result) (c .before .led .ensures) (not-false _ (c .if1 .left)) (omega arith),
+    )
 
 returns-2 : tie.Need-returns-2 Inv-loop μ-loop
 returns-2 c =
-    leading-last (c .before .before .before .args .moves .now) (c .before .before .before .args .c) (c .before .before .before .args .target .now) (c .before .before .before .args .racks .now) (c .before .loop .marks) (c .before .loop .j) (c .before .loop .inv .1) (omega arith)
+    let a = c .before .before .args in
+    let l = c .before .loop in
+    leading-last (a .step .now) (a .c) (a .target .now) (a .racks .now) (l .marks) (l .j) (l .inv .1) (omega arith)
 
 pub all-led-spec : {M : Type 1} → statement M
 all-led-spec =
@@ -52,7 +79,12 @@ all-led-spec =
     Inv-loop
     μ-loop
     loop-holds
-    pair-at-requires
+    mul-left-by
+    element-copy-out-left-by
+    left-by-requires
+    mul-entered-by
+    element-copy-out-entered-by
+    entered-by-requires
     led-requires
     returns
     array-write-marks

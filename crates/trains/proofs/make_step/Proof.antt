@@ -2,8 +2,8 @@
 use mathlib.Core.Path.{ap, _∙_}
 use mathlib.Core.List.{List}
 use Prim.Native.Nat.{ℕ}
-use Rattle.field.specs.Bits.{pairs}
 use Rattle.trains.specs.StepOn.{putDown, stepOn}
+use Rattle.trains.specs.Chains.{entries}
 use borrow.Author.Needs.{needs}
 use Rattle.trains.proofs.make_step.Statement.{statement}
 use Rattle.trains.proofs.make_step.Tie as tie
@@ -17,8 +17,8 @@ put-down-requires c κs = search needs
 returns : tie.Need-returns
 unfolding stepOn
 returns c =
-    let s = c .before .before .before .before .before .before .before in
-    c .put-down .ensures ∙ ap (λ (h : List ℕ). putDown (s .args .racks .now) h (pairs (s .args .moves .now) 0 (s .args .c))) (c .before .before .before .take-up .ensures)
+    let s = c .before .before .before .before .before .before in
+    c .put-down .ensures ∙ ap (λ (h : List ℕ). putDown (s .args .racks .now) h (entries (s .args .step .now) 0 (s .args .c))) (c .before .before .before .take-up .ensures)
 
 pub make-step-spec : {M : Type 1} → statement M
 make-step-spec = tie.close (tie.spec take-up-requires put-down-requires returns)

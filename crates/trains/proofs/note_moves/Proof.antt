@@ -6,22 +6,27 @@ use Rattle.trains.proofs.note_moves.Statement.{statement}
 use Rattle.trains.proofs.note_moves.Tie as tie
 
 abbrev Inv-loop : tie.InvT-loop
-Inv-loop moves c matrix racks target₀ entered₀ lowest₀ j₀ target entered lowest j =
-    (j ≤ c) × (lowest ≤ 64) × Noting matrix racks moves c target₀ lowest entered target j
+Inv-loop moves c matrix racks target₀ step₀ entered₀ lowest₀ j₀ target step entered lowest j = (j ≤ c) × (lowest ≤ 64) × Noting matrix racks moves c target₀ lowest entered target step j
 
 abbrev μ-loop : tie.MeasureT-loop
-μ-loop moves c matrix racks target₀ entered₀ lowest₀ j₀ target entered lowest j = c - j
+μ-loop moves c matrix racks target₀ step₀ entered₀ lowest₀ j₀ target step entered lowest j = c - j
 
 loop-holds : tie.Need-loop-holds Inv-loop μ-loop
 loop-holds c =
-    (omega arith, omega arith, noting-first (c .before .args .matrix .now) (c .before .args .racks .now) (c .before .args .moves .now) (c .before .args .c) (c .before .args .target .now))
+    let s = c .before in
+    let a = s .args in
+    (omega arith, omega arith, noting-first (a .matrix .now) (a .racks .now) (a .moves .now) (a .c) (a .target .now) (a .step .now) (s .pre .1))
 
 pair-at-requires : tie.Need-pair-at-requires Inv-loop μ-loop
 pair-at-requires c κs = omega arith
 
 returns : tie.Need-returns Inv-loop μ-loop
 returns c =
-    not-ascending (c .before .before .before .before .before .args .matrix .now) (c .before .before .before .before .before .args .racks .now) (c .before .before .before .before .before .args .moves .now) (c .before .before .before .before .before .args .c) (c .before .before .before .before .before .args .target .now) (c .before .before .before .loop .lowest) (c .before .before .before .loop .entered) (c .before .before .before .loop .target) (c .before .before .before .loop .j) (c .before .pair-at .result .first) (c .before .pair-at .result .second) (c .before .before .before .loop .inv .2) (omega arith) (c .before .pair-at .ensures .first-is) (c .before .pair-at .ensures .second-is) (omega arith)
+    let a = c .before .before .before .before .before .args in
+    let l = c .before .before .before .loop in
+    let p = c .before .pair-at in
+    not-ascending (a .matrix .now) (a .racks .now) (a .moves .now) (a .c) (a .target .now) (l .lowest) (l .entered) (l .target) (l .step) (l .j) (p .result .first) (p .result .second)
+    (l .inv .2) (omega arith) (p .ensures .first-is) (p .ensures .second-is) (omega arith)
 
 mul-if2 : tie.Need-mul-if2 Inv-loop μ-loop
 mul-if2 c = omega arith
@@ -34,21 +39,33 @@ element-copy-out-if2 c = omega arith
 
 returns-2 : tie.Need-returns-2 Inv-loop μ-loop
 returns-2 c =
-    no-edge (c .before .before .before .before .before .before .before .args .matrix .now) (c .before .before .before .before .before .before .before .args .racks .now) (c .before .before .before .before .before .before .before .args .moves .now) (c .before .before .before .before .before .before .before .args .c) (c .before .before .before .before .before .before .before .args .target .now) (c .before .before .before .before .before .loop .lowest) (c .before .before .before .before .before .loop .entered) (c .before .before .before .before .before .loop .target) (c .before .before .before .before .before .loop .j) (c .before .before .before .pair-at .result .first) (c .before .before .before .pair-at .result .second) (c .before .before .before .before .before .loop .inv .2) (omega arith) (c .before .before .before .pair-at .ensures .first-is) (c .before .before .before .pair-at .ensures .second-is) (c .if2 .taken)
+    let a = c .before .before .before .before .before .before .before .args in
+    let l = c .before .before .before .before .before .loop in
+    let p = c .before .before .before .pair-at in
+    no-edge (a .matrix .now) (a .racks .now) (a .moves .now) (a .c) (a .target .now) (l .lowest) (l .entered) (l .target) (l .step) (l .j) (p .result .first) (p .result .second)
+    (l .inv .2) (omega arith) (p .ensures .first-is) (p .ensures .second-is) (c .if2 .taken)
 
 element-copy-out-if3 : tie.Need-element-copy-out-if3 Inv-loop μ-loop
 element-copy-out-if3 c = omega arith
 
 returns-3 : tie.Need-returns-3 Inv-loop μ-loop
 returns-3 c =
-    no-rack (c .before .before .before .before .before .before .before .before .before .args .matrix .now) (c .before .before .before .before .before .before .before .before .before .args .racks .now) (c .before .before .before .before .before .before .before .before .before .args .moves .now) (c .before .before .before .before .before .before .before .before .before .args .c) (c .before .before .before .before .before .before .before .before .before .args .target .now) (c .before .before .before .before .before .before .before .loop .lowest) (c .before .before .before .before .before .before .before .loop .entered) (c .before .before .before .before .before .before .before .loop .target) (c .before .before .before .before .before .before .before .loop .j) (c .before .before .before .before .before .pair-at .result .first) (c .before .before .before .before .before .pair-at .result .second) (c .before .before .before .before .before .before .before .loop .inv .2) (omega arith) (c .before .before .before .before .before .pair-at .ensures .first-is) (c .before .before .before .before .before .pair-at .ensures .second-is) (c .if3 .taken)
+    let a = c .before .before .before .before .before .before .before .before .before .args in
+    let l = c .before .before .before .before .before .before .before .loop in
+    let p = c .before .before .before .before .before .pair-at in
+    no-rack (a .matrix .now) (a .racks .now) (a .moves .now) (a .c) (a .target .now) (l .lowest) (l .entered) (l .target) (l .step) (l .j) (p .result .first) (p .result .second)
+    (l .inv .2) (omega arith) (p .ensures .first-is) (p .ensures .second-is) (c .if3 .taken)
 
 array-read-if4 : tie.Need-array-read-if4 Inv-loop μ-loop
 array-read-if4 c = omega arith
 
 returns-4 : tie.Need-returns-4 Inv-loop μ-loop
 returns-4 c =
-    entered-twice (c .before .before .before .before .before .before .before .before .before .before .args .matrix .now) (c .before .before .before .before .before .before .before .before .before .before .args .racks .now) (c .before .before .before .before .before .before .before .before .before .before .args .moves .now) (c .before .before .before .before .before .before .before .before .before .before .args .c) (c .before .before .before .before .before .before .before .before .before .before .args .target .now) (c .before .before .before .before .before .before .before .before .loop .lowest) (c .before .before .before .before .before .before .before .before .loop .entered) (c .before .before .before .before .before .before .before .before .loop .target) (c .before .before .before .before .before .before .before .before .loop .j) (c .before .before .before .before .before .before .pair-at .result .first) (c .before .before .before .before .before .before .pair-at .result .second) (c .before .before .before .before .before .before .before .before .loop .inv .2) (omega arith) (c .before .before .before .before .before .before .pair-at .ensures .first-is) (c .before .before .before .before .before .before .pair-at .ensures .second-is) (c .if4 .taken)
+    let a = c .before .before .before .before .before .before .before .before .before .before .args in
+    let l = c .before .before .before .before .before .before .before .before .loop in
+    let p = c .before .before .before .before .before .before .pair-at in
+    entered-twice (a .matrix .now) (a .racks .now) (a .moves .now) (a .c) (a .target .now) (l .lowest) (l .entered) (l .target) (l .step) (l .j) (p .result .first) (p .result .second)
+    (l .inv .2) (omega arith) (p .ensures .first-is) (p .ensures .second-is) (c .if4 .taken)
 
 array-write-entered : tie.Need-array-write-entered Inv-loop μ-loop
 array-write-entered c = omega arith
@@ -62,6 +79,21 @@ cast-target c = omega arith
 element-write-target : tie.Need-element-write-target Inv-loop μ-loop
 element-write-target c = omega arith
 
+mul-step : tie.Need-mul-step Inv-loop μ-loop
+mul-step c = omega arith
+
+add-step : tie.Need-add-step Inv-loop μ-loop
+add-step c = omega arith
+
+cast-step : tie.Need-cast-step Inv-loop μ-loop
+cast-step c = omega arith
+
+mul-step-2 : tie.Need-mul-step-2 Inv-loop μ-loop
+mul-step-2 c = let low = c .before .before .before .before .before .before .before .before .loop .inv .2 .low in omega arith
+
+element-write-step : tie.Need-element-write-step Inv-loop μ-loop
+element-write-step c = let low = c .before .before .before .before .before .before .before .before .loop .inv .2 .low in omega arith
+
 add-lowest : tie.Need-add-lowest Inv-loop μ-loop
 add-lowest c = omega arith
 
@@ -73,11 +105,20 @@ loop-less c = omega arith
 
 loop-again : tie.Need-loop-again Inv-loop μ-loop
 loop-again c =
-    (omega arith, omega arith, noting-next (c .before .before .before .before .before .before .before .before .before .before .args .matrix .now) (c .before .before .before .before .before .before .before .before .before .before .args .racks .now) (c .before .before .before .before .before .before .before .before .before .before .args .moves .now) (c .before .before .before .before .before .before .before .before .before .before .args .c) (c .before .before .before .before .before .before .before .before .before .before .args .target .now) (c .before .before .before .before .before .before .before .before .loop .lowest) (c .before .before .before .before .before .before .before .before .loop .entered) (c .before .before .before .before .before .before .before .before .loop .target) (c .before .before .before .before .before .before .before .before .loop .j) (c .before .before .before .before .before .before .pair-at .result .first) (c .before .before .before .before .before .before .pair-at .result .second) (c .before .before .before .before .before .before .before .before .loop .inv .2) (omega arith) (c .before .before .before .before .before .before .pair-at .ensures .first-is) (c .before .before .before .before .before .before .pair-at .ensures .second-is) (omega arith) (c .before .before .before .if2 .left) (c .before .if3 .left) (c .if4 .left))
+    let a = c .before .before .before .before .before .before .before .before .before .before .args in
+    let l = c .before .before .before .before .before .before .before .before .loop in
+    let p = c .before .before .before .before .before .before .pair-at in (
+      omega arith,
+      omega arith,
+      noting-next (a .matrix .now) (a .racks .now) (a .moves .now) (a .c) (a .target .now) (l .lowest) (l .entered) (l .target) (l .step) (l .j) (p .result .first) (p .result .second)
+          (l .inv .2) (omega arith) (p .ensures .first-is) (p .ensures .second-is) (omega arith) (omega arith) (c .before .before .before .if2 .left) (c .before .if3 .left) (c .if4 .left),
+    )
 
 returns-5 : tie.Need-returns-5 Inv-loop μ-loop
 returns-5 c =
-    noting-last (c .before .before .before .args .matrix .now) (c .before .before .before .args .racks .now) (c .before .before .before .args .moves .now) (c .before .before .before .args .c) (c .before .before .before .args .target .now) (c .before .loop .lowest) (c .before .loop .entered) (c .before .loop .target) (c .before .loop .j) (c .before .loop .inv .2) (omega arith)
+    let a = c .before .before .before .args in
+    let l = c .before .loop in
+    noting-last (a .matrix .now) (a .racks .now) (a .moves .now) (a .c) (a .target .now) (l .lowest) (l .entered) (l .target) (l .step) (l .j) (l .inv .2) (omega arith) (l .inv .0) (l .inv .1)
 
 pub note-moves-spec : {M : Type 1} → statement M
 note-moves-spec =
@@ -100,6 +141,11 @@ note-moves-spec =
     add-target
     cast-target
     element-write-target
+    mul-step
+    add-step
+    cast-step
+    mul-step-2
+    element-write-step
     add-lowest
     add-j
     loop-less

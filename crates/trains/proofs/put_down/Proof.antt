@@ -2,24 +2,38 @@
 use Prim.Native.Nat.{_≤_, _-_}
 use mathlib.Core.Path.{refl}
 use native.Mathlib.Omega.{arith}
-use lib.ListN.{getD, set}
 use Rattle.trains.specs.StepOn.{putDown}
-use Rattle.trains.proofs.Moves.{Left, left-first, left-next, left-last}
+use Rattle.trains.specs.Chains.{entries}
+use Rattle.trains.proofs.Moves.{Left, left-first, left-next, left-last, entriesFrom, entries-first, entries-at, entries-last}
 use Rattle.trains.proofs.put_down.Statement.{statement}
 use Rattle.trains.proofs.put_down.Tie as tie
 
 abbrev Inv-loop : tie.InvT-loop
-Inv-loop moves c before racks₀ j₀ racks j = (j ≤ c) × Left (putDown before) moves c racks₀ racks j
+Inv-loop step c before racks₀ j₀ racks j = (j ≤ c) × Left (putDown before) (entriesFrom step c) (entries step 0 c) racks₀ racks j
 
 abbrev μ-loop : tie.MeasureT-loop
-μ-loop moves c before racks₀ j₀ racks j = c - j
+μ-loop step c before racks₀ j₀ racks j = c - j
 
 loop-holds : tie.Need-loop-holds Inv-loop μ-loop
-loop-holds c =
-    (omega arith, left-first (putDown (c .before .args .before .now)) (c .before .args .moves .now) (c .before .args .c) (c .before .args .racks .now))
+loop-holds c = let a = c .args in (omega arith, left-first (putDown (a .before .now)) (entriesFrom (a .step .now) (a .c)) (entries (a .step .now) 0 (a .c)) (a .racks .now) (entries-first (a .step .now) (a .c)))
 
-pair-at-requires : tie.Need-pair-at-requires Inv-loop μ-loop
-pair-at-requires c κs = omega arith
+mul-left-by : tie.Need-mul-left-by Inv-loop μ-loop
+mul-left-by c = omega arith
+
+element-copy-out-left-by : tie.Need-element-copy-out-left-by Inv-loop μ-loop
+element-copy-out-left-by c = omega arith
+
+left-by-requires : tie.Need-left-by-requires Inv-loop μ-loop
+left-by-requires c κs = tt
+
+mul-entered-by : tie.Need-mul-entered-by Inv-loop μ-loop
+mul-entered-by c = omega arith
+
+element-copy-out-entered-by : tie.Need-element-copy-out-entered-by Inv-loop μ-loop
+element-copy-out-entered-by c = omega arith
+
+entered-by-requires : tie.Need-entered-by-requires Inv-loop μ-loop
+entered-by-requires c κs = tt
 
 element-copy-out-racks : tie.Need-element-copy-out-racks Inv-loop μ-loop
 element-copy-out-racks c = omega arith
@@ -35,12 +49,17 @@ loop-less c = omega arith
 
 loop-again : tie.Need-loop-again Inv-loop μ-loop
 unfolding putDown
-loop-again c = (omega arith, left-next (putDown (c .before .before .before .before .before .args .before .now)) (c .before .before .before .before .before .args .moves .now) (c .before .before .before .before .before .args .c) (c .before .before .before .before .before .args .racks .now) (c .before .before .before .loop .racks) (c .before .before .before .loop .j) (c .before .pair-at .result .first) (c .before .pair-at .result .second) (c .before .before .before .loop .inv .1) (omega arith) (c .before .pair-at .ensures .first-is) (c .before .pair-at .ensures .second-is) (set (c .before .before .before .loop .racks) (c .before .pair-at .result .second) (getD (c .before .before .before .before .before .args .before .now) (c .before .pair-at .result .first) 0)) (λ ms. refl))
+loop-again c =
+    let a = c .before .before .before .before .before .before .before .args in
+    let l = c .before .before .before .before .before .before .loop in
+    (omega arith, left-next (putDown (a .before .now)) (entriesFrom (a .step .now) (a .c)) (entries (a .step .now) 0 (a .c)) (a .racks .now) (l .racks) (l .j) _ _ (l .inv .1) (entries-at (a .step .now) (a .c) (l .j) _ _ (omega arith) (c .before .before .before .left-by .ensures) (c .before .entered-by .ensures)) _ (λ ms. refl))
 
 returns : tie.Need-returns Inv-loop μ-loop
 unfolding putDown
 returns c =
-    left-last (putDown (c .before .before .before .args .before .now)) (c .before .before .before .args .moves .now) (c .before .before .before .args .c) (c .before .before .before .args .racks .now) (c .before .loop .racks) (c .before .loop .j) (c .before .loop .inv .1) (omega arith)
+    let a = c .before .before .args in
+    let l = c .before .loop in
+    left-last (putDown (a .before .now)) (entriesFrom (a .step .now) (a .c)) (entries (a .step .now) 0 (a .c)) (a .racks .now) (l .racks) (l .j) (l .inv .1) (entries-last (a .step .now) (a .c) (l .j) (omega arith))
 
 pub put-down-spec : {M : Type 1} → statement M
 put-down-spec =
@@ -49,7 +68,12 @@ put-down-spec =
     Inv-loop
     μ-loop
     loop-holds
-    pair-at-requires
+    mul-left-by
+    element-copy-out-left-by
+    left-by-requires
+    mul-entered-by
+    element-copy-out-entered-by
+    entered-by-requires
     element-copy-out-racks
     element-write-racks
     add-j

@@ -2,24 +2,29 @@
 use Prim.Native.Nat.{_≤_, _-_}
 use mathlib.Core.Path.{refl}
 use native.Mathlib.Omega.{arith}
-use lib.ListN.{set}
 use Rattle.trains.specs.StepOn.{takenUp}
-use Rattle.trains.proofs.Moves.{Left, left-first, left-next, left-last}
+use Rattle.trains.specs.Chains.{entries}
+use Rattle.trains.proofs.Moves.{Left, left-first, left-next, left-last, entriesFrom, entries-first, entries-at, entries-last}
 use Rattle.trains.proofs.take_up.Statement.{statement}
 use Rattle.trains.proofs.take_up.Tie as tie
 
 abbrev Inv-loop : tie.InvT-loop
-Inv-loop moves c racks₀ j₀ racks j = (j ≤ c) × Left takenUp moves c racks₀ racks j
+Inv-loop step c racks₀ j₀ racks j = (j ≤ c) × Left takenUp (entriesFrom step c) (entries step 0 c) racks₀ racks j
 
 abbrev μ-loop : tie.MeasureT-loop
-μ-loop moves c racks₀ j₀ racks j = c - j
+μ-loop step c racks₀ j₀ racks j = c - j
 
 loop-holds : tie.Need-loop-holds Inv-loop μ-loop
-loop-holds c =
-    (omega arith, left-first takenUp (c .before .args .moves .now) (c .before .args .c) (c .before .args .racks .now))
+loop-holds c = let a = c .args in (omega arith, left-first takenUp (entriesFrom (a .step .now) (a .c)) (entries (a .step .now) 0 (a .c)) (a .racks .now) (entries-first (a .step .now) (a .c)))
 
-pair-at-requires : tie.Need-pair-at-requires Inv-loop μ-loop
-pair-at-requires c κs = omega arith
+mul-left-by : tie.Need-mul-left-by Inv-loop μ-loop
+mul-left-by c = omega arith
+
+element-copy-out-left-by : tie.Need-element-copy-out-left-by Inv-loop μ-loop
+element-copy-out-left-by c = omega arith
+
+left-by-requires : tie.Need-left-by-requires Inv-loop μ-loop
+left-by-requires c κs = tt
 
 element-write-racks : tie.Need-element-write-racks Inv-loop μ-loop
 element-write-racks c = omega arith
@@ -33,12 +38,16 @@ loop-less c = omega arith
 loop-again : tie.Need-loop-again Inv-loop μ-loop
 unfolding takenUp
 loop-again c =
-    (omega arith, left-next takenUp (c .before .before .before .before .args .moves .now) (c .before .before .before .before .args .c) (c .before .before .before .before .args .racks .now) (c .before .before .loop .racks) (c .before .before .loop .j) (c .pair-at .result .first) (c .pair-at .result .second) (c .before .before .loop .inv .1) (omega arith) (c .pair-at .ensures .first-is) (c .pair-at .ensures .second-is) (set (c .before .before .loop .racks) (c .pair-at .result .first) 0) (λ ms. refl))
+    let a = c .before .before .before .before .args in
+    let l = c .before .before .before .loop in
+    (omega arith, left-next takenUp (entriesFrom (a .step .now) (a .c)) (entries (a .step .now) 0 (a .c)) (a .racks .now) (l .racks) (l .j) _ _ (l .inv .1) (entries-at (a .step .now) (a .c) (l .j) _ _ (omega arith) (c .left-by .ensures) refl) _ (λ ms. refl))
 
 returns : tie.Need-returns Inv-loop μ-loop
 unfolding takenUp
 returns c =
-    left-last takenUp (c .before .before .before .args .moves .now) (c .before .before .before .args .c) (c .before .before .before .args .racks .now) (c .before .loop .racks) (c .before .loop .j) (c .before .loop .inv .1) (omega arith)
+    let a = c .before .before .args in
+    let l = c .before .loop in
+    left-last takenUp (entriesFrom (a .step .now) (a .c)) (entries (a .step .now) 0 (a .c)) (a .racks .now) (l .racks) (l .j) (l .inv .1) (entries-last (a .step .now) (a .c) (l .j) (omega arith))
 
 pub take-up-spec : {M : Type 1} → statement M
 take-up-spec =
@@ -47,7 +56,9 @@ take-up-spec =
     Inv-loop
     μ-loop
     loop-holds
-    pair-at-requires
+    mul-left-by
+    element-copy-out-left-by
+    left-by-requires
     element-write-racks
     add-j
     loop-less
