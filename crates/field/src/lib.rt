@@ -2,7 +2,7 @@
 // specs/Bits.antt says what a field is; specs/BitLaws.antt reduces any field to bytes.
 ghost use mathlib.Core.Path.{_≡_};
 ghost use mathlib.Core.Bool.{not, false};
-ghost use Prim.Native.Nat.{_+_, _*_, _/_, _^_, _≤_, _<_};
+ghost use Prim.Native.Nat.{_+_, _*_, _/_, _%_, _^_, _≤_, _<_};
 ghost use lib.ListN.{length};
 ghost use Rattle.field.specs.Bits.{field, pad, PositionAt, PairAt};
 ghost use Rattle.field.specs.Packing.{putPair};
@@ -19,6 +19,20 @@ pub fn wide(b: u8) -> usize
     ensures { λ r. ⌜ (r ≡ b) × (r < 256) ⌝ }
 {
     b as usize
+}
+
+// The first position of a pair that is kept as one number, first * 64 + second.
+pub fn first_of(x: u16) -> usize
+    ensures { λ r. ⌜ r ≡ x / 64 % 64 ⌝ }
+{
+    x as usize / 64 % 64
+}
+
+// The second position of such a pair.
+pub fn second_of(x: u16) -> usize
+    ensures { λ r. ⌜ r ≡ x % 64 ⌝ }
+{
+    x as usize % 64
 }
 
 // The pair that stands j pairs after the first byte. Two pairs take three bytes.

@@ -1,26 +1,12 @@
 // One step of a timetable on tables: judged, and made if it is legal. specs/StepOn.antt says what that means; the laws of specs/
 // say that it is document 01's legal step. `run_step` is the entry point.
 ghost use mathlib.Core.Path.{_≡_};
-ghost use Prim.Native.Nat.{_*_, _/_, _%_, _≤_, _<_};
+ghost use Prim.Native.Nat.{_*_, _≤_, _<_};
 ghost use lib.ListN.{length};
 ghost use Rattle.field.specs.Bits.{pairs};
 ghost use Rattle.trains.specs.StepOn.{allLed, legalStepOn, takenUp, putDown, stepOn, ranOn};
 ghost use Rattle.tables.specs.Simulation.{Each};
 ghost use Rattle.trains.specs.Chains.{entries, NotedMoves, Targets, Taking, Chain, Followed};
-
-// The position that a move kept as one number leaves.
-fn left_by(x: u16) -> usize
-    ensures { λ r. ⌜ r ≡ x / 64 % 64 ⌝ }
-{
-    x as usize / 64 % 64
-}
-
-// The position that it enters.
-fn entered_by(x: u16) -> usize
-    ensures { λ r. ⌜ r ≡ x % 64 ⌝ }
-{
-    x as usize % 64
-}
 
 // Whether a step's c moves ascend by position left, run along edges, take racks along and enter no position twice. Notes for each
 // position left one more than the position entered, and each move as one number: the passes that follow read no bits again.
@@ -114,8 +100,8 @@ fn all_led(step: &[u16; 64], c: usize, target: &[u8; 64], racks: &[u8; 64]) -> b
     let mut marks = [0u8; 64];
     let mut j = 0;
     while j < c {
-        let a = left_by(step[j]);
-        let b = entered_by(step[j]);
+        let a = field::first_of(step[j]);
+        let b = field::second_of(step[j]);
         if !led(b, target, racks, &mut marks) {
             return false;
         }
@@ -132,7 +118,7 @@ fn take_up(step: &[u16; 64], c: usize, racks: &mut [u8; 64])
 {
     let mut j = 0;
     while j < c {
-        let a = left_by(step[j]);
+        let a = field::first_of(step[j]);
         racks[a] = 0;
         j += 1;
     }
@@ -145,8 +131,8 @@ fn put_down(step: &[u16; 64], c: usize, before: &[u8; 64], racks: &mut [u8; 64])
 {
     let mut j = 0;
     while j < c {
-        let a = left_by(step[j]);
-        let b = entered_by(step[j]);
+        let a = field::first_of(step[j]);
+        let b = field::second_of(step[j]);
         racks[b] = before[a];
         j += 1;
     }

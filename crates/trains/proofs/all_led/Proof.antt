@@ -17,23 +17,23 @@ abbrev μ-loop : tie.MeasureT-loop
 loop-holds : tie.Need-loop-holds Inv-loop μ-loop
 loop-holds c = let a = c .args in (omega arith, leading-first (a .step .now) (a .c) (a .target .now) (a .racks .now) (c .pre .2))
 
-mul-left-by : tie.Need-mul-left-by Inv-loop μ-loop
-mul-left-by c = omega arith
+mul-first-of : tie.Need-mul-first-of Inv-loop μ-loop
+mul-first-of c = omega arith
 
-element-copy-out-left-by : tie.Need-element-copy-out-left-by Inv-loop μ-loop
-element-copy-out-left-by c = omega arith
+element-copy-out-first-of : tie.Need-element-copy-out-first-of Inv-loop μ-loop
+element-copy-out-first-of c = omega arith
 
-left-by-requires : tie.Need-left-by-requires Inv-loop μ-loop
-left-by-requires c κs = tt
+first-of-requires : tie.Need-first-of-requires Inv-loop μ-loop
+first-of-requires c κs = tt
 
-mul-entered-by : tie.Need-mul-entered-by Inv-loop μ-loop
-mul-entered-by c = omega arith
+mul-second-of : tie.Need-mul-second-of Inv-loop μ-loop
+mul-second-of c = omega arith
 
-element-copy-out-entered-by : tie.Need-element-copy-out-entered-by Inv-loop μ-loop
-element-copy-out-entered-by c = omega arith
+element-copy-out-second-of : tie.Need-element-copy-out-second-of Inv-loop μ-loop
+element-copy-out-second-of c = omega arith
 
-entered-by-requires : tie.Need-entered-by-requires Inv-loop μ-loop
-entered-by-requires c κs = tt
+second-of-requires : tie.Need-second-of-requires Inv-loop μ-loop
+second-of-requires c κs = tt
 
 led-requires : tie.Need-led-requires Inv-loop μ-loop
 led-requires c κs =
@@ -45,7 +45,7 @@ returns : tie.Need-returns Inv-loop μ-loop
 returns c =
     let a = c .before .before .before .before .before .before .before .before .before .args in
     let l = c .before .before .before .before .before .before .before .before .loop in
-    not-led (a .step .now) (a .c) (a .target .now) (a .racks .now) (c .before .before .before .before .before .before .before .before .before .pre .1) (l .marks) (l .j) _ _ (l .inv .1) (entries-at (a .step .now) (a .c) (l .j) _ _ (omega arith) (c .before .before .before .before .before .left-by .ensures) (c .before .before .before .entered-by .ensures))
+    not-led (a .step .now) (a .c) (a .target .now) (a .racks .now) (c .before .before .before .before .before .before .before .before .before .pre .1) (l .marks) (l .j) _ _ (l .inv .1) (entries-at (a .step .now) (a .c) (l .j) _ _ (omega arith) (c .before .before .before .before .before .first-of .ensures) (c .before .before .before .second-of .ensures))
     (c .before .led .last .1 .1 .1 .0) (c .before .led .result) (c .before .led .ensures) (not-true _ (c .if1 .taken))
 
 array-write-marks : tie.Need-array-write-marks Inv-loop μ-loop
@@ -62,7 +62,7 @@ loop-again c =
     let a = c .before .before .before .before .before .before .before .before .before .args in
     let l = c .before .before .before .before .before .before .before .before .loop in (
       omega arith,
-      leading-next (a .step .now) (a .c) (a .target .now) (a .racks .now) (c .before .before .before .before .before .before .before .before .before .pre .1) (l .marks) (l .j) _ _ (l .inv .1) (entries-at (a .step .now) (a .c) (l .j) _ _ (omega arith) (c .before .before .before .before .before .left-by .ensures) (c .before .before .before .entered-by .ensures))
+      leading-next (a .step .now) (a .c) (a .target .now) (a .racks .now) (c .before .before .before .before .before .before .before .before .before .pre .1) (l .marks) (l .j) _ _ (l .inv .1) (entries-at (a .step .now) (a .c) (l .j) _ _ (omega arith) (c .before .before .before .before .before .first-of .ensures) (c .before .before .before .second-of .ensures))
           (c .before .led .last .1 .1 .1 .0) (c .before .led .result) (c .before .led .ensures) (not-false _ (c .if1 .left)) (omega arith),
     )
 
@@ -79,12 +79,12 @@ all-led-spec =
     Inv-loop
     μ-loop
     loop-holds
-    mul-left-by
-    element-copy-out-left-by
-    left-by-requires
-    mul-entered-by
-    element-copy-out-entered-by
-    entered-by-requires
+    mul-first-of
+    element-copy-out-first-of
+    first-of-requires
+    mul-second-of
+    element-copy-out-second-of
+    second-of-requires
     led-requires
     returns
     array-write-marks

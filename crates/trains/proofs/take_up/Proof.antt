@@ -17,14 +17,14 @@ abbrev μ-loop : tie.MeasureT-loop
 loop-holds : tie.Need-loop-holds Inv-loop μ-loop
 loop-holds c = let a = c .args in (omega arith, left-first takenUp (entriesFrom (a .step .now) (a .c)) (entries (a .step .now) 0 (a .c)) (a .racks .now) (entries-first (a .step .now) (a .c)))
 
-mul-left-by : tie.Need-mul-left-by Inv-loop μ-loop
-mul-left-by c = omega arith
+mul-first-of : tie.Need-mul-first-of Inv-loop μ-loop
+mul-first-of c = omega arith
 
-element-copy-out-left-by : tie.Need-element-copy-out-left-by Inv-loop μ-loop
-element-copy-out-left-by c = omega arith
+element-copy-out-first-of : tie.Need-element-copy-out-first-of Inv-loop μ-loop
+element-copy-out-first-of c = omega arith
 
-left-by-requires : tie.Need-left-by-requires Inv-loop μ-loop
-left-by-requires c κs = tt
+first-of-requires : tie.Need-first-of-requires Inv-loop μ-loop
+first-of-requires c κs = tt
 
 element-write-racks : tie.Need-element-write-racks Inv-loop μ-loop
 element-write-racks c = omega arith
@@ -40,7 +40,7 @@ unfolding takenUp
 loop-again c =
     let a = c .before .before .before .before .args in
     let l = c .before .before .before .loop in
-    (omega arith, left-next takenUp (entriesFrom (a .step .now) (a .c)) (entries (a .step .now) 0 (a .c)) (a .racks .now) (l .racks) (l .j) _ _ (l .inv .1) (entries-at (a .step .now) (a .c) (l .j) _ _ (omega arith) (c .left-by .ensures) refl) _ (λ ms. refl))
+    (omega arith, left-next takenUp (entriesFrom (a .step .now) (a .c)) (entries (a .step .now) 0 (a .c)) (a .racks .now) (l .racks) (l .j) _ _ (l .inv .1) (entries-at (a .step .now) (a .c) (l .j) _ _ (omega arith) (c .first-of .ensures) refl) _ (λ ms. refl))
 
 returns : tie.Need-returns Inv-loop μ-loop
 unfolding takenUp
@@ -56,9 +56,9 @@ take-up-spec =
     Inv-loop
     μ-loop
     loop-holds
-    mul-left-by
-    element-copy-out-left-by
-    left-by-requires
+    mul-first-of
+    element-copy-out-first-of
+    first-of-requires
     element-write-racks
     add-j
     loop-less

@@ -1,0 +1,56 @@
+-- What a function that moves racks leaves behind: the table of racks, the moves of real racks packed behind those that the plan has already, and every
+-- move in a log, from which it can be taken back. h, l and t are the table, the log and the plan's bytes behind its head; w and j count the moves
+-- in the plan and in the log.
+--
+--     row h                      the table as a function of the position
+--     Packed old ws t            the bytes t are the moves ws, packed, and behind them what stood there before in `old`
+--     onto ms past               the moves ms, the last of them first, and behind them `past`
+--     Trail l s j past           the log's entries from s up to j are the moves `past`, the last of them first
+--     Fits h l t w j c           there is room for c moves more
+--     Trip g m c h t w h′ t′ w′  at most c moves, each legal at its turn by the rows g, lead from h to h′; those of the racks up to m are packed into
+--                                the plan
+--     Journey g m c h l t w j h′ l′ t′ w′ j′    such a trip, with all of its moves logged
+-- Assumes nothing.
+use Prim.Native.Nat.{ℕ, _+_, _*_, _/_, _≤_, _<_}
+use mathlib.Core.Path.{_≡_}
+use mathlib.Core.List.{List, [], _∷_, _++_}
+use lib.ListN.{getD, length, drop}
+use Rattle.field.specs.Packing.{pack}
+use Rattle.graph.specs.Rows.{Edge}
+use Rattle.moving.specs.Went.{Went}
+
+abbrev pub row : List ℕ → ℕ → ℕ
+row h p = getD h p 0
+
+pub record Packed (old : List ℕ) (ws : List (ℕ × ℕ)) (t : List ℕ) : Type 0 where
+  pub is : t ≡ pack ws ++ drop (length (pack ws)) old
+
+unfoldable pub onto : List (ℕ × ℕ) → List (ℕ × ℕ) → List (ℕ × ℕ)
+onto [] past = past
+onto (m ∷ ms) past = onto ms (m ∷ past)
+
+pub data Trail (l : List ℕ) (s : ℕ) : ℕ → List (ℕ × ℕ) → Type 0 where
+  start : Trail l s s []
+  entry : {j a b : ℕ} {past : List (ℕ × ℕ)} → row l j ≡ a * 64 + b → a < 64 → b < 64 → Trail l s j past → Trail l s (j + 1) ((a, b) ∷ past)
+
+pub record Fits (h l t : List ℕ) (w j c : ℕ) : Type 0 where
+  pub racks : length h ≡ 64
+  pub log : length l ≡ 8192
+  pub logged : j + c ≤ 8192
+  pub room : (12 * (w + c) + 7) / 8 ≤ length t
+
+pub record Trip (g : List ℕ) (m c : ℕ) (h t : List ℕ) (w : ℕ) (h′ t′ : List ℕ) (w′ : ℕ) : Type 0 where
+  pub moves : List (ℕ × ℕ)
+  pub written : List (ℕ × ℕ)
+  pub went : Went (Edge g) m (row h) moves written (row h′)
+  pub few : length moves ≤ c
+  pub racks : length h′ ≡ length h
+  pub tail : length t′ ≡ length t
+  pub counted : w′ ≡ w + length written
+  pub packed : (old : List ℕ) (ws : List (ℕ × ℕ)) → w ≡ length ws → Packed old ws t → Packed old (ws ++ written) t′
+
+pub record Journey (g : List ℕ) (m c : ℕ) (h l t : List ℕ) (w j : ℕ) (h′ l′ t′ : List ℕ) (w′ j′ : ℕ) : Type 0 where
+  pub trip : Trip g m c h t w h′ t′ w′
+  pub log : length l′ ≡ length l
+  pub logged : j′ ≡ j + length (trip .moves)
+  pub trail : (s : ℕ) (past : List (ℕ × ℕ)) → s ≤ j → Trail l s j past → Trail l′ s j′ (onto (trip .moves) past)

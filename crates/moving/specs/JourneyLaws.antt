@@ -1,0 +1,255 @@
+-- Laws of journeys.
+--
+--     packed-next          one move more in the plan
+--     trail-next           one move more in the log
+--     onto-append          the moves ms and then ns, turned round
+--     went-written         no more moves are written than are made
+--     trip-none, journey-none      no move
+--     trip-append, journey-append  a trip or a journey, and then another
+--     trip-more, journey-more      a bound that is higher
+--     trip-written         a trip writes no more moves than its bound
+--     made, journey-stand-in, journey-real    one move: of a stand-in, which is logged; of a real rack, which is written too
+--     fits-then            where there is room for c and d moves, there is room for d after c of them
+--     fits-less            where there is room for c moves, there is room for fewer
+-- Assumes nothing.
+use Prim.Native.Nat.{ℕ, suc, _+_, _*_, _/_, _%_, _≤_, _<_}
+use mathlib.Core.Path.{_≡_, refl, sym, ap, subst, _∙_}
+use mathlib.Core.Bool.{Bool, true, false, cond}
+use mathlib.Core.List.{List, [], _∷_, _++_, append-assoc, append-nil}
+use mathlib.Core.Logic.{_≢_}
+use native.Mathlib.Omega.{arith}
+use lib.Dec.{eqb}
+use lib.ListN.{getD, length, set, drop, length-append, length-drop, length-set}
+use lib.Seq.{drop-drop, getD-set-same, getD-set-other}
+use Rattle.field.specs.Packing.{pack, length-pack, putPair, added, added-is, put-next}
+use Rattle.graph.specs.Rows.{Edge}
+use Rattle.moving.specs.Went.{Move, Went}
+use Rattle.moving.specs.Went.Went.{stay, real, stand-in}
+use Rattle.moving.specs.WentLaws.{same-refl, went-append}
+use Rattle.moving.specs.Journey.{row, Packed, onto, Trail, Fits, Trip, Journey}
+use Rattle.moving.specs.Journey.Trail.{start, entry}
+
+length-putPair : (t : List ℕ) (j a b : ℕ) → length (putPair t j a b) ≡ length t
+unfolding putPair
+length-putPair t j a b = by (eqb (j % 2) 0)
+  where
+    by : (x : Bool)
+        → length (cond x (set (set t (j / 2 * 3) (a * 4 + b / 16)) (j / 2 * 3 + 1) (b % 16 * 16))
+        (set (set t (j / 2 * 3 + 1) (getD t (j / 2 * 3 + 1) 0 / 16 * 16 + a / 4)) (j / 2 * 3 + 2) (a % 4 * 64 + b))) ≡ length t
+    by true = length-set (set t (j / 2 * 3) (a * 4 + b / 16)) (j / 2 * 3 + 1) (b % 16 * 16) ∙ length-set t (j / 2 * 3) (a * 4 + b / 16)
+    by false =
+        length-set (set t (j / 2 * 3 + 1) (getD t (j / 2 * 3 + 1) 0 / 16 * 16 + a / 4)) (j / 2 * 3 + 2) (a % 4 * 64 + b)
+        ∙ length-set t (j / 2 * 3 + 1) (getD t (j / 2 * 3 + 1) 0 / 16 * 16 + a / 4)
+
+packed-room : (old : List ℕ) (ws : List (ℕ × ℕ)) (t : List ℕ) → Packed old ws t → (12 * (length ws + 1) + 7) / 8 ≤ length t
+    → (12 * (length ws + 1) + 7) / 8 ≤ length old
+packed-room old ws t p room =
+    let n = ap length (p .is) ∙ length-append (pack ws) (drop (length (pack ws)) old) in
+    let d = length-drop (length (pack ws)) old in
+    let k = length-pack ws in
+    omega arith
+
+pub packed-next : (old : List ℕ) (ws : List (ℕ × ℕ)) (t : List ℕ) (a b : ℕ) → (12 * (length ws + 1) + 7) / 8 ≤ length old → Packed old ws t
+    → Packed old (ws ++ ((a, b) ∷ [])) (putPair t (length ws) a b)
+packed-next old ws t a b room p =
+    record {
+      is =
+          ap (λ (x : List ℕ). putPair x (length ws) a b) (p .is)
+          ∙ put-next ws (drop (length (pack ws)) old) a b fits
+          ∙ ap (λ (x : List ℕ). pack (ws ++ ((a, b) ∷ [])) ++ x) (drop-drop (added (length ws)) (length (pack ws)) old ∙ ap (λ (i : ℕ). drop i old) size);
+    }
+  where
+    more : (12 * length ws + 7) / 8 + added (length ws) ≡ (12 * (length ws + 1) + 7) / 8
+    more = added-is (length ws)
+
+    fits : added (length ws) ≤ length (drop (length (pack ws)) old)
+    fits = let e = length-pack ws in let f = length-drop (length (pack ws)) old in let m = more in omega arith
+
+    size : length (pack ws) + added (length ws) ≡ length (pack (ws ++ ((a, b) ∷ [])))
+    size =
+        let e = length-pack ws in
+        let f = length-pack (ws ++ ((a, b) ∷ [])) in
+        let n : length (ws ++ ((a, b) ∷ [])) ≡ length ws + 1 = length-append ws ((a, b) ∷ []) in
+        let q : (12 * length (ws ++ ((a, b) ∷ [])) + 7) / 8 ≡ (12 * (length ws + 1) + 7) / 8 = ap (λ (k : ℕ). (12 * k + 7) / 8) n in
+        let m = more in
+        omega arith
+
+trail-same : {l l′ : List ℕ} {s j : ℕ} {past : List (ℕ × ℕ)} → ((i : ℕ) → i < j → row l′ i ≡ row l i) → Trail l s j past → Trail l′ s j past
+trail-same same start = start
+trail-same same (entry {j = j} is x y t) = entry (same j (omega arith) ∙ is) x y (trail-same (λ i h. same i (omega arith)) t)
+
+pub trail-next : (l : List ℕ) (s j a b : ℕ) {past : List (ℕ × ℕ)} → a < 64 → b < 64 → j < length l → Trail l s j past
+    → Trail (set l j (a * 64 + b)) s (j + 1) ((a, b) ∷ past)
+trail-next l s j a b ha hb room t =
+    entry (getD-set-same l j (a * 64 + b) 0 room) ha hb (trail-same (λ i h. getD-set-other l j i (a * 64 + b) 0 (omega arith)) t)
+
+pub onto-append : (ms ns past : List (ℕ × ℕ)) → onto (ms ++ ns) past ≡ onto ns (onto ms past)
+unfolding onto
+onto-append [] ns past = refl
+onto-append (m ∷ ms) ns past = onto-append ms ns (m ∷ past)
+
+pub went-written : {E : ℕ → ℕ → Type 0} {m : ℕ} {h k : ℕ → ℕ} {ms ws : List (ℕ × ℕ)} → Went E m h ms ws k → length ws ≤ length ms
+went-written (stay s) = omega arith
+went-written (real x l w) = let r = went-written w in omega arith
+went-written (stand-in x l w) = let r = went-written w in omega arith
+
+module _ {g : List ℕ} {m : ℕ} where
+  pub trip-none : (h t : List ℕ) (w : ℕ) → Trip g m 0 h t w h t w
+  trip-none h t w =
+      record {
+        moves = [];
+        written = [];
+        went = stay (same-refl (row h));
+        few = omega arith;
+        racks = refl;
+        tail = refl;
+        counted = omega arith;
+        packed = λ old ws e p. subst (λ (v : List (ℕ × ℕ)). Packed old v t) (sym (append-nil ws)) p;
+      }
+
+  pub journey-none : (h l t : List ℕ) (w j : ℕ) → Journey g m 0 h l t w j h l t w j
+  unfolding onto trip-none
+  journey-none h l t w j = record { trip = trip-none h t w; log = refl; logged = omega arith; trail = λ s past le x. x }
+
+  pub trip-more : {c : ℕ} {h t h′ t′ : List ℕ} {w w′ : ℕ} (d : ℕ) → c ≤ d → Trip g m c h t w h′ t′ w′ → Trip g m d h t w h′ t′ w′
+  trip-more d le a =
+      record {
+        moves = a .moves;
+        written = a .written;
+        went = a .went;
+        few = (let f = a .few in omega arith);
+        racks = a .racks;
+        tail = a .tail;
+        counted = a .counted;
+        packed = a .packed;
+      }
+
+  pub journey-more : {c : ℕ} {h l t h′ l′ t′ : List ℕ} {w j w′ j′ : ℕ} (d : ℕ) → c ≤ d → Journey g m c h l t w j h′ l′ t′ w′ j′
+      → Journey g m d h l t w j h′ l′ t′ w′ j′
+  unfolding trip-more
+  journey-more d le a = record { trip = trip-more d le (a .trip); log = a .log; logged = a .logged; trail = a .trail }
+
+  pub trip-append : {c d : ℕ} {h t h′ t′ h″ t″ : List ℕ} {w w′ w″ : ℕ} → Trip g m c h t w h′ t′ w′ → Trip g m d h′ t′ w′ h″ t″ w″ → Trip g m (c + d) h t w h″ t″ w″
+  trip-append {c} {d} {h} {t} {h′} {t′} {h″} {t″} {w} {w′} {w″} a b =
+      record {
+        moves = a .moves ++ b .moves;
+        written = a .written ++ b .written;
+        went = went-append (a .went) (b .went);
+        few = (let n = length-append (a .moves) (b .moves) in let x = a .few in let y = b .few in omega arith);
+        racks = b .racks ∙ a .racks;
+        tail = b .tail ∙ a .tail;
+        counted = (let n = length-append (a .written) (b .written) in let x = a .counted in let y = b .counted in omega arith);
+        packed = λ old ws e p.
+            let n = length-append ws (a .written) in
+            let x = a .counted in
+            subst (λ (v : List (ℕ × ℕ)). Packed old v t″) (append-assoc ws (a .written) (b .written))
+            (b .packed old (ws ++ a .written) (omega arith) (a .packed old ws e p));
+      }
+
+  pub journey-append : {c d : ℕ} {h l t h′ l′ t′ h″ l″ t″ : List ℕ} {w j w′ j′ w″ j″ : ℕ}
+      → Journey g m c h l t w j h′ l′ t′ w′ j′ → Journey g m d h′ l′ t′ w′ j′ h″ l″ t″ w″ j″
+      → Journey g m (c + d) h l t w j h″ l″ t″ w″ j″
+  unfolding trip-append
+  journey-append {l″ = l″} {j = j} {j″ = j″} a b =
+      let ms = a .trip .moves in
+      let ns = b .trip .moves in
+      record {
+        trip = trip-append (a .trip) (b .trip);
+        log = b .log ∙ a .log;
+        logged = (let n = length-append ms ns in let x = a .logged in let y = b .logged in omega arith);
+        trail = λ s past le x.
+            subst (Trail l″ s j″) (sym (onto-append ms ns past))
+            (b .trail s (onto ms past) (let y = a .logged in omega arith) (a .trail s past le x));
+      }
+
+  -- a trip writes no more moves than it makes
+  pub trip-written : {c : ℕ} {h t h′ t′ : List ℕ} {w w′ : ℕ} → Trip g m c h t w h′ t′ w′ → w′ ≤ w + c
+  trip-written a = let n = went-written (a .went) in let f = a .few in let e = a .counted in omega arith
+
+  pub fits-then : {c d : ℕ} {h l t h′ l′ t′ : List ℕ} {w j w′ j′ : ℕ} → Fits h l t w j (c + d) → Journey g m c h l t w j h′ l′ t′ w′ j′ → Fits h′ l′ t′ w′ j′ d
+  fits-then {c} {d} {w = w} {w′ = w′} f a =
+      let few = a .trip .few in
+      let logged = a .logged in
+      let written = trip-written (a .trip) in
+      let room = f .room in
+      let tail = a .trip .tail in
+      let log = f .logged in
+      record {
+        racks = a .trip .racks ∙ f .racks;
+        log = a .log ∙ f .log;
+        logged = omega arith;
+        room = omega arith;
+      }
+
+pub fits-less : {c : ℕ} {h l t : List ℕ} {w j : ℕ} (d : ℕ) → d ≤ c → Fits h l t w j c → Fits h l t w j d
+fits-less d le f =
+    let room = f .room in
+    let log = f .logged in
+    record { racks = f .racks; log = f .log; logged = omega arith; room = omega arith }
+
+-- The table after a move, as it is written.
+abbrev pub made : List ℕ → ℕ → ℕ → List ℕ
+made h a b = set (set h b (row h a)) a 0
+
+module _ (h : List ℕ) (a b : ℕ) (long : length h ≡ 64) (ha : a < 64) (hb : b < 64) (held : row h a ≢ 0) (vacant : row h b ≡ 0) where
+  differ : a ≢ b
+  differ e = held (ap (row h) e ∙ vacant)
+
+  pub made-left : row (made h a b) a ≡ 0
+  made-left = getD-set-same (set h b (row h a)) a 0 0 (let n = length-set h b (row h a) in omega arith)
+
+  pub made-entered : row (made h a b) b ≡ row h a
+  made-entered = getD-set-other (set h b (row h a)) a b 0 0 (λ e. differ (sym e)) ∙ getD-set-same h b (row h a) 0 (omega arith)
+
+  pub made-others : (p : ℕ) → p ≢ a → p ≢ b → row (made h a b) p ≡ row h p
+  made-others p x y = getD-set-other (set h b (row h a)) a p 0 0 x ∙ getD-set-other h b p (row h a) 0 y
+
+  module _ (g : List ℕ) (edge : Edge g a b) where
+    made-move : Move (Edge g) (row h) a b (row (made h a b))
+    made-move = record { edge = edge; held = held; vacant = vacant; entered = made-entered; left = made-left; others = made-others }
+
+    module _ (m : ℕ) (l t : List ℕ) (w j : ℕ) (fits : Fits h l t w j 1) where
+      logged-one : (s : ℕ) (past : List (ℕ × ℕ)) → s ≤ j → Trail l s j past → Trail (set l j (a * 64 + b)) s (j + 1) (onto ((a, b) ∷ []) past)
+      unfolding onto
+      logged-one s past le x = trail-next l s j a b ha hb (let n = fits .log in let r = fits .logged in omega arith) x
+
+      long-made : length (made h a b) ≡ length h
+      long-made = length-set (set h b (row h a)) a 0 ∙ length-set h b (row h a)
+
+      pub journey-stand-in : m < row h a → Journey g m 1 h l t w j (made h a b) (set l j (a * 64 + b)) t w (j + 1)
+      journey-stand-in above =
+          record {
+            trip = record {
+              moves = (a, b) ∷ [];
+              written = [];
+              went = stand-in made-move above (stay (same-refl (row (made h a b))));
+              few = omega arith;
+              racks = long-made;
+              tail = refl;
+              counted = omega arith;
+              packed = λ old ws e p. subst (λ (v : List (ℕ × ℕ)). Packed old v t) (sym (append-nil ws)) p;
+            };
+            log = length-set l j (a * 64 + b);
+            logged = refl;
+            trail = logged-one;
+          }
+
+      pub journey-real : row h a ≤ m → Journey g m 1 h l t w j (made h a b) (set l j (a * 64 + b)) (putPair t w a b) (w + 1) (j + 1)
+      journey-real below =
+          record {
+            trip = record {
+              moves = (a, b) ∷ [];
+              written = (a, b) ∷ [];
+              went = real made-move below (stay (same-refl (row (made h a b))));
+              few = omega arith;
+              racks = long-made;
+              tail = length-putPair t w a b;
+              counted = refl;
+              packed = λ old ws e p.
+                  subst (λ (i : ℕ). Packed old (ws ++ ((a, b) ∷ [])) (putPair t i a b)) (sym e)
+                  (packed-next old ws t a b (packed-room old ws t p (let r = fits .room in omega arith)) p);
+            };
+            log = length-set l j (a * 64 + b);
+            logged = refl;
+            trail = logged-one;
+          }

@@ -1,0 +1,5 @@
+pub mod Went
+pub mod WentLaws
+pub mod Journey
+pub mod JourneyLaws
+pub mod Turned

@@ -1,0 +1,122 @@
+// Racks on the move: one move, a position cleared, a rack brought to a position, a cycle turned by one place, and a log taken back. Each move of a real
+// rack is packed into the plan as it is made, and every move is logged. specs/Journey.antt says what that means.
+ghost use mathlib.Core.Logic.{_≢_};
+ghost use mathlib.Core.Path.{_≡_};
+ghost use mathlib.Core.List.{List};
+ghost use Prim.Native.Nat.{ℕ, _+_, _-_, _≤_, _<_};
+ghost use lib.ListN.{length};
+ghost use Rattle.graph.specs.Rows.{Edge};
+ghost use Rattle.moving.specs.Went.{Same};
+ghost use Rattle.moving.specs.Journey.{row, Fits, Trip, Journey};
+ghost use Rattle.moving.specs.Turned.{Turned, Undoing};
+
+// How many moves the plan has, and how many the log.
+pub struct Tally {
+    pub written: usize,
+    pub logged: usize,
+}
+
+// Moves the rack at a to b. A rack above `real` is a stand-in.
+pub fn make_move(
+    a: usize,
+    b: usize,
+    real: usize,
+    racks: &mut [u8; 64],
+    log: &mut [u16; 8192],
+    tail: &mut [u8],
+    tally: Tally,
+) -> Tally
+    requires { ⌜ (a < 64) × (b < 64) × (row (now racks) a ≢ 0) × (row (now racks) b ≡ 0) ⌝ ∗ ⌜ Fits (now racks) (now log) (now tail) (tally .written) (tally .logged) 1 ⌝ }
+    ensures { λ r. ⌜ ((g : List ℕ) → Edge g a b → Journey g real 1 (now (racks .entry)) (now (log .entry)) (now (tail .entry)) (tally .written) (tally .logged) (now (racks .exit)) (now (log .exit)) (now (tail .exit)) (r .written) (r .logged)) ⌝ ∗ ⌜ ((p : ℕ) → p ≢ a → p ≢ b → row (now (racks .exit)) p ≡ row (now (racks .entry)) p) × (row (now (racks .exit)) a ≡ 0) × (row (now (racks .exit)) b ≡ row (now (racks .entry)) a) ⌝ }
+{
+    let rack = racks[a];
+    racks[b] = rack;
+    racks[a] = 0;
+    let logged = tally.logged;
+    log[logged] = (a * 64 + b) as u16;
+    let written = tally.written;
+    if real < field::wide(rack) {
+        return Tally {
+            written,
+            logged: logged + 1,
+        };
+    }
+    field::put_pair(tail, written, a, b);
+    Tally {
+        written: written + 1,
+        logged: logged + 1,
+    }
+}
+
+// A place of the cycle that is vacant.
+fn vacancy_on(cycle: &[u8; 64], size: usize, racks: &[u8; 64]) -> usize
+    requires { ⌜ (size ≤ 64) × ((i : ℕ) → i < size → row (now cycle) i < 64) × ((i : ℕ) × (i < size) × (row (now racks) (row (now cycle) i) ≡ 0)) ⌝ }
+    ensures { λ r. ⌜ (r < size) × (row (now (racks .entry)) (row (now (cycle .entry)) r) ≡ 0) ⌝ }
+{
+    let mut i: usize = 0;
+    while i + 1 < size {
+        let p = cycle[i] as usize;
+        if racks[p] == 0 {
+            return i;
+        }
+        i += 1;
+    }
+    i
+}
+
+// Turns a cycle by one place: from a vacancy on, the rack before it moves into it, then the one before that, and so on round. A vacant place is passed
+// over.
+pub fn turn(
+    cycle: &[u8; 64],
+    size: usize,
+    real: usize,
+    racks: &mut [u8; 64],
+    log: &mut [u16; 8192],
+    tail: &mut [u8],
+    tally: Tally,
+) -> Tally
+    requires { ⌜ (size ≤ 64) × ((i : ℕ) → i < size → row (now cycle) i < 64) × ((i j : ℕ) → i < j → j < size → row (now cycle) i ≢ row (now cycle) j) × ((i : ℕ) × (i < size) × (row (now racks) (row (now cycle) i) ≡ 0)) ⌝ ∗ ⌜ Fits (now racks) (now log) (now tail) (tally .written) (tally .logged) size ⌝ }
+    ensures { λ r. ⌜ ((g : List ℕ) → ((i : ℕ) → i + 1 < size → Edge g (row (now (cycle .entry)) i) (row (now (cycle .entry)) (i + 1))) → Edge g (row (now (cycle .entry)) (size - 1)) (row (now (cycle .entry)) 0) → Journey g real size (now (racks .entry)) (now (log .entry)) (now (tail .entry)) (tally .written) (tally .logged) (now (racks .exit)) (now (log .exit)) (now (tail .exit)) (r .written) (r .logged)) ⌝ ∗ ⌜ Turned (row (now (cycle .entry))) size (row (now (racks .entry))) (row (now (racks .exit))) ⌝ }
+{
+    let z = vacancy_on(cycle, size, racks);
+    let mut tally = tally;
+    let mut t: usize = 1;
+    while t < size {
+        let a = cycle[(z + size - t) % size] as usize;
+        let b = cycle[(z + size - t + 1) % size] as usize;
+        if racks[a] != 0 {
+            tally = make_move(a, b, real, racks, log, tail, tally);
+        }
+        t += 1;
+    }
+    tally
+}
+
+// Takes back the moves that the log has from entry `from` up to entry `to`, the last of them first. A move is skipped where nothing stands at the
+// position that its rack entered: that rack was carried away meanwhile. Yields how many moves the plan has.
+pub fn undo(
+    from: usize,
+    to: usize,
+    real: usize,
+    racks: &mut [u8; 64],
+    log: &mut [u16; 8192],
+    tail: &mut [u8],
+    written: usize,
+) -> usize
+    requires { ⌜ ((g : List ℕ) × (past : List (ℕ × ℕ)) × (k : ℕ → ℕ) × Undoing g (now racks) (now log) from to past k) ⌝ ∗ ⌜ (from ≤ to) × Fits (now racks) (now log) (now tail) written from (to - from) ⌝ }
+    ensures { λ r. ⌜ ((g : List ℕ) (past : List (ℕ × ℕ)) (k : ℕ → ℕ) → Undoing g (now (racks .entry)) (now (log .entry)) from to past k → Trip g real (to - from) (now (racks .entry)) (now (tail .entry)) written (now (racks .exit)) (now (tail .exit)) r × Same (row (now (racks .exit))) k) ⌝ ∗ ⌜ length (now (log .exit)) ≡ length (now (log .entry)) ⌝ }
+{
+    let mut written = written;
+    let mut i = to;
+    while from < i {
+        i -= 1;
+        let x = log[i];
+        let a = field::first_of(x);
+        let b = field::second_of(x);
+        if racks[b] != 0 {
+            let tally = make_move(b, a, real, racks, log, tail, Tally { written, logged: i });
+            written = tally.written;
+        }
+    }
+    written
+}
