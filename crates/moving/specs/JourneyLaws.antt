@@ -10,18 +10,21 @@
 --     trip-written         a trip writes no more moves than its bound
 --     made, journey-stand-in, journey-real    one move: of a stand-in, which is logged; of a real rack, which is written too
 --     fits-then            where there is room for c and d moves, there is room for d after c of them
+--     fits-move            and after one move, whatever the rows are
 --     fits-less            where there is room for c moves, there is room for fewer
 -- Assumes nothing.
-use Prim.Native.Nat.{ℕ, suc, _+_, _*_, _/_, _%_, _≤_, _<_}
+use Prim.Native.Nat.{ℕ, suc, _+_, _*_, _/_, _%_, _^_, _≤_, _<_}
 use mathlib.Core.Path.{_≡_, refl, sym, ap, subst, _∙_}
 use mathlib.Core.Bool.{Bool, true, false, cond}
 use mathlib.Core.List.{List, [], _∷_, _++_, append-assoc, append-nil}
 use mathlib.Core.Logic.{_≢_}
 use native.Mathlib.Omega.{arith}
 use lib.Dec.{eqb}
-use lib.ListN.{getD, length, set, drop, length-append, length-drop, length-set}
+use lib.ListN.{getD, length, set, drop, replicate, length-append, length-drop, length-set, length-replicate}
 use lib.Seq.{drop-drop, getD-set-same, getD-set-other}
 use Rattle.field.specs.Packing.{pack, length-pack, putPair, added, added-is, put-next}
+use Rattle.sets.specs.Sets.{Has}
+use Rattle.sets.specs.SetLaws.{has-only}
 use Rattle.graph.specs.Rows.{Edge}
 use Rattle.moving.specs.Went.{Move, Went}
 use Rattle.moving.specs.Went.Went.{stay, real, stand-in}
@@ -186,6 +189,15 @@ fits-less d le f =
     let room = f .room in
     let log = f .logged in
     record { racks = f .racks; log = f .log; logged = omega arith; room = omega arith }
+
+-- Rows with just one edge, so that what holds of a move along an edge of any rows holds of some.
+edge-of : (a b : ℕ) → a < 64 → Edge (set (replicate 64 0) a (2 ^ b)) a b
+edge-of a b l =
+    subst (λ (x : ℕ). Has x b) (sym (getD-set-same (replicate 64 0) a (2 ^ b) 0 (let n = length-replicate {A = ℕ} 64 0 in omega arith))) (has-only b b .1 refl)
+
+pub fits-move : {h l t h′ l′ t′ : List ℕ} {w j w′ j′ : ℕ} (m a b d : ℕ) → a < 64 → Fits h l t w j (1 + d)
+    → ((g : List ℕ) → Edge g a b → Journey g m 1 h l t w j h′ l′ t′ w′ j′) → Fits h′ l′ t′ w′ j′ d
+fits-move m a b d l f made = fits-then f (made (set (replicate 64 0) a (2 ^ b)) (edge-of a b l))
 
 -- The table after a move, as it is written.
 abbrev pub made : List ℕ → ℕ → ℕ → List ℕ

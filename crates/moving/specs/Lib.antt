@@ -3,3 +3,4 @@ pub mod WentLaws
 pub mod Journey
 pub mod JourneyLaws
 pub mod Turned
+pub mod Cleared
