@@ -1,6 +1,6 @@
 -- Laws of bringing a rack along a way.
 --
---     rounds                  room for the rounds to come: one round and the rest
+--     rounds, passed, in-all  room for the rounds to come: one round and the rest; the rounds made, and one more; all of them
 --     Bringing                the state of `bring`: the rack stands at place k - 1 of the way
 --     bring-some, bring-short, bring-small, bringing-begin    the way, and the first state
 --     bring-reaches           from the next place a walk leads to a vacancy that is not the rack's own place
@@ -13,7 +13,7 @@ use mathlib.Core.Path.{_≡_, refl, sym, ap, subst, _∙_}
 use mathlib.Core.List.{List}
 use mathlib.Core.Logic.{_↔_, _≢_, by-cases}
 use native.Mathlib.Decide.{ℕ-discrete}
-use native.Mathlib.Nat.{mul-suc}
+use native.Mathlib.Nat.{mul-suc, mul-comm, mul-le-mul-right}
 use native.Mathlib.Omega.{arith}
 use Rattle.sets.specs.Sets.{Has}
 use Rattle.graph.specs.WalkLaws.{walk-inside}
@@ -36,6 +36,13 @@ passed n k some floor =
     let less : k ≡ suc (k - 1) = omega arith in
     let e : n * k ≡ n * suc (k - 1) = ap (λ (x : ℕ). n * x) less in
     let f = mul-suc n (k - 1) in
+    omega arith
+
+pub in-all : (n k : ℕ) → k ≤ n → n * (k - 1) ≤ n * (n - 1)
+in-all n k l =
+    let x = mul-le-mul-right n (let d : k - 1 ≤ n - 1 = omega arith in d) in
+    let e = mul-comm n (k - 1) in
+    let f = mul-comm n (n - 1) in
     omega arith
 
 pub record Bringing (P : ℕ → Type 0) (at : ℕ → ℕ) (a size : ℕ) (h cur : ℕ → ℕ) (k : ℕ) : Type 0 where

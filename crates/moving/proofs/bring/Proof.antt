@@ -1,12 +1,13 @@
 -- `moving::bring` meets its contract. The invariant: the record `Bringing`, the journey so far, and room for the rounds to come.
 -- Assumes nothing.
-use Prim.Native.Nat.{_-_, _*_}
+use Prim.Native.Nat.{ℕ, _+_, _-_, _*_}
+use mathlib.Core.Path.{_≡_, sym, ap, _∙_}
 use native.Mathlib.Omega.{arith}
 use lib.ListN.{length}
 use Rattle.sets.specs.Sets.{Has}
 use Rattle.moving.specs.Journey.{row, Fits, Journey}
 use Rattle.moving.specs.JourneyLaws.{journey-none, journey-append, journey-more, fits-less, fits-then, fits-move}
-use Rattle.moving.proofs.BringLaws.{rounds, passed, Bringing, bring-some, bring-short, bring-small, bringing-begin, bring-joined, bring-reaches, bring-held, bringing-step, brought}
+use Rattle.moving.proofs.BringLaws.{rounds, passed, in-all, Bringing, bring-some, bring-short, bring-small, bringing-begin, bring-joined, bring-reaches, bring-held, bringing-step, brought}
 use Rattle.moving.proofs.bring.Statement.{statement}
 use Rattle.moving.proofs.bring.Tie as tie
 
@@ -147,22 +148,112 @@ clear-requires c κs =
     (rows, (((bring-small (r .at) (a .region) _ (a .from) (a .to) (r .size) rows (p .0) (q .0) (p .1) (p .2) only near) (l .k) more, λ x h. p .0 x (c .before .before .before .without .ensures x .0 h .0), (bring-reaches (r .at) (a .region) _ (a .from) (a .to) (r .size) rows (p .0) (q .0) (p .1) (p .2) only near (row (a .racks .now)) (row (l .racks)) (l .k) _ (p .3) more (l .inv .0) (c .before .before .before .without .ensures))), fits-less (a .n - 1) (omega arith) (l .inv .2)))
 
 make-move-requires : tie.Need-make-move-requires Inv-loop μ-loop
-make-move-requires c κs = ?
+make-move-requires c κs = 
+    let s = c .before .before .before .before .before .before .before .before .before .before .before .before .before .before .before .before in
+    let a = s .args in
+    let r = c .before .before .before .before .before .before .before .before .before .before .before .before .before .search .result in
+    let near = c .before .before .before .before .before .before .before .before .before .before .before .before .before .search .ensures in
+    let only = c .before .before .before .before .before .before .before .before .before .before .before .before .before .before .only .ensures in
+    let rows = s .pre .0 in
+    let p = s .pre .1 .0 in
+    let q = s .pre .1 .1 .0 in
+    let n64 = rows .small in
+    let l = c .before .before .before .before .before .before .before .before .before .before .before .loop in
+    let more = c .before .before .before .before .before .before .before .before .before .before .loop-test .taken in
+    let v = l .inv .0 in
+    let k0 = v .some in
+    let short = (bring-short (r .at) (a .region) _ (a .from) (a .to) (r .size) rows (p .0) (q .0) (p .1) (p .2) only near) in
+    let e = rounds (a .n) (l .k) k0 (omega arith) in
+    let cl = c .before .before .before .before .before .clear in
+    let x = (bring-small (r .at) (a .region) _ (a .from) (a .to) (r .size) rows (p .0) (q .0) (p .1) (p .2) only near) (l .k - 1) (omega arith) in
+    let y = (bring-small (r .at) (a .region) _ (a .from) (a .to) (r .size) rows (p .0) (q .0) (p .1) (p .2) only near) (l .k) more in
+    let held = bring-held (r .at) (a .region) _ (a .from) (a .to) (r .size) rows (p .0) (q .0) (p .1) (p .2) only near (row (a .racks .now)) (row (l .racks)) (l .k) _ (p .3) more (l .inv .0) (c .before .before .before .before .before .before .before .before .before .without .ensures) _ (cl .ensures .1) in
+    ((omega arith, omega arith, λ z. p .3 (sym held ∙ z), cl .ensures .1 .vacant), fits-less 1 (omega arith) (fits-then (fits-less ((a .n - 1) + (1 + a .n * (a .n - (l .k + 1)))) (omega arith) (l .inv .2)) (cl .ensures .0)))
 
 add-k : tie.Need-add-k Inv-loop μ-loop
-add-k c = ?
+add-k c = 
+    let s = c .before .before .before .before .before .before .before .before .before .before .before .before .before .before .before .before .before .before .before in
+    let a = s .args in
+    let r = c .before .before .before .before .before .before .before .before .before .before .before .before .before .before .before .before .search .result in
+    let near = c .before .before .before .before .before .before .before .before .before .before .before .before .before .before .before .before .search .ensures in
+    let only = c .before .before .before .before .before .before .before .before .before .before .before .before .before .before .before .before .before .only .ensures in
+    let rows = s .pre .0 in
+    let p = s .pre .1 .0 in
+    let q = s .pre .1 .1 .0 in
+    let n64 = rows .small in
+    let l = c .before .before .before .before .before .before .before .before .before .before .before .before .before .before .loop in
+    let more = c .before .before .before .before .before .before .before .before .before .before .before .before .before .loop-test .taken in
+    let v = l .inv .0 in
+    let k0 = v .some in
+    let short = (bring-short (r .at) (a .region) _ (a .from) (a .to) (r .size) rows (p .0) (q .0) (p .1) (p .2) only near) in
+    let e = rounds (a .n) (l .k) k0 (omega arith) in
+    omega arith
 
 loop-less : tie.Need-loop-less Inv-loop μ-loop
-loop-less c = ?
+loop-less c = 
+    let s = c .before .before .before .before .before .before .before .before .before .before .before .before .before .before .before .before .before .before .before in
+    let a = s .args in
+    let r = c .before .before .before .before .before .before .before .before .before .before .before .before .before .before .before .before .search .result in
+    let near = c .before .before .before .before .before .before .before .before .before .before .before .before .before .before .before .before .search .ensures in
+    let only = c .before .before .before .before .before .before .before .before .before .before .before .before .before .before .before .before .before .only .ensures in
+    let rows = s .pre .0 in
+    let p = s .pre .1 .0 in
+    let q = s .pre .1 .1 .0 in
+    let n64 = rows .small in
+    let l = c .before .before .before .before .before .before .before .before .before .before .before .before .before .before .loop in
+    let more = c .before .before .before .before .before .before .before .before .before .before .before .before .before .loop-test .taken in
+    let v = l .inv .0 in
+    let k0 = v .some in
+    let short = (bring-short (r .at) (a .region) _ (a .from) (a .to) (r .size) rows (p .0) (q .0) (p .1) (p .2) only near) in
+    let e = rounds (a .n) (l .k) k0 (omega arith) in
+    omega arith
 
 loop-again : tie.Need-loop-again Inv-loop μ-loop
-loop-again c = ?
+loop-again c = 
+    let s = c .before .before .before .before .before .before .before .before .before .before .before .before .before .before .before .before .before .before .before in
+    let a = s .args in
+    let r = c .before .before .before .before .before .before .before .before .before .before .before .before .before .before .before .before .search .result in
+    let near = c .before .before .before .before .before .before .before .before .before .before .before .before .before .before .before .before .search .ensures in
+    let only = c .before .before .before .before .before .before .before .before .before .before .before .before .before .before .before .before .before .only .ensures in
+    let rows = s .pre .0 in
+    let p = s .pre .1 .0 in
+    let q = s .pre .1 .1 .0 in
+    let n64 = rows .small in
+    let l = c .before .before .before .before .before .before .before .before .before .before .before .before .before .before .loop in
+    let more = c .before .before .before .before .before .before .before .before .before .before .before .before .before .loop-test .taken in
+    let v = l .inv .0 in
+    let k0 = v .some in
+    let short = (bring-short (r .at) (a .region) _ (a .from) (a .to) (r .size) rows (p .0) (q .0) (p .1) (p .2) only near) in
+    let e = rounds (a .n) (l .k) k0 (omega arith) in
+    let cl = c .before .before .before .before .before .before .before .before .clear in
+    let m = c .before .before .make-move in
+    let back : l .k + 1 - 1 ≡ l .k = omega arith in
+    let far : a .n * (l .k + 1 - 1) ≡ a .n * l .k = ap (λ (x : ℕ). a .n * x) back in
+    let bound = passed (a .n) (l .k) k0 (omega arith) in
+    let go = m .ensures .0 (a .rows .now) (bring-joined (r .at) (a .region) _ (a .from) (a .to) (r .size) rows (p .0) (q .0) (p .1) (p .2) only near (row (a .racks .now)) (row (l .racks)) (l .k) _ (p .3) more (l .inv .0) (c .before .before .before .before .before .before .before .before .before .before .before .before .without .ensures)) in
+    let fits = fits-then (fits-less ((a .n - 1) + (1 + a .n * (a .n - (l .k + 1)))) (omega arith) (l .inv .2)) (cl .ensures .0) in (
+      bringing-step (r .at) (a .region) _ (a .from) (a .to) (r .size) rows (p .0) (q .0) (p .1) (p .2) only near (row (a .racks .now)) (row (l .racks)) (l .k) _ (p .3) more (l .inv .0) (c .before .before .before .before .before .before .before .before .before .before .before .before .without .ensures) _ (cl .ensures .1) _ (m .ensures .1 .0) (m .ensures .1 .1) (m .ensures .1 .2),
+      journey-more (a .n * (l .k + 1 - 1)) (omega arith) (journey-append (journey-append (l .inv .1) (cl .ensures .0)) go),
+      fits-then fits go,
+    )
 
 same-length : tie.Need-same-length Inv-loop μ-loop
-same-length c = ?
+same-length c = c .before .loop .inv .1 .trip .tail
 
 returns : tie.Need-returns Inv-loop μ-loop
-returns c = ?
+returns c = 
+    let s = c .before .before .before .before .before .before in
+    let a = s .args in
+    let r = c .before .before .before .search .result in
+    let near = c .before .before .before .search .ensures in
+    let only = c .before .before .before .before .only .ensures in
+    let rows = s .pre .0 in
+    let p = s .pre .1 .0 in
+    let q = s .pre .1 .1 .0 in
+    let l = c .before .loop in
+    let most = l .inv .0 .most in
+    let short = (bring-short (r .at) (a .region) _ (a .from) (a .to) (r .size) rows (p .0) (q .0) (p .1) (p .2) only near) in
+    (journey-more (a .n * (a .n - 1)) (in-all (a .n) (l .k) (omega arith)) (l .inv .1), (brought (r .at) (a .region) _ (a .from) (a .to) (r .size) rows (p .0) (q .0) (p .1) (p .2) only near) (row (a .racks .now)) (row (l .racks)) (l .k) (omega arith) (l .inv .0))
 
 pub bring-spec : {M : Type 1} → statement M
 bring-spec =
