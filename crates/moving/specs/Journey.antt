@@ -7,6 +7,7 @@
 --     onto ms past               the moves ms, the last of them first, and behind them `past`
 --     Trail l s j past           the log's entries from s up to j are the moves `past`, the last of them first
 --     Fits h l t w j c           there is room for c moves more
+--     Room h l t w c             there is room for c moves more in the plan, whatever the log has
 --     Trip g m c h t w h′ t′ w′  at most c moves, each legal at its turn by the rows g, lead from h to h′; those of the racks up to m are packed into
 --                                the plan
 --     Journey g m c h l t w j h′ l′ t′ w′ j′    such a trip, with all of its moves logged
@@ -37,6 +38,11 @@ pub record Fits (h l t : List ℕ) (w j c : ℕ) : Type 0 where
   pub racks : length h ≡ 64
   pub log : length l ≡ 8192
   pub logged : j + c ≤ 8192
+  pub room : (12 * (w + c) + 7) / 8 ≤ length t
+
+pub record Room (h l t : List ℕ) (w c : ℕ) : Type 0 where
+  pub racks : length h ≡ 64
+  pub log : length l ≡ 8192
   pub room : (12 * (w + c) + 7) / 8 ≤ length t
 
 pub record Trip (g : List ℕ) (m c : ℕ) (h t : List ℕ) (w : ℕ) (h′ t′ : List ℕ) (w′ : ℕ) : Type 0 where

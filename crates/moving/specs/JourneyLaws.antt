@@ -11,6 +11,8 @@
 --     made, journey-stand-in, journey-real    one move: of a stand-in, which is logged; of a real rack, which is written too
 --     fits-then            where there is room for c and d moves, there is room for d after c of them
 --     fits-move            and after one move, whatever the rows are
+--     fits-anew            room for moves in a log that is begun anew
+--     room-then, room-less    room in the plan, after a trip and for fewer moves
 --     fits-less            where there is room for c moves, there is room for fewer
 -- Assumes nothing.
 use Prim.Native.Nat.{ℕ, suc, _+_, _*_, _/_, _%_, _^_, _≤_, _<_}
@@ -29,7 +31,7 @@ use Rattle.graph.specs.Rows.{Edge}
 use Rattle.moving.specs.Went.{Move, Went}
 use Rattle.moving.specs.Went.Went.{stay, real, stand-in}
 use Rattle.moving.specs.WentLaws.{same-refl, went-append}
-use Rattle.moving.specs.Journey.{row, Packed, onto, Trail, Fits, Trip, Journey}
+use Rattle.moving.specs.Journey.{row, Packed, onto, Trail, Fits, Room, Trip, Journey}
 use Rattle.moving.specs.Journey.Trail.{start, entry}
 
 length-putPair : (t : List ℕ) (j a b : ℕ) → length (putPair t j a b) ≡ length t
@@ -189,6 +191,20 @@ fits-less d le f =
     let room = f .room in
     let log = f .logged in
     record { racks = f .racks; log = f .log; logged = omega arith; room = omega arith }
+
+-- a log begun anew
+pub fits-anew : {c : ℕ} {h l t : List ℕ} {w : ℕ} (d : ℕ) → d ≤ c → d ≤ 8192 → Room h l t w c → Fits h l t w 0 d
+fits-anew d le log f = let room = f .room in record { racks = f .racks; log = f .log; logged = omega arith; room = omega arith }
+
+pub room-then : {g : List ℕ} {m c d : ℕ} {h l t h′ l′ t′ : List ℕ} {w w′ : ℕ} → Room h l t w (c + d) → length l′ ≡ length l → Trip g m c h t w h′ t′ w′ → Room h′ l′ t′ w′ d
+room-then f log a =
+    let written = trip-written a in
+    let room = f .room in
+    let tail = a .tail in
+    record { racks = a .racks ∙ f .racks; log = log ∙ f .log; room = omega arith }
+
+pub room-less : {c : ℕ} {h l t : List ℕ} {w : ℕ} (d : ℕ) → d ≤ c → Room h l t w c → Room h l t w d
+room-less d le f = let room = f .room in record { racks = f .racks; log = f .log; room = omega arith }
 
 -- Rows with just one edge, so that what holds of a move along an edge of any rows holds of some.
 edge-of : (a b : ℕ) → a < 64 → Edge (set (replicate 64 0) a (2 ^ b)) a b

@@ -63,7 +63,7 @@ fn with_vacancy(vacant: u64, racks: &[u8; 64], p: usize) -> u64
 }
 
 // The vacant positions of a floor of n.
-fn vacancies(racks: &[u8; 64], n: usize) -> u64
+pub fn vacancies(racks: &[u8; 64], n: usize) -> u64
     requires { ⌜ n ≤ 64 ⌝ }
     ensures { λ r. ⌜ ((p : ℕ) → Has r p ↔ ((p < n) × (row (now (racks .entry)) p ≡ 0))) ⌝ }
 {
