@@ -163,13 +163,32 @@ fn vacancy_on(cycle: &[u8; 64], size: usize, racks: &[u8; 64]) -> usize
 {
     let mut i: usize = 0;
     while i + 1 < size {
-        let p = cycle[i] as usize;
-        if racks[p] == 0 {
+        let position = cycle[i] as usize;
+        if racks[position] == 0 {
             return i;
         }
         i += 1;
     }
     i
+}
+
+// Moves what stands at a, if anything does, to b, which is vacant.
+fn pass_on(
+    a: usize,
+    b: usize,
+    real: usize,
+    racks: &mut [u8; 64],
+    log: &mut [u16; 8192],
+    tail: &mut [u8],
+    tally: Tally,
+) -> Tally
+    requires { ⌜ (a < 64) × (b < 64) × (row (now racks) b ≡ 0) ⌝ ∗ ⌜ Fits (now racks) (now log) (now tail) (tally .written) (tally .logged) 1 ⌝ }
+    ensures { λ r. ⌜ ((g : List ℕ) → Edge g a b → Journey g real 1 (now (racks .entry)) (now (log .entry)) (now (tail .entry)) (tally .written) (tally .logged) (now (racks .exit)) (now (log .exit)) (now (tail .exit)) (r .written) (r .logged)) ⌝ ∗ ⌜ ((p : ℕ) → p ≢ a → p ≢ b → row (now (racks .exit)) p ≡ row (now (racks .entry)) p) × (row (now (racks .exit)) a ≡ 0) × (row (now (racks .exit)) b ≡ row (now (racks .entry)) a) ⌝ }
+{
+    if racks[a] == 0 {
+        return tally;
+    }
+    make_move(a, b, real, racks, log, tail, tally)
 }
 
 // Turns a cycle by one place: from a vacancy on, the rack before it moves into it, then the one before that, and so on round. A vacant place is passed
@@ -188,14 +207,13 @@ pub fn turn(
 {
     let z = vacancy_on(cycle, size, racks);
     let mut tally = tally;
-    let mut t: usize = 1;
-    while t < size {
-        let a = cycle[(z + size - t) % size] as usize;
-        let b = cycle[(z + size - t + 1) % size] as usize;
-        if racks[a] != 0 {
-            tally = make_move(a, b, real, racks, log, tail, tally);
-        }
-        t += 1;
+    // The place i places after that vacancy is vacant: what stands before it moves there.
+    let mut i = size;
+    while 1 < i {
+        let b = cycle[(z + i) % size] as usize;
+        i -= 1;
+        let a = cycle[(z + i) % size] as usize;
+        tally = pass_on(a, b, real, racks, log, tail, tally);
     }
     tally
 }
