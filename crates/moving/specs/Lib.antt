@@ -3,3 +3,5 @@ pub mod WentLaws
 pub mod Journey
 pub mod JourneyLaws
 pub mod Turned
+pub mod BackLaws
+pub mod Examples
