@@ -4,3 +4,5 @@ pub mod Journey
 pub mod JourneyLaws
 pub mod Turned
 pub mod Cleared
+pub mod BackLaws
+pub mod Examples

@@ -5,8 +5,7 @@
 --     move-back               turned round it leads back
 --     move-renamed            legality does not look at rack numbers: racks renamed by f, which leaves vacant what is vacant
 --     went-from, went-to      the same moves between tables that agree
---     went-one, went-append   one move; moves and then more of them
---     went-outside            what no move touches stays: here, what lies outside a set that has both positions of each move
+--     went-append             moves and then more of them
 -- Assumes nothing.
 use Prim.Native.Nat.{ℕ, _≤_, _<_}
 use mathlib.Core.Path.{_≡_, refl, sym, ap, subst, _∙_}
