@@ -66,10 +66,10 @@ pub record Left (g : List ℕ) (m s j : ℕ) (h t : List ℕ) (w : ℕ) (h′ l�
 pub record Undone (m s j : ℕ) (h l t : List ℕ) (w : ℕ) (h′ l′ t′ : List ℕ) (w′ i : ℕ) : Type 0 where
   pub low : s ≤ i
   pub high : i ≤ j
-  pub log : length l′ ≡ 8192
+  pub log : length l′ ≡ 8256
   pub left : (g : List ℕ) (past : List (ℕ × ℕ)) (k : ℕ → ℕ) → Undoing g h l s j past k → Left g m s j h t w h′ l′ t′ w′ i k
 
-pub undone-begin : (m s j : ℕ) (h l t : List ℕ) (w : ℕ) → s ≤ j → length l ≡ 8192 → Undone m s j h l t w h l t w j
+pub undone-begin : (m s j : ℕ) (h l t : List ℕ) (w : ℕ) → s ≤ j → length l ≡ 8256 → Undone m s j h l t w h l t w j
 undone-begin m s j h l t w le n =
     record {
       low = le;

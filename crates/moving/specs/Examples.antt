@@ -80,7 +80,7 @@ unfolding onto
 taken-back = back-went (line-rows .symmetric) went (done (same-refl (row (table 1 2 0))))
 
 abbrev pub logged : List ℕ
-logged = 66 ∷ 1 ∷ replicate 8190 0
+logged = 66 ∷ 1 ∷ replicate 8254 0
 
 pub undoing : Undoing line (table 0 1 2) logged 0 2 past (row (table 1 2 0))
 undoing =
@@ -92,7 +92,7 @@ undoing =
 pub undo-fits : Fits (table 0 1 2) logged (replicate 6 0) 2 0 2
 undo-fits =
     let n = length-replicate {A = ℕ} 61 0 in
-    let k = length-replicate {A = ℕ} 8190 0 in
+    let k = length-replicate {A = ℕ} 8254 0 in
     let r = length-replicate {A = ℕ} 6 0 in
     record { racks = omega arith; log = omega arith; logged = omega arith; room = omega arith }
 

@@ -36,13 +36,13 @@ pub data Trail (l : List ℕ) (s : ℕ) : ℕ → List (ℕ × ℕ) → Type 0 w
 
 pub record Fits (h l t : List ℕ) (w j c : ℕ) : Type 0 where
   pub racks : length h ≡ 64
-  pub log : length l ≡ 8192
-  pub logged : j + c ≤ 8192
+  pub log : length l ≡ 8256
+  pub logged : j + c ≤ 8256
   pub room : (12 * (w + c) + 7) / 8 ≤ length t
 
 pub record Room (h l t : List ℕ) (w c : ℕ) : Type 0 where
   pub racks : length h ≡ 64
-  pub log : length l ≡ 8192
+  pub log : length l ≡ 8256
   pub room : (12 * (w + c) + 7) / 8 ≤ length t
 
 pub record Trip (g : List ℕ) (m c : ℕ) (h t : List ℕ) (w : ℕ) (h′ t′ : List ℕ) (w′ : ℕ) : Type 0 where

@@ -193,7 +193,7 @@ fits-less d le f =
     record { racks = f .racks; log = f .log; logged = omega arith; room = omega arith }
 
 -- a log begun anew
-pub fits-anew : {c : ℕ} {h l t : List ℕ} {w : ℕ} (d : ℕ) → d ≤ c → d ≤ 8192 → Room h l t w c → Fits h l t w 0 d
+pub fits-anew : {c : ℕ} {h l t : List ℕ} {w : ℕ} (d : ℕ) → d ≤ c → d ≤ 8256 → Room h l t w c → Fits h l t w 0 d
 fits-anew d le log f = let room = f .room in record { racks = f .racks; log = f .log; logged = omega arith; room = omega arith }
 
 pub room-then : {g : List ℕ} {m c d : ℕ} {h l t h′ l′ t′ : List ℕ} {w w′ : ℕ} → Room h l t w (c + d) → length l′ ≡ length l → Trip g m c h t w h′ t′ w′ → Room h′ l′ t′ w′ d

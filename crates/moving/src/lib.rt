@@ -25,7 +25,7 @@ pub fn make_move(
     b: usize,
     real: usize,
     racks: &mut [u8; 64],
-    log: &mut [u16; 8192],
+    log: &mut [u16; 8256],
     tail: &mut [u8],
     tally: Tally,
 ) -> Tally
@@ -83,7 +83,7 @@ fn shift(
     size: usize,
     real: usize,
     racks: &mut [u8; 64],
-    log: &mut [u16; 8192],
+    log: &mut [u16; 8256],
     tail: &mut [u8],
     tally: Tally,
 ) -> Tally
@@ -109,7 +109,7 @@ pub fn clear(
     p: usize,
     real: usize,
     racks: &mut [u8; 64],
-    log: &mut [u16; 8192],
+    log: &mut [u16; 8256],
     tail: &mut [u8],
     tally: Tally,
 ) -> Tally
@@ -133,7 +133,7 @@ pub fn bring(
     to: usize,
     real: usize,
     racks: &mut [u8; 64],
-    log: &mut [u16; 8192],
+    log: &mut [u16; 8256],
     tail: &mut [u8],
     tally: Tally,
 ) -> Tally
@@ -178,7 +178,7 @@ fn pass_on(
     b: usize,
     real: usize,
     racks: &mut [u8; 64],
-    log: &mut [u16; 8192],
+    log: &mut [u16; 8256],
     tail: &mut [u8],
     tally: Tally,
 ) -> Tally
@@ -198,7 +198,7 @@ pub fn turn(
     size: usize,
     real: usize,
     racks: &mut [u8; 64],
-    log: &mut [u16; 8192],
+    log: &mut [u16; 8256],
     tail: &mut [u8],
     tally: Tally,
 ) -> Tally
@@ -225,7 +225,7 @@ pub fn undo(
     to: usize,
     real: usize,
     racks: &mut [u8; 64],
-    log: &mut [u16; 8192],
+    log: &mut [u16; 8256],
     tail: &mut [u8],
     written: usize,
 ) -> usize

@@ -24,7 +24,7 @@ search-requires : tie.Need-search-requires Inv-loop μ-loop
 search-requires c κs = let s = c .before .before .pre in let n = s .0 .small in let t = s .1 .0 .0 (c .before .before .args .from) (s .1 .0 .1) in (s .0 .symmetric, omega arith)
 
 loop-holds : tie.Need-loop-holds Inv-loop μ-loop
-loop-holds c = 
+loop-holds c =
     let s = c .before .before .before .before in
     let a = s .args in
     let r = c .before .search .result in
@@ -45,7 +45,7 @@ sub-a : tie.Need-sub-a Inv-loop μ-loop
 sub-a c = let v = c .before .loop .inv .0 .some in omega arith
 
 array-read-a : tie.Need-array-read-a Inv-loop μ-loop
-array-read-a c = 
+array-read-a c =
     let s = c .before .before .before .before .before .before in
     let a = s .args in
     let r = c .before .before .before .search .result in
@@ -60,7 +60,7 @@ array-read-a c =
     omega arith
 
 cast-a : tie.Need-cast-a Inv-loop μ-loop
-cast-a c = 
+cast-a c =
     let s = c .before .before .before .before .before .before in
     let a = s .args in
     let r = c .before .before .before .search .result in
@@ -78,7 +78,7 @@ cast-a c =
     omega arith
 
 array-read-b : tie.Need-array-read-b Inv-loop μ-loop
-array-read-b c = 
+array-read-b c =
     let s = c .before .before .before .before .before .before in
     let a = s .args in
     let r = c .before .before .before .search .result in
@@ -93,7 +93,7 @@ array-read-b c =
     omega arith
 
 cast-b : tie.Need-cast-b Inv-loop μ-loop
-cast-b c = 
+cast-b c =
     let s = c .before .before .before .before .before .before in
     let a = s .args in
     let r = c .before .before .before .search .result in
@@ -111,7 +111,7 @@ cast-b c =
     omega arith
 
 without-requires : tie.Need-without-requires Inv-loop μ-loop
-without-requires c κs = 
+without-requires c κs =
     let s = c .before .before .before .before .before .before in
     let a = s .args in
     let r = c .before .before .before .search .result in
@@ -129,7 +129,7 @@ without-requires c κs =
     omega arith
 
 clear-requires : tie.Need-clear-requires Inv-loop μ-loop
-clear-requires c κs = 
+clear-requires c κs =
     let s = c .before .before .before .before .before .before .before .before .before .before in
     let a = s .args in
     let r = c .before .before .before .before .before .before .before .search .result in
@@ -148,7 +148,7 @@ clear-requires c κs =
     (rows, (((bring-small (r .at) (a .region) _ (a .from) (a .to) (r .size) rows (p .0) (q .0) (p .1) (p .2) only near) (l .k) more, λ x h. p .0 x (c .before .before .before .without .ensures x .0 h .0), (bring-reaches (r .at) (a .region) _ (a .from) (a .to) (r .size) rows (p .0) (q .0) (p .1) (p .2) only near (row (a .racks .now)) (row (l .racks)) (l .k) _ (p .3) more (l .inv .0) (c .before .before .before .without .ensures))), fits-less (a .n - 1) (omega arith) (l .inv .2)))
 
 make-move-requires : tie.Need-make-move-requires Inv-loop μ-loop
-make-move-requires c κs = 
+make-move-requires c κs =
     let s = c .before .before .before .before .before .before .before .before .before .before .before .before .before .before .before .before in
     let a = s .args in
     let r = c .before .before .before .before .before .before .before .before .before .before .before .before .before .search .result in
@@ -171,7 +171,7 @@ make-move-requires c κs =
     ((omega arith, omega arith, λ z. p .3 (sym held ∙ z), cl .ensures .1 .vacant), fits-less 1 (omega arith) (fits-then (fits-less ((a .n - 1) + (1 + a .n * (a .n - (l .k + 1)))) (omega arith) (l .inv .2)) (cl .ensures .0)))
 
 add-k : tie.Need-add-k Inv-loop μ-loop
-add-k c = 
+add-k c =
     let s = c .before .before .before .before .before .before .before .before .before .before .before .before .before .before .before .before .before .before .before in
     let a = s .args in
     let r = c .before .before .before .before .before .before .before .before .before .before .before .before .before .before .before .before .search .result in
@@ -190,7 +190,7 @@ add-k c =
     omega arith
 
 loop-less : tie.Need-loop-less Inv-loop μ-loop
-loop-less c = 
+loop-less c =
     let s = c .before .before .before .before .before .before .before .before .before .before .before .before .before .before .before .before .before .before .before in
     let a = s .args in
     let r = c .before .before .before .before .before .before .before .before .before .before .before .before .before .before .before .before .search .result in
@@ -209,7 +209,7 @@ loop-less c =
     omega arith
 
 loop-again : tie.Need-loop-again Inv-loop μ-loop
-loop-again c = 
+loop-again c =
     let s = c .before .before .before .before .before .before .before .before .before .before .before .before .before .before .before .before .before .before .before in
     let a = s .args in
     let r = c .before .before .before .before .before .before .before .before .before .before .before .before .before .before .before .before .search .result in
@@ -241,7 +241,7 @@ same-length : tie.Need-same-length Inv-loop μ-loop
 same-length c = c .before .loop .inv .1 .trip .tail
 
 returns : tie.Need-returns Inv-loop μ-loop
-returns c = 
+returns c =
     let s = c .before .before .before .before .before .before in
     let a = s .args in
     let r = c .before .before .before .search .result in

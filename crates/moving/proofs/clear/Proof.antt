@@ -14,7 +14,7 @@ search-requires : tie.Need-search-requires
 search-requires c κs = let s = c .before .before .before .pre in let small = s .0 .small in let p = s .1 .0 .0 in (s .0 .symmetric, omega arith)
 
 shift-requires : tie.Need-shift-requires
-shift-requires c κs = 
+shift-requires c κs =
     let s = c .before .before .before .before .before .before .before .before .before in
     let a = s .args in
     let r = c .before .before .before .before .before .search .result in
@@ -32,7 +32,7 @@ same-length : tie.Need-same-length
 same-length c = c .before .before .shift .kept .1 .1 .1 .1 .1 .0
 
 returns : tie.Need-returns
-returns c = 
+returns c =
     let s = c .before .before .before .before .before .before .before .before .before .before .before .before in
     let a = s .args in
     let r = c .before .before .before .before .before .before .before .before .search .result in

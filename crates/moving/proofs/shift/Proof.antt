@@ -20,7 +20,7 @@ sub-i : tie.Need-sub-i Inv-loop μ-loop
 sub-i c = omega arith
 
 loop-holds : tie.Need-loop-holds Inv-loop μ-loop
-loop-holds c = 
+loop-holds c =
     let s = c .before in
     let a = s .args in
     let p = s .pre .0 in (
@@ -49,22 +49,27 @@ cast-b : tie.Need-cast-b Inv-loop μ-loop
 cast-b c = let p = c .before .before .before .loop .inv .1 .place in let q = c .before .before .before .before .before .pre .0 .2 (c .before .before .before .loop .i - 1 + 1) (omega arith) in omega arith
 
 make-move-requires : tie.Need-make-move-requires Inv-loop μ-loop
-make-move-requires c κs = 
+make-move-requires c κs =
     let s = c .before .before .before .before .before .before .before .before in
     let a = s .args in
     let l = c .before .before .before .before .before .before .loop in
     let v = l .inv .1 in
     let place = v .place in
-    let some = c .before .before .before .before .before .loop-test .taken in
-    ((s .pre .0 .2 (l .i - 1) (omega arith), s .pre .0 .2 (l .i - 1 + 1) (omega arith),
-    shifting-held (row (a .at .now)) (a .size) (s .pre .0 .3) (row (a .racks .now)) (row (l .racks)) (l .i) some v (s .pre .0 .5),
-    shifting-vacant (row (a .at .now)) (a .size) (s .pre .0 .3) (row (a .racks .now)) (row (l .racks)) (l .i) some v), fits-less 1 (omega arith) (l .inv .3))
+    let some = c .before .before .before .before .before .loop-test .taken in (
+      (
+        s .pre .0 .2 (l .i - 1) (omega arith),
+        s .pre .0 .2 (l .i - 1 + 1) (omega arith),
+        shifting-held (row (a .at .now)) (a .size) (s .pre .0 .3) (row (a .racks .now)) (row (l .racks)) (l .i) some v (s .pre .0 .5),
+        shifting-vacant (row (a .at .now)) (a .size) (s .pre .0 .3) (row (a .racks .now)) (row (l .racks)) (l .i) some v,
+      ),
+      fits-less 1 (omega arith) (l .inv .3),
+    )
 
 loop-less : tie.Need-loop-less Inv-loop μ-loop
 loop-less c = omega arith
 
 loop-again : tie.Need-loop-again Inv-loop μ-loop
-loop-again c = 
+loop-again c =
     let s = c .before .before .before .before .before .before .before .before .before .before .before in
     let a = s .args in
     let l = c .before .before .before .before .before .before .before .before .before .loop in
@@ -83,7 +88,7 @@ same-length : tie.Need-same-length Inv-loop μ-loop
 same-length c = c .before .loop .inv .0
 
 returns : tie.Need-returns Inv-loop μ-loop
-returns c = 
+returns c =
     let a = c .before .before .before .args in
     let s = c .before .before .before in
     let l = c .before .loop in (

@@ -25,12 +25,12 @@ loop-less : tie.Need-loop-less Inv-loop μ-loop
 loop-less c = omega arith
 
 loop-again : tie.Need-loop-again Inv-loop μ-loop
-loop-again c = 
+loop-again c =
     let l = c .before .before .loop in
     (omega arith, vacating-next (c .before .before .before .args .racks .now) (l .p) _ _ (c .with-vacancy .ensures) (l .inv .1))
 
 returns : tie.Need-returns Inv-loop μ-loop
-returns c = 
+returns c =
     let l = c .before .loop in
     vacating-all (c .before .before .args .racks .now) (l .p) (c .before .before .args .n) _ (omega arith) (l .inv .1)
 

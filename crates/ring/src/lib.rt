@@ -1,0 +1,228 @@
+// The base ring of a floor, settled when all else is: racks on it are exchanged in pairs through a position beside it.
+use moving::Tally;
+ghost use mathlib.Core.Logic.{_↔_, _≢_};
+ghost use mathlib.Core.List.{List};
+ghost use mathlib.Core.Path.{_≡_};
+ghost use Prim.Native.Nat.{ℕ, _+_, _-_, _*_, _≤_, _<_};
+ghost use lib.ListN.{length};
+ghost use Rattle.graph.specs.Walk.{Symmetric};
+ghost use Rattle.graph.specs.Rows.{Edge, Rows};
+ghost use Rattle.breakdown.specs.Breakdown.{Among, Breakdown};
+ghost use Rattle.moving.specs.Went.{Same};
+ghost use Rattle.moving.specs.Journey.{row, Fits, Room, Trip, Journey};
+ghost use Rattle.settling.specs.Table.{Table};
+ghost use Rattle.settling.specs.Circle.{Circle, On, swapped, Ringing};
+
+// The six moves that exchange the racks at `next` and at y by way of x, which both are beside, and of `last`, beside x too: x and `last` are vacant before
+// and after.
+fn swap(
+    x: usize,
+    next: usize,
+    last: usize,
+    y: usize,
+    real: usize,
+    racks: &mut [u8; 64],
+    log: &mut [u16; 8256],
+    tail: &mut [u8],
+    tally: Tally,
+) -> Tally
+    requires { ⌜ (x < 64) × (next < 64) × (last < 64) × (y < 64) × (next ≢ last) × (next ≢ y) × (last ≢ y) ⌝ ∗ ⌜ (row (now racks) x ≡ 0) × (row (now racks) last ≡ 0) × (row (now racks) next ≢ 0) × (row (now racks) y ≢ 0) × (x ≢ last) ⌝ ∗ ⌜ Fits (now racks) (now log) (now tail) (tally .written) (tally .logged) 6 ⌝ }
+    ensures { λ r. ⌜ ((g : List ℕ) → Symmetric (Edge g) → Edge g x next → Edge g x last → Edge g x y → Journey g real 6 (now (racks .entry)) (now (log .entry)) (now (tail .entry)) (tally .written) (tally .logged) (now (racks .exit)) (now (log .exit)) (now (tail .exit)) (r .written) (r .logged)) ⌝ ∗ ⌜ (row (now (racks .exit)) next ≡ row (now (racks .entry)) y) × (row (now (racks .exit)) y ≡ row (now (racks .entry)) next) × ((p : ℕ) → p ≢ next → p ≢ y → row (now (racks .exit)) p ≡ row (now (racks .entry)) p) ⌝ }
+{
+    let mut tally = tally;
+    tally = moving::make_move(next, x, real, racks, log, tail, tally);
+    tally = moving::make_move(x, last, real, racks, log, tail, tally);
+    tally = moving::make_move(y, x, real, racks, log, tail, tally);
+    tally = moving::make_move(x, next, real, racks, log, tail, tally);
+    tally = moving::make_move(last, x, real, racks, log, tail, tally);
+    tally = moving::make_move(x, y, real, racks, log, tail, tally);
+    tally
+}
+
+// Exchanges the racks a and b, which stand on the ring, while its places 0 and 1 are vacant. The rack at y, beside place 0, steps onto the ring, a is
+// brought to y and b to place 1; six moves exchange the two; and all that was done before is taken back.
+fn exchange(
+    rows: &[u64; 64],
+    n: usize,
+    circle: &[u8; 64],
+    size: usize,
+    y: usize,
+    a: u8,
+    b: u8,
+    real: usize,
+    racks: &mut [u8; 64],
+    log: &mut [u16; 8256],
+    tail: &mut [u8],
+    written: usize,
+) -> usize
+    requires { ⌜ Rows n (now rows) ⌝ ∗ ⌜ Circle n (Edge (now rows)) (row (now circle)) size y ⌝ ∗ ⌜ Table n (row (now racks)) × (row (now racks) (row (now circle) 0) ≡ 0) × (row (now racks) (row (now circle) 1) ≡ 0) ⌝ ∗ ⌜ (a ≢ b) × (a ≢ 0) × (b ≢ 0) × ((p : ℕ) × On (row (now circle)) size p × (row (now racks) p ≡ a)) × ((p : ℕ) × On (row (now circle)) size p × (row (now racks) p ≡ b)) ⌝ ∗ ⌜ Room (now racks) (now log) (now tail) written (4 * (n * n) + 6) ⌝ }
+    ensures { λ r. ⌜ Trip (now (rows .entry)) real (4 * (n * n) + 6) (now (racks .entry)) (now (tail .entry)) written (now (racks .exit)) (now (tail .exit)) r ⌝ ∗ ⌜ Same (row (now (racks .exit))) (λ p. swapped a b (row (now (racks .entry)) p)) ⌝ ∗ ⌜ length (now (log .exit)) ≡ length (now (log .entry)) ⌝ }
+{
+    let x = circle[0] as usize;
+    let next = circle[1] as usize;
+    let last = circle[size - 1] as usize;
+    let ring = settling::part(circle, 0, size);
+    let mut tally = moving::make_move(y, x, real, racks, log, tail, Tally { written, logged: 0 });
+    let at = settling::where_is(racks, n, a);
+    tally = moving::bring(rows, n, ring, at, x, real, racks, log, tail, tally);
+    tally = moving::make_move(x, y, real, racks, log, tail, tally);
+    let from = settling::where_is(racks, n, b);
+    tally = moving::bring(rows, n, ring, from, next, real, racks, log, tail, tally);
+    tally = moving::clear(
+        rows,
+        n,
+        sets::without(ring, next),
+        x,
+        real,
+        racks,
+        log,
+        tail,
+        tally,
+    );
+    tally = moving::clear(
+        rows,
+        n,
+        sets::without(sets::without(ring, next), x),
+        last,
+        real,
+        racks,
+        log,
+        tail,
+        tally,
+    );
+    let logged = tally.logged;
+    tally = swap(x, next, last, y, real, racks, log, tail, tally);
+    moving::undo(0, logged, real, racks, log, tail, tally.written)
+}
+
+// Settles place i of the ring, 2 or above: where its rack is another than the goal's, the two are exchanged.
+fn settle_place(
+    rows: &[u64; 64],
+    n: usize,
+    circle: &[u8; 64],
+    size: usize,
+    y: usize,
+    i: usize,
+    goal: &[u8; 64],
+    real: usize,
+    racks: &mut [u8; 64],
+    log: &mut [u16; 8256],
+    tail: &mut [u8],
+    written: usize,
+) -> usize
+    requires { ⌜ Rows n (now rows) ⌝ ∗ ⌜ Circle n (Edge (now rows)) (row (now circle)) size y ⌝ ∗ ⌜ Ringing n (row (now circle)) size (row (now goal)) i (row (now racks)) × (2 ≤ i) × (i < size) ⌝ ∗ ⌜ Room (now racks) (now log) (now tail) written (4 * (n * n) + 6) ⌝ }
+    ensures { λ r. ⌜ Trip (now (rows .entry)) real (4 * (n * n) + 6) (now (racks .entry)) (now (tail .entry)) written (now (racks .exit)) (now (tail .exit)) r ⌝ ∗ ⌜ Ringing n (row (now (circle .entry))) size (row (now (goal .entry))) (i + 1) (row (now (racks .exit))) ⌝ ∗ ⌜ length (now (log .exit)) ≡ length (now (log .entry)) ⌝ }
+{
+    let p = circle[i] as usize;
+    let a = goal[p];
+    let b = racks[p];
+    if a == b {
+        return written;
+    }
+    exchange(
+        rows,
+        n,
+        circle,
+        size,
+        y,
+        a,
+        b,
+        real,
+        racks,
+        log,
+        tail,
+        written,
+    )
+}
+
+// Settles the ring, where all else holds what the goal has there.
+pub fn settle_ring(
+    rows: &[u64; 64],
+    n: usize,
+    circle: &[u8; 64],
+    size: usize,
+    y: usize,
+    goal: &[u8; 64],
+    real: usize,
+    racks: &mut [u8; 64],
+    log: &mut [u16; 8256],
+    tail: &mut [u8],
+    written: usize,
+) -> usize
+    requires { ⌜ Rows n (now rows) ⌝ ∗ ⌜ Circle n (Edge (now rows)) (row (now circle)) size y ⌝ ∗ ⌜ Table n (row (now racks)) × Table n (row (now goal)) × (row (now goal) (row (now circle) 0) ≡ 0) × (row (now goal) (row (now circle) 1) ≡ 0) × ((p : ℕ) → (On (row (now circle)) size p → ⊥) → row (now racks) p ≡ row (now goal) p) ⌝ ∗ ⌜ Room (now racks) (now log) (now tail) written (2 * (n - 1) + size * (4 * (n * n) + 6)) ⌝ }
+    ensures { λ r. ⌜ Trip (now (rows .entry)) real (2 * (n - 1) + size * (4 * (n * n) + 6)) (now (racks .entry)) (now (tail .entry)) written (now (racks .exit)) (now (tail .exit)) r ⌝ ∗ ⌜ Same (row (now (racks .exit))) (row (now (goal .entry))) ⌝ ∗ ⌜ length (now (log .exit)) ≡ length (now (log .entry)) ⌝ }
+{
+    let ring = settling::part(circle, 0, size);
+    let x = circle[0] as usize;
+    let next = circle[1] as usize;
+    let mut tally = moving::clear(
+        rows,
+        n,
+        ring,
+        x,
+        real,
+        racks,
+        log,
+        tail,
+        Tally { written, logged: 0 },
+    );
+    tally = moving::clear(
+        rows,
+        n,
+        sets::without(ring, x),
+        next,
+        real,
+        racks,
+        log,
+        tail,
+        tally,
+    );
+    let mut written = tally.written;
+    let mut i: usize = 2;
+    while i < size {
+        written = settle_place(
+            rows,
+            n,
+            circle,
+            size,
+            y,
+            i,
+            goal,
+            real,
+            racks,
+            log,
+            tail,
+            written,
+        );
+        i += 1;
+    }
+    written
+}
+
+// The place at which x stands on the base ring.
+fn place_on(order: &[u8; 64], size: usize, x: usize) -> usize
+    requires { ⌜ (size ≤ 64) × ((i : ℕ) × (i < size) × (row (now order) i ≡ x)) ⌝ }
+    ensures { λ r. ⌜ (r < size) × (row (now (order .entry)) r ≡ x) ⌝ }
+{
+    let mut i: usize = 0;
+    while i + 1 < size {
+        if order[i] as usize == x {
+            return i;
+        }
+        i += 1;
+    }
+    i
+}
+
+// The base ring of a breakdown from x on, the left end of its first handle, in the order round it.
+pub fn ring_from(order: &[u8; 64], size: usize, x: usize, circle: &mut [u8; 64])
+    requires { ⌜ (size ≤ 64) × ((i : ℕ) × (i < size) × (row (now order) i ≡ x)) × (length (now circle) ≡ 64) ⌝ }
+    ensures { λ _. ⌜ ((n handles : ℕ) (g : List ℕ) (start left right : ℕ → ℕ) → Rows n g → Breakdown n (Edge g) size handles (row (now (order .entry))) start left right → left 0 ≡ x → Circle n (Edge g) (row (now (circle .exit))) size (row (now (order .entry)) size) × ((p : ℕ) → Among (row (now (order .entry))) size p ↔ On (row (now (circle .exit))) size p)) ⌝ }
+{
+    let z = place_on(order, size, x);
+    let mut j: usize = 0;
+    while j < size {
+        circle[j] = order[(z + j) % size];
+        j += 1;
+    }
+}
