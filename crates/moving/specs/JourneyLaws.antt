@@ -1,5 +1,6 @@
 -- Laws of journeys.
 --
+--     packed-nothing, packed-same    no move in the plan
 --     packed-next          one move more in the plan
 --     trail-next           one move more in the log
 --     onto-append          the moves ms and then ns, turned round
@@ -35,6 +36,15 @@ use Rattle.moving.specs.Went.Went.{stay, real, stand-in}
 use Rattle.moving.specs.WentLaws.{same-refl, went-append, within-less, within-append, went-one}
 use Rattle.moving.specs.Journey.{row, Packed, onto, Trail, Fits, Room, Trip, Journey, JourneyIn}
 use Rattle.moving.specs.Journey.Trail.{start, entry}
+
+-- no move packed: the bytes are as they were
+pub packed-nothing : (t : List ℕ) → Packed t [] t
+unfolding pack
+packed-nothing t = record { is = refl }
+
+pub packed-same : {t t′ : List ℕ} → Packed t [] t′ → t′ ≡ t
+unfolding pack
+packed-same p = p .is
 
 length-putPair : (t : List ℕ) (j a b : ℕ) → length (putPair t j a b) ≡ length t
 unfolding putPair

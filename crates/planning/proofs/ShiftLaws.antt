@@ -12,7 +12,6 @@ use mathlib.Core.Logic.{_↔_, _≢_}
 use native.Mathlib.Omega.{arith}
 use lib.ListN.{length}
 use Rattle.sets.specs.Sets.{Has}
-use Rattle.field.specs.Packing.{pack}
 use Rattle.graph.specs.WalkLaws.{walk-inside}
 use Rattle.graph.specs.Connected.{BiConnected}
 use Rattle.graph.specs.Rows.{Edge, Rows}
@@ -20,7 +19,7 @@ use Rattle.moving.specs.Went.{Went}
 use Rattle.moving.specs.Went.Went.{stay, real, stand-in}
 use Rattle.moving.specs.Journey.{row, Packed, onto, Trail, Trip, Journey}
 use Rattle.moving.specs.Journey.Trail.{start}
-use Rattle.moving.specs.JourneyLaws.{journey-append}
+use Rattle.moving.specs.JourneyLaws.{journey-append, packed-nothing, packed-same}
 use Rattle.moving.specs.Cleared.{Reaches, Cleared}
 use Rattle.settling.specs.Table.{Table}
 use Rattle.settling.specs.TableLaws.{table-went, table-other}
@@ -52,11 +51,8 @@ none-written (real {h = h} {a = a} m low w) = absurd (m .held (zero (h a) low))
 none-written (stand-in m low w) = none-written w
 
 pub tail-kept : {g : List ℕ} {c : ℕ} {h t h′ t′ : List ℕ} {w′ : ℕ} → Trip g 0 c h t 0 h′ t′ w′ → t′ ≡ t
-unfolding pack
 tail-kept {t = t} {t′ = t′} a =
-    let none = none-written (a .went) in
-    let p = a .packed t [] refl (record { is = refl }) in
-    subst (λ (ws : List (ℕ × ℕ)). Packed t ws t′) none p .is
+    packed-same (subst (λ (ws : List (ℕ × ℕ)). Packed t ws t′) (none-written (a .went)) (a .packed t [] refl (packed-nothing t)))
 
 module _ {n : ℕ} (g : List ℕ) (rows : Rows n g) (x y all free : ℕ) (has : (p : ℕ) → Has all p ↔ (p < n)) (less : (p : ℕ) → Has free p ↔ (Has all p × (p ≢ x)))
     (t m k l l₁ l₂ s s₁ s₂ : List ℕ) (w₁ j₁ w₂ j₂ : ℕ) (table : Table n (row t)) where
@@ -65,7 +61,6 @@ module _ {n : ℕ} (g : List ℕ) (rows : Rows n g) (x y all free : ℕ) (has : 
 
   pub shifted : length l ≡ 8256 → Journey g 0 (n - 1) t l s 0 0 m l₁ s₁ w₁ j₁ → Cleared (Has all) x (row t) (row m)
       → Journey g 0 (n - 1) m l₁ s₁ w₁ j₁ k l₂ s₂ w₂ j₂ → Cleared (Has free) y (row m) (row k) → Shift n g x y t k l₂ j₂ × (s₂ ≡ s)
-  unfolding journey-append
   shifted long a c₁ b c₂ =
       let both = journey-append a b in (
         record {
