@@ -1,1 +1,2 @@
 pub mod ShiftLaws
+pub mod SolveLaws

@@ -1,0 +1,103 @@
+-- Laws of the whole way from one arrangement to another.
+--
+--     bound                    the moves of all the parts together
+--     table-two                where two positions are vacant, no other is
+--     first-handle, first-end  there is a handle, and its left end is on the base ring
+--     filled                   with the goal shifted, every position off the base ring has a rack
+--     off-ring                 with the handles settled, everything off the ring is settled
+--     taken-back               the shift, taken back from the shifted goal
+-- Assumes nothing.
+use Prim.Native.Nat.{ℕ, _+_, _-_, _*_, _≤_, _<_}
+use mathlib.Core.Path.{_≡_, refl, sym, ap, subst, _∙_}
+use mathlib.Core.List.{List, []}
+use mathlib.Core.Logic.{_↔_, _≢_, _⊎_, inl, inr, ⊎-elim, by-cases}
+use native.Mathlib.Decide.{ℕ-discrete, decLt}
+use native.Mathlib.Nat.{add-mul, mul-add, mul-left-comm, mul-le-mul-right, mul-comm}
+use native.Mathlib.Omega.{arith}
+use Rattle.graph.specs.Walk.{Symmetric}
+use Rattle.graph.specs.Rows.{Edge, Rows}
+use Rattle.breakdown.specs.Breakdown.{Among, Breakdown}
+use Rattle.moving.specs.Went.{Same, Back}
+use Rattle.moving.specs.Went.Back.{done}
+use Rattle.moving.specs.WentLaws.{same-refl}
+use Rattle.moving.specs.BackLaws.{back-went, back-from}
+use Rattle.moving.specs.Journey.{row, onto}
+use Rattle.settling.specs.Table.{Table}
+use Rattle.settling.specs.Circle.{Circle, On}
+use Rattle.planning.specs.Shift.{Shift}
+
+pub bound : (n r : ℕ) → 3 ≤ r → r < n → (n - r) * (4 * (n * n)) + ((2 * (n - 1) + r * (4 * (n * n) + 6)) + 2 * (n - 1)) ≤ 8 * (n * (n * n))
+bound n r three less =
+    let q = 4 * (n * n) in
+    let back : n - r + r ≡ n = omega arith in
+    let all : n * q ≡ (n - r) * q + r * q = ap (λ (x : ℕ). x * q) (sym back) ∙ add-mul (n - r) r q in
+    let ring : r * (q + 6) ≡ r * q + r * 6 = mul-add r q 6 in
+    let four : n * q ≡ 4 * (n * (n * n)) = mul-left-comm n 4 (n * n) in
+    let long : 4 * n ≤ n * n = mul-le-mul-right n (omega arith) in
+    let high : 4 * (n * n) ≤ n * (n * n) = mul-le-mul-right (n * n) (omega arith) in
+    omega arith
+
+pub table-two : {n : ℕ} {h : ℕ → ℕ} → Table n h → (x y : ℕ) → x < n → y < n → x ≢ y → h x ≡ 0 → h y ≡ 0 → (p : ℕ) → p < n → h p ≡ 0 → (p ≡ x) ⊎ (p ≡ y)
+table-two t x y hx hy other zx zy p hp zp = by (t .only x hx zx) (t .only y hy zy) (t .only p hp zp)
+  where
+    by : (x ≡ t .first) ⊎ (x ≡ t .second) → (y ≡ t .first) ⊎ (y ≡ t .second) → (p ≡ t .first) ⊎ (p ≡ t .second) → (p ≡ x) ⊎ (p ≡ y)
+    by (inl a) (inl b) c = absurd (other (a ∙ sym b))
+    by (inl a) (inr b) c = ⊎-elim (λ e. inl (e ∙ sym a)) (λ e. inr (e ∙ sym b)) c
+    by (inr a) (inl b) c = ⊎-elim (λ e. inr (e ∙ sym b)) (λ e. inl (e ∙ sym a)) c
+    by (inr a) (inr b) c = absurd (other (a ∙ sym b))
+
+module _ {n r c : ℕ} {E : ℕ → ℕ → Type 0} {at start left right : ℕ → ℕ} (b : Breakdown n E r c at start left right) where
+  pub first-handle : 0 < c
+  first-handle =
+      by-cases (ℕ-discrete c 0)
+      (λ e. let same : start c ≡ start 0 = ap start e in let x = b .begins in let y = b .stops in let z = b .ring-less in omega arith)
+      (λ e. omega arith)
+
+  pub first-end : (i : ℕ) × (i < r) × (at i ≡ left 0)
+  first-end =
+      let l = b .handle 0 first-handle .left in
+      let e = b .begins in
+      let h = l .before in
+      (l .place, omega arith, l .is)
+
+  module _ (circle : ℕ → ℕ) (y : ℕ) (ring : Circle n E circle r y) (on : (p : ℕ) → Among at r p ↔ On circle r p) where
+    zero-place : circle 0 < n
+    zero-place = ring .below 0 (let t = ring .three in omega arith)
+
+    one-place : circle 1 < n
+    one-place = ring .below 1 (let t = ring .three in omega arith)
+
+    pub apart : circle 0 ≢ circle 1
+    apart = ring .distinct 0 1 (omega arith) (let t = ring .three in omega arith)
+
+    pub filled : (k : ℕ → ℕ) → Table n k → k (circle 0) ≡ 0 → k (circle 1) ≡ 0 → (j : ℕ) → r ≤ j → j < n → k (at j) ≢ 0
+    filled k t zero one j le l z =
+        let three = ring .three in
+        ⊎-elim
+        (λ e. off (record { place = 0; before = omega arith; is = sym e }))
+        (λ e. off (record { place = 1; before = omega arith; is = sym e }))
+        (table-two t (circle 0) (circle 1) zero-place one-place apart zero one (at j) (b .below j l) z)
+      where
+        off : On circle r (at j) → ⊥
+        off o =
+            let a = on (at j) .1 o in
+            let h = a .before in
+            b .distinct (a .place) j (omega arith) l (a .is)
+
+    pub off-ring : (h k : ℕ → ℕ) → Table n h → Table n k → ((j : ℕ) → r ≤ j → j < n → h (at j) ≡ k (at j)) → (p : ℕ) → (On circle r p → ⊥) → h p ≡ k p
+    off-ring h k th tk settled p not =
+        by-cases (decLt p n)
+        (λ l.
+        let a = b .every p l in
+        let in-row = a .before in
+        by-cases (decLt (a .place) r)
+        (λ i. absurd (not (on p .0 (record { place = a .place; before = i; is = a .is }))))
+        (λ i. ap h (sym (a .is)) ∙ settled (a .place) (omega arith) (a .before) ∙ ap k (a .is)))
+        (λ l. outside h th l ∙ sym (outside k tk l))
+      where
+        outside : (f : ℕ → ℕ) → Table n f → (p < n → ⊥) → f p ≡ 0
+        outside f t l = by-cases (ℕ-discrete (f p) 0) (λ e. e) (λ e. absurd (l (t .inside p e)))
+
+pub taken-back : {n : ℕ} {g : List ℕ} {x y : ℕ} {t k l : List ℕ} {j : ℕ} (h : List ℕ) → Symmetric (Edge g) → (s : Shift n g x y t k l j) → Same (row h) (row k)
+    → Back (Edge g) (row h) (onto (s .moves) []) (row t)
+taken-back {t = t} h symmetric s same = back-from same (back-went symmetric (s .went) (done (same-refl (row t))))
