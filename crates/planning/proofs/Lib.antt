@@ -1,2 +1,3 @@
 pub mod ShiftLaws
 pub mod SolveLaws
+pub mod FillLaws

@@ -3,7 +3,7 @@
 use moving::Tally;
 ghost use mathlib.Core.Logic.{_≢_};
 ghost use mathlib.Core.Path.{_≡_};
-ghost use Prim.Native.Nat.{ℕ, _-_, _*_, _<_};
+ghost use Prim.Native.Nat.{ℕ, _+_, _-_, _*_, _≤_, _<_};
 ghost use lib.ListN.{length};
 ghost use Rattle.graph.specs.Connected.{BiConnected};
 ghost use Rattle.graph.specs.Rows.{Edge, Rows};
@@ -12,6 +12,7 @@ ghost use Rattle.moving.specs.Went.{Same};
 ghost use Rattle.moving.specs.Journey.{row, Room, Trip};
 ghost use Rattle.settling.specs.Table.{Table};
 ghost use Rattle.planning.specs.Shift.{Shift};
+ghost use Rattle.planning.specs.Placed.{Placed, Filled};
 
 // Shifts the goal so that x and `next`, beside each other, are vacant in it. What leads there is logged, and no move of it is written: no rack is real
 // here. Yields how many moves are logged.
@@ -31,4 +32,19 @@ fn shift_goal(
     let mut tally = moving::clear(rows, n, all, x, 0, goal, back, tail, Tally { written: 0, logged: 0 });
     tally = moving::clear(rows, n, sets::without(all, x), next, 0, goal, back, tail, tally);
     tally.logged
+}
+
+// Fills the vacancies beyond two with stand-ins, racks m + 1 and up, the lowest position first.
+pub fn fill(n: usize, m: usize, racks: &mut [u8; 64])
+    requires { ⌜ (n ≤ 64) × (m + 2 ≤ n) × Placed n m (row (now racks)) × (length (now racks) ≡ 64) ⌝ }
+    ensures { λ _. ⌜ Table n (row (now (racks .exit))) × Filled m (row (now (racks .entry))) (row (now (racks .exit))) × (length (now (racks .exit)) ≡ 64) ⌝ }
+{
+    let mut vacant = moving::vacancies(racks, n);
+    let mut r = m;
+    while r + 2 < n {
+        let p = sets::lowest(vacant);
+        r += 1;
+        racks[p] = r as u8;
+        vacant = sets::without(vacant, p);
+    }
 }

@@ -8,6 +8,9 @@
 --     ones-most       at most n, where no other position is
 --     ones-all        with n and no others, each position below n is in the set
 --     ones-parts      two sets apart within another have no more together
+--     ones-one        the set of one position
+--     Pair, ones-pair with two positions at least, two of them
+--     ones-third      with two positions, there is no third
 --     pigeonhole      k different numbers below n: k is at most n
 -- Assumes nothing.
 use Prim.Native.Nat.{ℕ, zero, suc, _+_, _-_, _*_, _/_, _%_, _^_, _≤_, _<_}
@@ -19,7 +22,7 @@ use lib.Arith.{bin-ind}
 use lib.Bits.{bitOr}
 use lib.Count.{ones, ones-step}
 use Rattle.sets.specs.Sets.{bit, Has}
-use Rattle.sets.specs.SetLaws.{bit-low, bit-high, bit-two, has-none, has-or-not, has-or, has-only}
+use Rattle.sets.specs.SetLaws.{bit-low, bit-high, bit-two, has-none, has-or-not, has-or, has-only, has-some}
 
 ones-none : ones 0 ≡ 0
 unfolding ones
@@ -202,3 +205,61 @@ module _ (n : ℕ) (f : ℕ → ℕ) (k : ℕ) (below : (i : ℕ) → i < k → 
       let c = r .count in
       let m = ones-most n (r .set) (λ p h. let a = r .among p h in let b = below (a .0) (a .1) in let e = a .2 in omega arith) in
       omega arith
+
+pub ones-one : (v : ℕ) → ones (2 ^ v) ≡ 1
+ones-one v = let e = ones-push v 0 (2 ^ v) (λ p. (λ h. inr (has-only v p .0 h), λ h. ⊎-elim (λ x. absurd (has-none p x)) (λ x. has-only v p .1 x) h)) (has-none v) in let z = ones-none in omega arith
+
+-- Two different positions of a set.
+pub record Pair (s : ℕ) : Type 0 where
+  pub one : ℕ
+  pub two : ℕ
+  pub up : one < two
+  pub has-one : Has s one
+  pub has-two : Has s two
+
+pub ones-pair : (s : ℕ) → 2 ≤ ones s → Pair s
+ones-pair =
+    bin-ind (λ (s : ℕ). 2 ≤ ones s → Pair s)
+    (λ h. absurd (none h))
+    (λ s ih h.
+    let a = ones-step s in
+    let b = bit-low s in
+    ⊎-elim
+    (λ low.
+    let some = has-some (s / 2) (positive (s / 2) (omega arith)) in
+    record { one = 0; two = suc (some .0); up = omega arith; has-one = low; has-two = bit-high s (some .0) ∙ some .1 })
+    (λ low.
+    let r = ih (omega arith) in
+    let u = r .up in
+    record { one = suc (r .one); two = suc (r .two); up = omega arith; has-one = bit-high s (r .one) ∙ r .has-one; has-two = bit-high s (r .two) ∙ r .has-two })
+    (has-or-not s 0))
+  where
+    none : 2 ≤ ones 0 → ⊥
+    none h = let z = ones-none in omega arith
+
+    positive : (x : ℕ) → 0 < ones x → 0 < x
+    positive x h = by-cases (ℕ-discrete x 0) (λ e. let z = ones-none in let y = ap ones e in omega arith) (λ e. omega arith)
+
+pub ones-third : (s a b p : ℕ) → ones s ≤ 2 → a ≢ b → Has s a → Has s b → Has s p → (p ≡ a) ⊎ (p ≡ b)
+ones-third s a b p most other ha hb hp =
+    by-cases (ℕ-discrete p a) (λ e. inl e)
+    (λ e. by-cases (ℕ-discrete p b) (λ f. inr f)
+    (λ f.
+    let two = ones-push b (2 ^ a) (bitOr (2 ^ a) (2 ^ b)) (joined (2 ^ a) b) (λ h. other (sym (has-only a b .0 h))) in
+    let three = ones-push p (bitOr (2 ^ a) (2 ^ b)) (bitOr (bitOr (2 ^ a) (2 ^ b)) (2 ^ p)) (joined (bitOr (2 ^ a) (2 ^ b)) p)
+    (λ h. ⊎-elim (λ x. e (has-only a p .0 x)) (λ x. f x) (joined (2 ^ a) b p .0 h)) in
+    let one = ones-one a in
+    let sub = ones-subset (bitOr (bitOr (2 ^ a) (2 ^ b)) (2 ^ p)) s (λ q h. inside q (joined (bitOr (2 ^ a) (2 ^ b)) p q .0 h)) in
+    inl (omega arith)))
+  where
+    joined : (t v q : ℕ) → Has (bitOr t (2 ^ v)) q ↔ (Has t q ⊎ (q ≡ v))
+    joined t v q =
+        let o = has-or t (2 ^ v) q in
+        let w = has-only v q in
+        (λ h. ⊎-elim (λ x. inl x) (λ x. inr (w .0 x)) (o .0 h), λ h. o .1 (⊎-elim (λ x. inl x) (λ x. inr (w .1 x)) h))
+
+    inside : (q : ℕ) → Has (bitOr (2 ^ a) (2 ^ b)) q ⊎ (q ≡ p) → Has s q
+    inside q h =
+        ⊎-elim
+        (λ x. ⊎-elim (λ y. subst (Has s) (sym (has-only a q .0 y)) ha) (λ y. subst (Has s) (sym y) hb) (joined (2 ^ a) b q .0 x))
+        (λ x. subst (Has s) (sym x) hp) h

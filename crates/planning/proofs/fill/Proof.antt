@@ -1,0 +1,64 @@
+-- `planning::fill` meets its contract. The invariant is the record `Filling`.
+-- Assumes nothing.
+use Prim.Native.Nat.{_+_, _-_}
+use native.Mathlib.Omega.{arith}
+use Rattle.planning.proofs.FillLaws.{Filling, filling-begin, filling-some, filling-step, filling-end}
+use Rattle.planning.proofs.fill.Statement.{statement}
+use Rattle.planning.proofs.fill.Tie as tie
+
+abbrev Inv-loop : tie.InvT-loop
+Inv-loop n m racks₀ vacant₀ r₀ racks vacant r = Filling n m racks₀ racks r vacant
+
+abbrev μ-loop : tie.MeasureT-loop
+μ-loop n m racks₀ vacant₀ r₀ racks vacant r = n - r
+
+vacancies-requires : tie.Need-vacancies-requires Inv-loop μ-loop
+vacancies-requires c κs = c .before .pre .0
+
+loop-holds : tie.Need-loop-holds Inv-loop μ-loop
+loop-holds c = let s = c .before .before in let p = s .pre in filling-begin _ (p .3) (p .1) (p .2) (c .vacancies .ensures)
+
+add-loop : tie.Need-add-loop Inv-loop μ-loop
+add-loop c = let r = c .loop .inv .room in let n = c .before .before .before .pre .0 in omega arith
+
+lowest-requires : tie.Need-lowest-requires Inv-loop μ-loop
+lowest-requires c κs = filling-some (c .before .loop .inv)
+
+add-r : tie.Need-add-r Inv-loop μ-loop
+add-r c = let r = c .before .before .loop .inv .room in let n = c .before .before .before .before .before .pre .0 in omega arith
+
+cast-racks : tie.Need-cast-racks Inv-loop μ-loop
+cast-racks c = let r = c .before .before .loop .inv .room in let n = c .before .before .before .before .before .pre .0 in omega arith
+
+element-write-racks : tie.Need-element-write-racks Inv-loop μ-loop
+element-write-racks c = c .lowest .ensures .0
+
+without-requires : tie.Need-without-requires Inv-loop μ-loop
+without-requires c κs = c .lowest .ensures .0
+
+loop-less : tie.Need-loop-less Inv-loop μ-loop
+loop-less c = let r = c .before .before .before .loop .inv .room in let t = c .before .before .loop-test .taken in omega arith
+
+loop-again : tie.Need-loop-again Inv-loop μ-loop
+loop-again c = filling-step _ _ _ _ _ (c .before .before .before .before .before .before .pre .0) (c .before .before .loop-test .taken) (c .before .lowest .ensures .1 .0) (c .without .ensures) (c .before .before .before .loop .inv)
+
+returns : tie.Need-returns Inv-loop μ-loop
+returns c = let l = c .before .loop in (filling-end _ _ _ (omega arith) (l .inv), l .inv .filled, l .inv .long)
+
+pub fill-spec : {M : Type 1} → statement M
+fill-spec =
+    tie.close
+    (tie.spec
+    Inv-loop
+    μ-loop
+    vacancies-requires
+    loop-holds
+    add-loop
+    lowest-requires
+    add-r
+    cast-racks
+    element-write-racks
+    without-requires
+    loop-less
+    loop-again
+    returns)
