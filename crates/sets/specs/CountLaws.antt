@@ -15,6 +15,7 @@ use mathlib.Core.Path.{_≡_, refl, sym, ap, _∙_}
 use mathlib.Core.Logic.{_↔_, _≢_, _⊎_, inl, inr, ⊎-elim, by-cases}
 use mathlib.Core.Bool.{cond}
 use native.Mathlib.Decide.{ℕ-discrete}
+use native.Mathlib.Nat.{not-suc-le-zero}
 use native.Mathlib.Omega.{arith}
 use borrow.Author.Tests.{eq-eqb, ne-eqb}
 use lib.Arith.{bin-ind}
@@ -124,20 +125,14 @@ ones-least (suc n) s all =
     omega arith
 
 pub ones-most : (n s : ℕ) → ((p : ℕ) → Has s p → p < n) → ones s ≤ n
-ones-most zero s none = let r = ones-subset s 0 (λ p h. absurd (never (none p h))) in let z = ones-none in omega arith
-  where
-    never : {p : ℕ} → p < 0 → ⊥
-    never l = omega arith
+ones-most zero s none = let r = ones-subset s 0 (λ p h. absurd (not-suc-le-zero (none p h))) in let z = ones-none in omega arith
 ones-most (suc n) s below =
     let a = ones-step s in
     let r = ones-most n (s / 2) (λ p h. let l = below (suc p) (bit-high s p ∙ h) in omega arith) in
     omega arith
 
 pub ones-all : (n s : ℕ) → ((p : ℕ) → Has s p → p < n) → ones s ≡ n → (p : ℕ) → p < n → Has s p
-ones-all zero s below e p l = absurd (never l)
-  where
-    never : {p : ℕ} → p < 0 → ⊥
-    never l = omega arith
+ones-all zero s below e p l = absurd (not-suc-le-zero l)
 ones-all (suc n) s below e zero l =
     let a = ones-step s in
     let b = bit-low s in
