@@ -2,7 +2,9 @@
 --
 --     breakdown-along     a breakdown stays one where more edges join
 --     handles-few         there are fewer handles than positions
---     short, order-refused, not-found, found    what is shown: nothing in too short a buffer, of a refused order, of a floor without a breakdown; else it
+--     gave, rows-right    what an accepted order tells, and that the rows filled are those of a floor
+--     small               the ring's size and the number of handles fit into the answer
+--     short, order-refused, not-found, found    what is shown: nothing in too short a buffer, of a refused order or where there is none; else it
 -- Assumes nothing.
 use Prim.Native.Nat.{ℕ, zero, suc, _+_, _-_, _*_, _≤_, _<_}
 use mathlib.Core.Path.{_≡_, refl, ap, _∙_}

@@ -1,11 +1,14 @@
 -- Laws of edges in ascending order: a floor's edges, as a set, have one such list.
 --
 --     place e                the place of an edge in the order of edges
+--     and-left, and-right    both tests of a conjunction hold where it holds
+--     isPair-same, isPair-is    the test of two pairs passes just where they are the same
 --     bad-is                 an edge is bad just where it is not lower first or its higher position is n or more
 --     precedes-is            the order of edges is the order of their places
 --     ascending-first        the first edge of an ascending list comes before all others
 --     rest-ascends           the rest of an ascending list ascends
 --     same-set               two ascending lists of the same edges are the same list
+--     good-among             an edge of a list without bad edges is lower first, its positions below n
 --     among-joined           where all edges are lower first, those of the list are the pairs that are joined, lower first
 -- Assumes nothing.
 use Prim.Native.Nat.{ℕ, _+_, _*_, _≤_, _<_}

@@ -1,6 +1,8 @@
 -- Every set of edges has its ascending list: the floor of a relation on n positions.
 --
 --     IsRelation n E          E joins positions below n, in both directions, and none to itself
+--     pairOf i                the pair at place i of the order of edges
+--     isEdge n E i            it is lower first, below n and joined by E
 --     listed test i k         the pairs at the places i to i + k - 1 of the order of edges that pass the test
 --     floorFrom n E           the floor of n positions whose edges are the pairs that E joins
 --     floorFrom-right         its edges are lower first, below n and ascending

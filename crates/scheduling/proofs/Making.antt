@@ -1,7 +1,7 @@
 -- The maker's answers: the plan checker's refusal passed up, 44, and the made timetable.
 --
 --     maker-refused     a refusal of the plan checker is the maker's, and the buffer stays
---     PlanRead, plan-read    what an accepted plan tells of its tail
+--     count-below, head-there, tail-moves, tail-fits    what an accepted plan tells: few moves, a head, and a tail that has the moves
 --     maker-short       44
 --     maker-room, head-room  the steps and the head have room
 --     maker-made        the answer and the buffer, once steps and head are written

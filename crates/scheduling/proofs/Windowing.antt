@@ -2,10 +2,10 @@
 --
 --     WroteRows t s n at b next row                  the steps of the first rows of the window t are written into s
 --     rows-first, rows-length, rows-room, rows-more, rows-all    from row to row
---     filled-latest, filled-few, filled-fit, filled-room, filled-written    what a filled window has
+--     filled-latest, filled-few, filled-fit, filled-steps, filled-room, filled-written    what a filled window has
 --     Known ms s n, known-first, known-later, known-on, known-last          that s is the number of steps, from the first window on
 --     WroteWindows ms s b at n                       the steps of the first n windows are written into s
---     windows-none, windows-room, windows-more, windows-all      from window to window
+--     windows-none, windows-length, windows-room, windows-more, windows-all      from window to window
 -- Assumes nothing.
 use Prim.Native.Nat.{ℕ, zero, suc, _+_, _-_, _*_, _/_, _≤_, _<_, min}
 use mathlib.Core.Path.{_≡_, refl, sym, ap, _∙_}

@@ -1,9 +1,14 @@
 -- Writing a step: the moves of a row, one after another behind the count, which is written last.
 --
---     entry-none, entry-some, entry-room     what `write_entry` does, by the entry
+--     entry-none, entry-count, entry-some, entry-room    what `write_entry` does, by the entry
+--     entryMoves p e                         the move of an entry, if it is one
 --     row-next                               the moves of one more entry
+--     row-most, row-few                      the first p entries have at most as many moves as the row, and as there are entries
 --     Writing t i s at p n b                 the buffer b and the count n after p entries of row i, the buffer having been s
---     writing-first, -next, -last            how that goes on
+--     length-kept, entry-fits, count-few     before an entry: the length is the same, its move has room, and there are fewer than 64
+--     entry-fits-at, writing-next-at         the same, and the next turn, by the entry as it was read
+--     writing-first, writing-next, writing-all, writing-last    how that goes on
+--     count-at-most, end-is, length-same, at-inside    after all: at most 64 moves, where the step ends, the same length, and room for the count
 -- Assumes nothing.
 use Prim.Native.Nat.{ℕ, zero, suc, _+_, _-_, _*_, _/_, _≤_, _<_}
 use mathlib.Core.Path.{_≡_, refl, sym, ap, ap₂, _∙_}

@@ -1,6 +1,6 @@
 -- The timetable record as the bytes that the maker writes.
 --
---     step-bytes         the record of a step is its count and its packed moves
+--     step-bytes, steps-bytes    the record of a step is its count and its packed moves; and those of steps, one after another
 --     head-bytes         the head of the record
 --     record-bytes       the record is its head and the bytes of its steps
 --     front-written      a record written behind its head, and then its head, leaves what stands behind it

@@ -1,7 +1,7 @@
 -- Laws of rows read one after another, and of bytes written one after another.
 --
 --     rows-split                                 the first k rows and those behind them
---     rows-none                                  no rows
+--     rows-next                                  one row more
 --     stepsBytes-append                          the bytes of steps and of the steps behind them
 --     written-none, length-written               nothing written changes nothing, and no writing changes the length
 --     written-append                             bytes written, and more behind them

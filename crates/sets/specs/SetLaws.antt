@@ -1,7 +1,7 @@
 -- Laws of sets as words: what the operations on words do to the positions in them.
 --
 --     bit-low, bit-high       the lowest digit, and the others as those of half the number
---     bit-two                 a digit is 0 or 1
+--     bit-two, bit-zero       a digit is 0 or 1, and those of 0 are 0
 --     has-or-not              a position is in a set or it is not
 --     has-below               a word of k digits has no position from k on
 --     has-none                nothing is in the empty set

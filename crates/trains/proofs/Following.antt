@@ -8,7 +8,9 @@
 --     chain-on, chain-falls    the chain goes on where the move that leaves p enters, and fewer moves are unvisited
 --     chain-failed, chain-ended    what is found there holds from p
 --     chain-marked       a move that is led leaves a position from which the chain is known
+--     judge              whether each of the moves is led
 --     Leading            a loop over a step's moves: what is left to judge decides
+--     leading-first, leading-chain    before the first move; a chain may be followed from each move
 --     not-led, leading-next, leading-last   a move without a leader decides; one that is led leaves the rest; after the last the answer is yes
 -- Assumes nothing.
 use Prim.Native.Nat.{ℕ, zero, suc, _+_, _-_, _≤_, _<_}
