@@ -125,13 +125,13 @@ module _ (s : List ℕ) (at : ℕ) where
   }
 
 pub record Left (s : List ℕ) (at : ℕ) (l t : List ℕ) (r : ℕ) (m : List ℕ) : Type 0 where
-  pub text-same : written t r m ≡ written s at l
+  pub bytes-same : written t r m ≡ written s at l
   pub next-same : r + length m ≡ at + length l
   pub length-same : length t ≡ length s
 
 module _ {s : List ℕ} {at : ℕ} {l : List ℕ} where
   pub left-first : Left s at l s at l
-  left-first = record { text-same = refl; next-same = refl; length-same = refl }
+  left-first = record { bytes-same = refl; next-same = refl; length-same = refl }
 
   pub left-fits : {t m : List ℕ} {r : ℕ} → Fits s at l → Left s at l t r m → Fits t r m
   left-fits f k = record { room = omega (arith, f .room, k .next-same, k .length-same) }
@@ -140,10 +140,10 @@ module _ {s : List ℕ} {at : ℕ} {l : List ℕ} where
   left-next x m {t} {u} {r} {q} f k w =
       let fits : Fits t r x = fits-front x m (left-fits f k) in
       record {
-        text-same = ap₂ (λ (y : List ℕ) (n : ℕ). written y n m) (w .bytes-are) (w .next-is) ∙ written-append t r x fits m ∙ k .text-same;
+        bytes-same = ap₂ (λ (y : List ℕ) (n : ℕ). written y n m) (w .bytes-are) (w .next-is) ∙ written-append t r x fits m ∙ k .bytes-same;
         next-same = omega (arith, w .next-is, k .next-same, length-append x m);
         length-same = wrote-length fits w ∙ k .length-same;
       }
 
   pub left-none : {t : List ℕ} {r : ℕ} → Left s at l t r [] → Wrote s at l t r
-  left-none {t} {r} k = record { bytes-are = wrote-none t r .bytes-are ∙ k .text-same; next-is = sym (add-zero r) ∙ k .next-same }
+  left-none {t} {r} k = record { bytes-are = wrote-none t r .bytes-are ∙ k .bytes-same; next-is = sym (add-zero r) ∙ k .next-same }
