@@ -2,7 +2,7 @@
 --
 --     WroteRows t s n at b next row                  the steps of the first rows of the window t are written into s
 --     rows-first, rows-length, rows-room, rows-more, rows-all    from row to row
---     filled-latest, filled-few, filled-fit, filled-room, filled-wrote    what a filled window has
+--     filled-latest, filled-few, filled-fit, filled-steps, filled-room, filled-wrote    what a filled window has
 --     Known ms s n, known-first, known-later, known-on, known-last          that s is the number of steps, from the first window on
 --     WroteWindows ms s b at n                       the steps of the first n windows are written into s
 --     windows-none, windows-length, windows-room, windows-more, windows-all      from window to window
