@@ -1,7 +1,8 @@
 -- The family word of a number between two tens.
 --
 --     within-yes, within-under, within-over     the test's value from where the number lies
---     word-order, .., word-other                the word from where the number lies
+--     word-order, word-floor, word-plan, word-timetable    the word of a number in a family
+--     word-under, word-over                     the word of one below and above all families
 -- Assumes nothing.
 use Prim.Native.Nat.{ℕ, _≤_, _<_}
 use mathlib.Core.Path.{_≡_, refl, sym, ap}

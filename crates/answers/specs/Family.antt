@@ -2,6 +2,7 @@
 -- A word is the list of its bytes in ASCII.
 --
 --     within a b n    n is from a to b, both included
+--     order, floor, plan, timetable, other    the words
 --     familyWord n    the family word of the refusal number n; a number of no family has the word `other`
 -- Assumes nothing.
 use Prim.Native.Nat.{ℕ}

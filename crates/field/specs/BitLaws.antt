@@ -1,17 +1,25 @@
 -- Laws of bit fields: what reduces a field to bytes, and what a record's bits give back.
 --
+--     Below b l             every number of l is below b
 --     Bits l                every number of l is a bit
 --     Bytes s               every number of s is a byte
---     length-bits, ..       lengths
+--     below-append, below-take, below-drop    so are those of two such lists, and of a part of one
+--     length-bits, length-bitsOf, length-part    how many bits a number, a byte string and a part of it have
+--     bits-are, bitsOf-are  they are bits
+--     drop-bits, take-bits  the last and the first bits of a number's
+--     bits-within           the bits between, as a quotient and a remainder
+--     bits-mod              the last w bits go by the number mod 2^w alone
+--     drop-bitsOf           the bits from byte k on are those of the part from byte k on
 --     number-bits           the number of the w bits of x is x mod 2^w
 --     bits-number           the bits of the number of l are l
 --     number-append         the number of two runs of bits
+--     number-lt, field-lt   a number of w bits, and so a field, is below 2^w
+--     bits-field            the bits of a field are the part that it was read from
+--     field-at              what stands in the bits is what the field reads
 --     field-in-byte         a field inside one byte, as a quotient and a remainder of that byte
 --     field-split           a field of v + w bits is two fields, one after the other
 --     field-across          a field that ends one byte and begins the next
 --     field-drop            a field of the part from byte k on
---     toBytes-bitsOf        a byte string is read back from its bits
---     bitsOf-toBytes        the bits of the bytes of l are l and its pad
 -- Assumes nothing.
 use Prim.Native.Nat.{ℕ, zero, suc, _+_, _-_, _*_, _/_, _%_, _^_, _≤_, _<_}
 use mathlib.Core.Path.{_≡_, refl, sym, ap, ap₂, _∙_, subst}

@@ -5,3 +5,4 @@ pub mod Units
 pub mod WholeBytes
 pub mod UnitLaws
 pub mod Packing
+pub mod Writing

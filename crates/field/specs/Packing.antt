@@ -1,10 +1,11 @@
 -- Pairs as bytes: two pairs take three bytes, and a pair left over takes two, the second of which ends in the pad.
 --
+--     bits-append, bits-split    two runs of bits as the bits of one number, and the other way round
 --     pack l              the pairs l, packed into bytes
---     pack-is             that is the byte string of their bits and the pad
+--     bits-pack, pack-is  that is the byte string of their bits and the pad
 --     length-pack         how many bytes they take
 --     putPair l j a b     the byte string l with the pair a, b written after its first j pairs, and the pad behind it
---     added j             how many bytes the pair after j pairs adds
+--     added j, added-is   how many bytes the pair after j pairs adds
 --     put-next            written behind j packed pairs, it packs one more, and what stands behind the record stays
 -- Assumes nothing.
 use Prim.Native.Nat.{ℕ, zero, suc, _+_, _-_, _*_, _/_, _%_, _^_, _≤_, _<_}

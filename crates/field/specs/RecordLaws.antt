@@ -1,5 +1,6 @@
 -- Laws of whole records: positions and pairs read one after another, and the byte string that a run of bits makes.
 --
+--     BelowPairs b l                        every pair of l has both its positions below b
 --     length-positions, length-pairs        how many are read
 --     positions-lt, pairs-lt                each is below 64
 --     bits-positions, bits-pairs            what was read, as bits, is the part of the record that it was read from
@@ -7,8 +8,10 @@
 --     positions-drop, pairs-drop            the same, read from the part that begins at byte k
 --     pairs-next, positions-next            the next of what is left to read
 --     length-toBytes, toBytes-are           how many bytes a run of bits makes, and that they are bytes
+--     bits-bytes, bytes-bits                whole bytes made of bits, and bits of bytes, are inverse
+--     length-padded, padded-are             bits and their pad: how many, and that they are bits
 --     bitsOf-toBytes                        the bits of the bytes that l makes are l and its pad
---     toBytes-bitsOf                        a byte string is made again of its bits
+--     toBytes-from                          a byte string whose bits are l and its pad is what l makes
 --     bitsOf-injective                      two byte strings of the same bits are the same
 --     length-positionBits, length-pairBits, positionBits-are, pairBits-are    the bits that are written
 --     bits-zero, zeros-at                   zero bits

@@ -1,10 +1,13 @@
 -- Laws of records of units: each test from the facts, and the facts from each test.
 --
+--     or-left, or-right                       both tests of a disjunction fail where it fails
 --     misfits-short, misfits-not, fits        the length
 --     Fitting s u, fitting                    what the length's test leaves
 --     unclean-spare, unclean-pad, clean       the spare and pad bits
 --     Clean s u, cleanly                      what that test leaves
---     tail-room                               the units and their pad take the whole tail, the part from the fourth byte on
+--     pad-of-tail                             the pad, read from the tail, the part from the fourth byte on
+--     tail-units, tail-room                   the units have room in the tail; they and their pad take all of it
+--     pad-after-head                          a head of three bytes changes nothing of the pad
 -- Assumes nothing.
 use Prim.Native.Nat.{ℕ, _+_, _-_, _*_, _/_, _%_, _≤_, _<_}
 use native.Mathlib.Nat.{mul-add-mod-self-left}

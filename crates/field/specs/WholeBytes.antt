@@ -2,6 +2,7 @@
 --
 --     bitsOf-append                    the bits of two byte strings, one after the other
 --     padded-whole, padded-append      whole bytes have no pad
+--     pad-after-whole                  the pad goes by what stands after the last whole byte
 --     toBytes-append                   whole bytes and what follows them, as byte strings
 --     toBytes-whole, length-whole      the bits and the length of a byte string of whole bytes
 --     below-getD, below-each, each-below    the numbers of a list one by one

@@ -1,6 +1,7 @@
 -- The floor judge's layers: its answer from the order reader's acceptance and its own tests.
 --
 --     order-refused     a refusal of the order reader is the answer
+--     gave              what an accepted order tells
 --     crowded           20
 --     rows-right        the rows that the order's edges fill are those of a floor
 --     apart, ring, plain    21, 22, and acceptance, from what the search of the rows says

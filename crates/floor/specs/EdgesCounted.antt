@@ -19,8 +19,8 @@ use lib.ListN.{length, getD, replicate, length-set, length-replicate}
 use Rattle.field.specs.RecordLaws.{BelowPairs, more₂}
 use Rattle.field.specs.UnitLaws.{or-left, or-right}
 use Rattle.order.specs.Floor.{Floor, isPair, among}
-use Rattle.order.specs.Order.{some, badEdge, precedes, ascending, wrongEdges}
-use Rattle.order.specs.EdgeLaws.{and-right, isPair-same, ascending-first, good-among}
+use Rattle.order.specs.Order.{some, badEdge, ascending, wrongEdges}
+use Rattle.order.specs.EdgeLaws.{isPair-same, ascending-first, rest-ascends, good-among}
 use Rattle.tables.specs.TableLaws.{zeros-at}
 use Rattle.sets.specs.Sets.{bit, Has}
 use Rattle.sets.specs.SetLaws.{has-or-not, bit-zero}
@@ -115,11 +115,6 @@ edge-raised g x y long l h z =
   where
     upper : (a b : ℕ) → b < a → a ≡ x → b ≡ y → ⊥
     upper a b lb e f = omega arith
-
-rest-ascends : (e : ℕ × ℕ) (l : List (ℕ × ℕ)) → ascending (e ∷ l) ≡ true → ascending l ≡ true
-unfolding ascending
-rest-ascends e [] a = refl
-rest-ascends e (f ∷ l) a = and-right (precedes e f) (ascending (f ∷ l)) a
 
 pub joined-count : (n : ℕ) (g : List ℕ) (l : List (ℕ × ℕ)) → length g ≡ 64 → BelowPairs 64 l → some (badEdge n) l ≡ false → ascending l ≡ true
     → ((f : ℕ × ℕ) → among f l ≡ true → bit (getD g (f .1) 0) (f .0) ≡ 0) → edgeCount (joinedRows g l) n ≡ edgeCount g n + length l

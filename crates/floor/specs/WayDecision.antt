@@ -11,10 +11,11 @@
 --     except?                 a position of the floor is another than x or not
 --     decideBiConnected       a floor is bi-connected or not
 -- Assumes nothing.
-use Prim.Native.Nat.{ℕ, zero, suc, _≤_, _<_}
+use Prim.Native.Nat.{ℕ, zero, suc, _<_}
 use mathlib.Core.Path.{_≡_, refl, subst, sym}
 use mathlib.Core.Logic.{_⊎_, inl, inr, by-cases, dite}
 use native.Mathlib.Decide.{ℕ-discrete, decLe, decLt}
+use native.Mathlib.Nat.{not-suc-le-zero}
 use native.Mathlib.Omega.{arith}
 use Rattle.graph.specs.Walk.{Walk, Way}
 use Rattle.graph.specs.Walk.Walk.{alone, step}
@@ -46,10 +47,7 @@ implies? {A} {B} (yes a) d = by (d a)
 
 unfoldable pub every? : (n : ℕ) {Q : ℕ → Type 0} → ((p : ℕ) → Dec (Q p)) → Dec ((p : ℕ) → p < n → Q p)
 unfolding alike? both?
-every? zero {Q} d = yes (λ p l. absurd (none l))
-  where
-    none : {x : ℕ} → x < 0 → ⊥
-    none h = omega arith
+every? zero {Q} d = yes (λ p l. absurd (not-suc-le-zero l))
 every? (suc n) {Q} d = alike? all each (both? (every? n d) (d n))
   where
     all : ((p : ℕ) → p < n → Q p) × Q n → (p : ℕ) → p < suc n → Q p
@@ -84,10 +82,7 @@ module _ (E : ℕ → ℕ → Type 0) (P : ℕ → Type 0) where
   on-below k a c b on (inr s) (inr t) = inr (s .0, (s .1 .0, t .1 .1))
 
   pub through-on : (k a c b : ℕ) → c < k → P c → Through k a c → Through k c b → Through k a b
-  through-on zero a c b l pc s t = absurd (none l)
-    where
-      none : {x : ℕ} → x < 0 → ⊥
-      none h = omega arith
+  through-on zero a c b l pc s t = absurd (not-suc-le-zero l)
   through-on (suc k) a c b l pc s t =
       by-cases (ℕ-discrete c k)
       (λ e. inr (subst P e pc, (to-top k a (subst (λ (x : ℕ). Through (suc k) a x) e s), from-top k b (subst (λ (x : ℕ). Through (suc k) x b) e t))))

@@ -4,11 +4,12 @@
 --     copied-all                  all 64
 --     laid-out                    four rows, one after another
 -- Assumes nothing.
-use Prim.Native.Nat.{ℕ, _+_, _≤_, _<_}
+use Prim.Native.Nat.{ℕ, _+_, _<_}
 use mathlib.Core.Path.{_≡_, refl, sym, ap, subst, _∙_}
 use mathlib.Core.List.{List}
 use mathlib.Core.Logic.{by-cases}
 use native.Mathlib.Decide.{ℕ-discrete}
+use native.Mathlib.Nat.{not-suc-le-zero}
 use native.Mathlib.Omega.{arith}
 use lib.ListN.{length, getD, set, length-set}
 use lib.Seq.{getD-set-same, getD-set-other}
@@ -17,10 +18,7 @@ use Rattle.inspection.specs.Inspection.{Copied, LaidOut}
 
 pub copied-none : (bytes : List ℕ) (at : ℕ) (old : List ℕ) → Copied bytes at 0 old old
 copied-none bytes at old =
-    record { inside = λ i l. absurd (none l); before = λ i l. refl; after = λ i l. refl; same-length = refl }
-  where
-    none : {x : ℕ} → x < 0 → ⊥
-    none h = omega arith
+    record { inside = λ i l. absurd (not-suc-le-zero l); before = λ i l. refl; after = λ i l. refl; same-length = refl }
 
 pub copied-more : (bytes : List ℕ) (at k : ℕ) (old new : List ℕ) → at + k < length old → Copied bytes at k old new
     → Copied bytes at (k + 1) old (set new (at + k) (getD bytes k 0))

@@ -2,13 +2,16 @@
 --
 --     breakdown-along     a breakdown stays one where more edges join
 --     handles-few         there are fewer handles than positions
---     short, order-refused, not-found, found    what is shown: nothing in too short a buffer, of a refused order, of a floor without a breakdown; else it
+--     gave, rows-right    what an accepted order tells, and that the rows filled are those of a floor
+--     small               the ring's size and the number of handles fit into the answer
+--     short, order-refused, not-found, found    what is shown: nothing in too short a buffer, of a refused order or where there is none; else it
 -- Assumes nothing.
 use Prim.Native.Nat.{ℕ, zero, suc, _+_, _-_, _*_, _≤_, _<_}
 use mathlib.Core.Path.{_≡_, refl, ap, _∙_}
 use mathlib.Core.List.{List, [], _∷_}
 use mathlib.Core.Logic.{_↔_}
 use native.Mathlib.Numerals.{add-one}
+use native.Mathlib.Nat.{not-suc-le-zero}
 use native.Mathlib.Omega.{arith}
 use lib.ListN.{length, take, drop, replicate}
 use Rattle.answers.specs.Answer.{accepted, refused}
@@ -71,10 +74,7 @@ module _ {n r c : ℕ} {E : ℕ → ℕ → Type 0} {at start left right : ℕ �
 -- nothing is shown
 nothing-shown : (o old : List ℕ) → (Breaks o old → ⊥) → Inspected o old old 0
 nothing-shown o old f =
-    record { shown = λ l. absurd (none l); none = λ e. refl; exactly = (λ l. absurd (none l), λ b. absurd (f b)) }
-  where
-    none : {x : ℕ} → x < 0 → ⊥
-    none h = omega arith
+    record { shown = λ l. absurd (not-suc-le-zero l); none = λ e. refl; exactly = (λ l. absurd (not-suc-le-zero l), λ b. absurd (f b)) }
 
 pub short : (o old : List ℕ) → length old < 256 → Inspected o old old 0
 short o old l = nothing-shown o old (λ b. let r = b .room in omega arith)

@@ -6,19 +6,22 @@
 --     KeysDiffer key l   no two elements of l, at different places, have the same key
 --     keys-same          then two elements that have the same key are the same
 --     keys-nodup         and the list of the keys is without repetition
---     pigeonhole         a list without repetition is at most as long as a list that has all its elements
---     allBelow n         the numbers below n
+--     getD-in            an element of the list is a member
+--     getD-same          without repetition, the same element has the same place
 --     pigeonhole-below   a list without repetition of numbers below n has at most n of them
+--     pigeonhole         a list without repetition is at most as long as a list that has all its elements
 -- Assumes nothing.
-use Prim.Native.Nat.{ℕ, zero, suc, _≤_, _<_, zero-le}
-use mathlib.Core.Path.{_≡_, refl, sym, _∙_, ap, subst}
-use mathlib.Core.Logic.{_≢_, ∥∥₁-elim, dite}
+use Prim.Native.Nat.{ℕ, zero, suc, _≤_, _<_}
+use mathlib.Core.Path.{_≡_, refl, sym, _∙_, ap}
+use mathlib.Core.Logic.{_≢_, ∥∥₁-elim, ∥∥₁-map}
 use mathlib.Core.HLevel.{¬-prop}
 use mathlib.Core.List.{List, [], _∷_, map, Memᴰ·of-map, List·Memᴰ, List·Memᴰ·head, List·Memᴰ·tail, List·Memᴰ·not-nil}
 use mathlib.Core.List.{Pairwise, Pairwise·nil, Pairwise·cons, Pairwise·of-cons, rel-of-pairwise-cons, List·Nodup}
+use mathlib.Core.List as M
 use native.Mathlib.Omega.{arith}
-use native.Mathlib.Decide.{decLt}
-use lib.ListN.{length}
+use native.Mathlib.Bridge.{fromℕ, from-le}
+use lib.ListN.{length, getD}
+use Rattle.sets.specs.CountLaws.{pigeonhole as numbers-below}
 
 pub by-member : {X C : Type 0} {x y : X} {l : List X} → List·Memᴰ y (x ∷ l) → (y ≡ x → C) → (List·Memᴰ y l → C) → C
 by-member (List·Memᴰ·head e) first later = first e
@@ -48,44 +51,32 @@ module _ {X : Type 0} (key : X → ℕ) where
       pairwise-more (λ a b. ¬-prop) (λ b k e. let w = Memᴰ·of-map key l k in pairwise-rel p (w .1) (e ∙ sym (w .2)))
       (keys-nodup l (Pairwise·of-cons p))
 
-module _ {X : Type 0} where
-  -- the list without the member at this place
-  without : {x : X} {l : List X} → List·Memᴰ x l → List X
-  without (List·Memᴰ·head {xs = l} e) = l
-  without (List·Memᴰ·tail {x = y} k) = y ∷ without k
+-- elements by place
 
-  length-without : {x : X} {l : List X} (k : List·Memᴰ x l) → length l ≡ suc (length (without k))
-  unfolding without
-  length-without (List·Memᴰ·head e) = refl
-  length-without (List·Memᴰ·tail k) = ap suc (length-without k)
+pub getD-in : (l : List ℕ) (i : ℕ) → i < length l → List·Memᴰ (getD l i 0) l
+getD-in [] i h = absurd (omega arith)
+getD-in (x ∷ l) zero h = List·Memᴰ·head refl
+getD-in (x ∷ l) (suc i) h = List·Memᴰ·tail (getD-in l i (omega arith))
 
-  without-other : {x y : X} {l : List X} (k : List·Memᴰ x l) → y ≢ x → List·Memᴰ y l → List·Memᴰ y (without k)
-  unfolding without
-  without-other (List·Memᴰ·head e) ne n = by-member n (λ q. absurd (ne (q ∙ sym e))) (λ n. n)
-  without-other (List·Memᴰ·tail k) ne n = by-member n List·Memᴰ·head (λ n. List·Memᴰ·tail (without-other k ne n))
+pub getD-same : (l : List ℕ) (i j : ℕ) → List·Nodup l → i < length l → j < length l → getD l i 0 ≡ getD l j 0 → i ≡ j
+getD-same [] i j d p q e = absurd (omega arith)
+getD-same (x ∷ l) zero zero d p q e = refl
+getD-same (x ∷ l) zero (suc j) d p q e = absurd (pairwise-rel d (getD-in l j (omega arith)) e)
+getD-same (x ∷ l) (suc i) zero d p q e = absurd (pairwise-rel d (getD-in l i (omega arith)) (sym e))
+getD-same (x ∷ l) (suc i) (suc j) d p q e = ap suc (getD-same l i j (Pairwise·of-cons d) (omega arith) (omega arith) e)
 
-  pub pigeonhole : (l m : List X) → List·Nodup l → ((x : X) → List·Memᴰ x l → List·Memᴰ x m) → length l ≤ length m
-  pigeonhole [] m d h = zero-le
-  pigeonhole (x ∷ l) m d h =
-      let k : List·Memᴰ x m = h x (List·Memᴰ·head refl) in
-      let others : (y : X) → List·Memᴰ y l → List·Memᴰ y (without k) =
-      λ y n. without-other k (λ e. pairwise-rel d n (sym e)) (h y (List·Memᴰ·tail n)) in
-      omega (arith, length-without k, pigeonhole l (without k) (Pairwise·of-cons d) others)
-
-unfoldable pub allBelow : ℕ → List ℕ
-allBelow zero = []
-allBelow (suc n) = n ∷ allBelow n
-
-length-allBelow : (n : ℕ) → length (allBelow n) ≡ n
-unfolding allBelow
-length-allBelow zero = refl
-length-allBelow (suc n) = ap suc (length-allBelow n)
-
-allBelow-has : (n x : ℕ) → x < n → List·Memᴰ x (allBelow n)
-unfolding allBelow
-allBelow-has zero x h = absurd (omega arith)
-allBelow-has (suc n) x h = dite (decLt x n) (λ l. List·Memᴰ·tail (allBelow-has n x l)) (λ l. List·Memᴰ·head (omega arith))
+-- how long
 
 pub pigeonhole-below : (l : List ℕ) (n : ℕ) → List·Nodup l → ((x : ℕ) → List·Memᴰ x l → x < n) → length l ≤ n
 pigeonhole-below l n d h =
-    subst (λ (k : ℕ). length l ≤ k) (length-allBelow n) (pigeonhole l (allBelow n) d (λ x k. allBelow-has n x (h x k)))
+    numbers-below n (λ i. getD l i 0) (length l) (λ i k. h (getD l i 0) (getD-in l i k))
+    (λ i j a b e. absurd (omega (arith, getD-same l i j d (omega arith) b e)))
+
+module _ {X : Type 0} where
+  -- the library's length, in its own numbers
+  length-is : (l : List X) → fromℕ (M.length l) ≡ length l
+  length-is [] = refl
+  length-is (x ∷ l) = ap suc (length-is l)
+
+  pub pigeonhole : (l m : List X) → List·Nodup l → ((x : X) → List·Memᴰ x l → List·Memᴰ x m) → length l ≤ length m
+  pigeonhole l m d h = omega (arith, length-is l, length-is m, from-le (M.Subperm·length-le (M.Nodup·subperm d (λ x k. ∥∥₁-map k (h x)))))

@@ -1,6 +1,5 @@
 -- Racks and the list of their positions; valid arrangements, which are the uniquely invertible ones.
 --
---     getD-in          an element of the list is a member
 --     place, rack      a rack is one more than a place of the list
 --     own              a rack of an arrangement of m racks is one of as many as the list is long
 --     stands-place     a rack stands at the list's element at its place
@@ -23,30 +22,24 @@ use mathlib.Core.Path.{_≡_, refl, sym, _∙_, ap, subst}
 use mathlib.Core.Bool.{Bool, true, _&&_}
 use mathlib.Core.Logic.{_↔_, dite}
 use mathlib.Core.HLevel.{¬-prop}
-use mathlib.Core.List.{List, [], _∷_, map, List·Memᴰ, List·Memᴰ·head, List·Memᴰ·tail, List·Memᴰ·not-nil, Memᴰ·cast}
+use mathlib.Core.List.{List, [], _∷_, map, List·Memᴰ, List·Memᴰ·not-nil, Memᴰ·cast}
 use mathlib.Core.List.{Pairwise·nil, Pairwise·of-cons, List·Nodup}
 use native.Mathlib.Omega.{arith}
 use native.Mathlib.Decide.{ℕ-discrete}
-use lib.ListN.{length, getD, length-map}
+use lib.ListN.{length, getD}
 use lib.Seq.{ext-getD}
 use lib.Dec.{T, ltb, ltb→lt, lt→ltb}
 use mir.Facts.{and-yes, yes-and}
 use Rattle.order.specs.Floor.{Floor}
 use Rattle.motion.specs.ArrangementLaws.{stands-index}
-use Rattle.motion.specs.MoveLaws.{after-length}
 use Rattle.motion.specs.Arrangement.{Arrangement, stands, vacant}
 use Rattle.motion.specs.Move.{goesTo, after}
 use Rattle.motion.specs.Step.{every}
 use Rattle.motion.specs.Problem.{IsRack, UniquelyInvertible}
-use Rattle.motion.specs.ListLaws.{by-member, pairwise-more, pairwise-rel, pigeonhole-below}
+use Rattle.motion.specs.ListLaws.{by-member, pairwise-more, pairwise-rel, getD-in, getD-same, pigeonhole-below}
 use Rattle.motion.specs.StepTests.{every-iff, vacant-iff}
 
 -- elements of lists, by place
-
-pub getD-in : (l : List ℕ) (i : ℕ) → i < length l → List·Memᴰ (getD l i 0) l
-getD-in [] i h = absurd (omega arith)
-getD-in (x ∷ l) zero h = List·Memᴰ·head refl
-getD-in (x ∷ l) (suc i) h = List·Memᴰ·tail (getD-in l i (omega arith))
 
 in-getD : (l : List ℕ) {p : ℕ} → List·Memᴰ p l → (i : ℕ) × (i < length l) × (getD l i 0 ≡ p)
 in-getD [] k = absurd (List·Memᴰ·not-nil k)
@@ -58,13 +51,6 @@ getD-map : (f : ℕ → ℕ) (l : List ℕ) (i : ℕ) → i < length l → getD 
 getD-map f [] i h = absurd (omega arith)
 getD-map f (x ∷ l) zero h = refl
 getD-map f (x ∷ l) (suc i) h = getD-map f l i (omega arith)
-
-getD-same : (l : List ℕ) (i j : ℕ) → List·Nodup l → i < length l → j < length l → getD l i 0 ≡ getD l j 0 → i ≡ j
-getD-same [] i j d p q e = absurd (omega arith)
-getD-same (x ∷ l) zero zero d p q e = refl
-getD-same (x ∷ l) zero (suc j) d p q e = absurd (pairwise-rel d (getD-in l j (omega arith)) e)
-getD-same (x ∷ l) (suc i) zero d p q e = absurd (pairwise-rel d (getD-in l i (omega arith)) (sym e))
-getD-same (x ∷ l) (suc i) (suc j) d p q e = ap suc (getD-same l i j (Pairwise·of-cons d) (omega arith) (omega arith) e)
 
 same-getD : (l : List ℕ) → ((i j : ℕ) → i < length l → j < length l → getD l i 0 ≡ getD l j 0 → i ≡ j) → List·Nodup l
 same-getD [] h = Pairwise·nil

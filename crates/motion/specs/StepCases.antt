@@ -1,8 +1,7 @@
 -- Steps of document 01's case book, computed: an inhabitant for what each law of steps assumes, and the steps that the case book
 -- names as not legal.
 --
---     floorF               the case book's floor: n = 4, edges 0-1, 0-2, 1-2, 1-3, 2-3
---     starts, goals, timetable   case 1's
+--     timetable            case 1's: its floor, starts and goals stand in Inhabited.antt
 --     starts-valid         its starts are valid
 --     case-1               case 1's timetable is replayed from its starts to its goals
 --     case-1-solution      so its trace is a solution of two steps
@@ -39,17 +38,9 @@ use Rattle.motion.specs.StepOf.{moved, insert, sort, stepOf}
 use Rattle.motion.specs.StepChange.{Change, legal-change}
 use Rattle.motion.specs.StepSolutions.{stepsFrom, stepsOf, solution-instance, replay-solution}
 use Rattle.motion.specs.StepLimits.{no-turn}
-
-abbrev pub floorF : Floor
-floorF = record { positions = 4; edges = (0, 1) ∷ (0, 2) ∷ (1, 2) ∷ (1, 3) ∷ (2, 3) ∷ [] }
+use Rattle.motion.specs.Inhabited.{floorF, starts, goals}
 
 -- case 1: rack 1 from 0 to 3, rack 2 from 3 to 0
-
-abbrev pub starts : Arrangement
-starts = 0 ∷ 3 ∷ []
-
-abbrev pub goals : Arrangement
-goals = 3 ∷ 0 ∷ []
 
 abbrev pub timetable : List (List (ℕ × ℕ))
 timetable = ((0, 1) ∷ (3, 2) ∷ []) ∷ ((1, 3) ∷ (2, 0) ∷ []) ∷ []

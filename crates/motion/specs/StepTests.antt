@@ -22,7 +22,7 @@
 -- Assumes nothing.
 use Prim.Native.Nat.{ℕ, _<_}
 use mathlib.Core.Path.{_≡_, refl, sym, _∙_, ap, subst}
-use mathlib.Core.Bool.{Bool, true, false, not, _&&_, _||_}
+use mathlib.Core.Bool.{Bool, true, false, not, _||_}
 use mathlib.Core.Logic.{_↔_, _≢_, ⊎-elim, dite}
 use mathlib.Core.HLevel.{¬-prop}
 use mathlib.Core.List.{List, [], _∷_, List·Memᴰ, List·Memᴰ·head, List·Memᴰ·tail, List·Memᴰ·not-nil, Memᴰ·cast}
@@ -37,6 +37,7 @@ use borrow.Author.Tests.{eq-eqb, ne-eqb}
 use Rattle.order.specs.Floor.{Floor, joined}
 use Rattle.motion.specs.Arrangement.{Arrangement, occupied, vacant}
 use Rattle.motion.specs.Move.{onFloor, goesTo}
+use Rattle.motion.specs.MoveLaws.{onFloor-parts}
 use Rattle.motion.specs.Step.{every, ascends, leaves, enters, enteredOnce}
 use Rattle.motion.specs.ListLaws.{by-member, pairwise-more, pairwise-rel, KeysDiffer, keys-same}
 
@@ -165,22 +166,11 @@ pub record OnFloor (F : Floor) (m : ℕ × ℕ) : Type 0 where
   pub edge : T (joined F (m .0) (m .1))
 
 pub onFloor-iff : (F : Floor) (m : ℕ × ℕ) → T (onFloor F m) ↔ OnFloor F m
-unfolding onFloor
-onFloor-iff F m = (
-  λ t.
-      let b = and-yes (low && high) (joined F (m .0) (m .1)) t in
-      let c = and-yes low high (b .0) in
-      record { left-below = ltb→lt _ _ (c .0); entered-below = ltb→lt _ _ (c .1); edge = b .1 },
-  λ o.
-      yes-and (low && high) (joined F (m .0) (m .1)) (yes-and low high (lt→ltb _ _ (o .left-below)) (lt→ltb _ _ (o .entered-below)))
-      (o .edge),
-)
-  where
-    low : Bool
-    low = ltb (m .0) (F .positions)
-
-    high : Bool
-    high = ltb (m .1) (F .positions)
+onFloor-iff F m =
+    let p = onFloor-parts F m in (
+      λ t. let u = p .0 t in record { left-below = u .0; entered-below = u .1; edge = u .2 },
+      λ o. p .1 (o .left-below, o .entered-below, o .edge),
+    )
 
 pub left-differ : {ms : List (ℕ × ℕ)} → Ascends ms → KeysDiffer left ms
 left-differ p = Pairwise·imp (λ m m′ l e. lt-irrefl (m′ .0) (subst (λ (k : ℕ). k < m′ .0) e l)) p

@@ -2,6 +2,9 @@
 --
 --     wrongAfter n last l    some edge of l is wrong, the edge before l having the place `last` in the order of edges
 --     wrongAfter-is          from the first edge on, that is document 01's condition
+--     Left last j            the loop before edge j + 1, the edge before having the place `last`: what is left to judge decides
+--     left-first, left-next, left-none     how the loop begins, goes on and ends: the answer is yes
+--     not-lower, not-below, not-after      an edge that is not lower first, not below n or not after the last: the answer is no
 -- Assumes nothing.
 use Prim.Native.Nat.{ℕ, zero, suc, _+_, _-_, _*_, _≤_, _<_}
 use mathlib.Core.Path.{_≡_, refl, sym, ap, ap₂, _∙_}

@@ -1,7 +1,8 @@
 -- The head reader.
 --
 --     head-positions, head-edges, head-racks    the counts of a head, as sums of parts of its three bytes
---     short, .., sound                          the head reader's answer, from the facts that its tests leave
+--     short, wrong-length, none, many, padding, sound    the head reader's answer, from the facts that its tests leave
+--     fitted                                    the length passed
 -- Assumes nothing.
 use Prim.Native.Nat.{ℕ, _+_, _*_, _/_, _%_, _≤_, _<_}
 use mathlib.Core.Path.{_≡_, refl, sym, ap, ap₂, _∙_}

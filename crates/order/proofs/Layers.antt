@@ -1,8 +1,10 @@
 -- The order reader's layers: what each reader answers, from the lower reader's answer and its own test.
 --
 --     HeadGave s n e m, head-gave    what an accepted head tells
+--     tail-there, tail-room          so there is a tail, and the units have room in it
 --     edges-wrong, edges-right       13
 --     order-is                       the table of document 01 as the last layer above the edge reader
+--     edges-gave                     what acceptance by the edge reader tells
 --     starts-wrong, goals-wrong, racks-right    14
 -- Assumes nothing.
 use Prim.Native.Nat.{ℕ, _+_, _-_, _*_, _/_, _≤_, _<_}

@@ -3,6 +3,9 @@
 --     flagged taken p         the flag of p is up
 --     wrongGiven n taken l    some position of l is n or more, is taken, or stands in l again
 --     wrongGiven-is           with no flag up, that is document 01's condition
+--     Left taken i            the loop before rack i + 1, those positions being taken: what is left to judge decides
+--     left-first, left-next, left-none     how the loop begins, goes on and ends: the answer is yes
+--     not-below, not-free     a position that is not below n, or is taken: the answer is no
 -- Assumes nothing.
 use Prim.Native.Nat.{ℕ, zero, suc, _+_, _-_, _*_, _≤_, _<_}
 use mathlib.Core.Path.{_≡_, refl, sym, ap, ap₂, _∙_}

@@ -1,4 +1,10 @@
--- The loops that fill the tables: what is left to fill decides the table at the end. Assumes nothing.
+-- The loops that fill the tables: what is left to fill decides the table at the end.
+--
+--     ToMark g j                            the edges from edge j + 1 on are still to be marked in the matrix g
+--     mark-first, mark-next, mark-last      how that loop begins, goes on and ends
+--     ToPlace h i                           the racks from rack i + 1 on are still to be put into the table h
+--     place-first, place-next, place-last   how that loop begins, goes on and ends
+-- Assumes nothing.
 use Prim.Native.Nat.{ℕ, _+_, _-_, _*_, _≤_, _<_}
 use mathlib.Core.Path.{_≡_, refl, sym, ap, _∙_}
 use mathlib.Core.List.{List}

@@ -1,22 +1,26 @@
 -- Laws of edges in ascending order: a floor's edges, as a set, have one such list.
 --
 --     place e                the place of an edge in the order of edges
+--     and-left, and-right    both tests of a conjunction hold where it holds
+--     isPair-same, isPair-is    the test of two pairs passes just where they are the same
 --     bad-is                 an edge is bad just where it is not lower first or its higher position is n or more
 --     precedes-is            the order of edges is the order of their places
 --     ascending-first        the first edge of an ascending list comes before all others
+--     rest-ascends           the rest of an ascending list ascends
 --     same-set               two ascending lists of the same edges are the same list
+--     good-among             an edge of a list without bad edges is lower first, its positions below n
 --     among-joined           where all edges are lower first, those of the list are the pairs that are joined, lower first
 -- Assumes nothing.
-use Prim.Native.Nat.{ℕ, zero, suc, _+_, _*_, _≤_, _<_}
+use Prim.Native.Nat.{ℕ, _+_, _*_, _≤_, _<_}
 use mathlib.Core.Path.{_≡_, refl, sym, ap, ap₂, _∙_}
-use mathlib.Core.Bool.{Bool, true, false, not, _&&_, _||_, or-true, or-false, and-false}
+use mathlib.Core.Bool.{Bool, true, false, not, _&&_, _||_, or-true, or-false}
 use mathlib.Core.List.{List, [], _∷_}
 use native.Mathlib.Omega.{arith}
-use native.Mathlib.Decide.{decLe, ℕ-discrete}
+use native.Mathlib.Decide.{decLe}
 use native.Mathlib.Nat.{lt-of-not-le}
-use borrow.Author.Tests.{le-leb, lt-leb, lt-ltb, le-ltb, eq-eqb, ne-eqb, eqb-true, leb-true, leb-false}
+use borrow.Author.Tests.{le-leb, lt-leb, lt-ltb, le-ltb, eq-eqb, ne-eqb, eqb-true, leb-false}
 use lib.Dec.{leb, ltb, eqb}
-use Rattle.field.specs.RecordLaws.{BelowPairs, none₂, more₂}
+use Rattle.field.specs.RecordLaws.{BelowPairs, more₂}
 use Rattle.field.specs.UnitLaws.{or-left, or-right}
 use Rattle.order.specs.Floor.{Floor, isPair, among, joined}
 use Rattle.order.specs.Order.{some, badEdge, precedes, ascending}
@@ -92,7 +96,7 @@ ascending-first e f (g ∷ l) he (more₂ h₀ h₁ b) a m =
     by true h later = rw (isPair-is f g h) first
     by false h later = omega (arith, first, later (rw h at m))
 
-rest-ascends : (e : ℕ × ℕ) (l : List (ℕ × ℕ)) → ascending (e ∷ l) ≡ true → ascending l ≡ true
+pub rest-ascends : (e : ℕ × ℕ) (l : List (ℕ × ℕ)) → ascending (e ∷ l) ≡ true → ascending l ≡ true
 unfolding ascending
 rest-ascends e [] a = refl
 rest-ascends e (f ∷ l) a = and-right (precedes e f) (ascending (f ∷ l)) a

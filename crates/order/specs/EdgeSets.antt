@@ -1,6 +1,8 @@
 -- Every set of edges has its ascending list: the floor of a relation on n positions.
 --
 --     IsRelation n E          E joins positions below n, in both directions, and none to itself
+--     pairOf i                the pair at place i of the order of edges
+--     isEdge n E i            it is lower first, below n and joined by E
 --     listed test i k         the pairs at the places i to i + k - 1 of the order of edges that pass the test
 --     floorFrom n E           the floor of n positions whose edges are the pairs that E joins
 --     floorFrom-right         its edges are lower first, below n and ascending
@@ -8,17 +10,16 @@
 -- Assumes nothing.
 use Prim.Native.Nat.{ℕ, zero, suc, _+_, _-_, _*_, _/_, _%_, _≤_, _<_}
 use mathlib.Core.Path.{_≡_, refl, sym, ap, ap₂, _∙_}
-use mathlib.Core.Bool.{Bool, true, false, not, cond, _&&_, _||_, or-false}
+use mathlib.Core.Bool.{Bool, true, false, cond, _&&_, or-false}
 use mathlib.Core.List.{List, [], _∷_}
 use mathlib.Core.Logic.{_⊎_, inl, inr, ⊎-elim}
 use native.Mathlib.Omega.{arith}
 use native.Mathlib.Decide.{decLe, ℕ-discrete}
 use native.Mathlib.Nat.{lt-of-not-le}
-use borrow.Author.Tests.{le-leb, lt-leb, lt-ltb, le-ltb, eq-eqb, ne-eqb, ltb-true}
-use lib.Dec.{leb, ltb, eqb}
-use Rattle.field.specs.UnitLaws.{or-left, or-right}
+use borrow.Author.Tests.{lt-leb, lt-ltb, ltb-true}
+use lib.Dec.{ltb}
 use Rattle.order.specs.Floor.{Floor, isPair, among, joined}
-use Rattle.order.specs.Order.{some, badEdge, precedes, ascending, wrongEdges}
+use Rattle.order.specs.Order.{some, badEdge, ascending, wrongEdges}
 use Rattle.order.specs.EdgeLaws.{place, bad-is, precedes-is, isPair-same, isPair-is, and-left, and-right, good-among}
 
 pub record IsRelation (n : ℕ) (E : ℕ → ℕ → Bool) : Type 0 where
@@ -50,6 +51,13 @@ same-place i a b h e = ap₂ (λ (x y : ℕ). (x, y)) first second
     second : i % 64 ≡ b
     second = omega (arith, h, e)
 
+other-place : (i a b : ℕ) → (i ≡ a * 64 + b → ⊥) → isPair (a, b) (pairOf i) ≡ false
+other-place i a b d = by (isPair (a, b) (pairOf i)) refl
+  where
+    by : (t : Bool) → isPair (a, b) (pairOf i) ≡ t → isPair (a, b) (pairOf i) ≡ false
+    by true e = absurd (d (omega (arith, ap place (isPair-is (a, b) (pairOf i) e))))
+    by false e = e
+
 module _ (test : ℕ → Bool) where
   -- what is listed from place i on ascends after any edge at a lower place
   listed-ascends : (k i : ℕ) (e : ℕ × ℕ) → e .1 < 64 → place e < i → ascending (e ∷ listed test i k) ≡ true
@@ -78,15 +86,8 @@ module _ (test : ℕ → Bool) where
   listed-under zero i a b h l = refl
   listed-under (suc k) i a b h l = by (test i) (listed-under k (suc i) a b h (omega arith))
     where
-      other : isPair (a, b) (pairOf i) ≡ false
-      other = is (isPair (a, b) (pairOf i)) refl
-        where
-          is : (t : Bool) → isPair (a, b) (pairOf i) ≡ t → isPair (a, b) (pairOf i) ≡ false
-          is true e = absurd (omega (arith, l, ap place (isPair-is (a, b) (pairOf i) e)))
-          is false e = e
-
       by : (t : Bool) → among (a, b) (listed test (suc i) k) ≡ false → among (a, b) (cond t (pairOf i ∷ listed test (suc i) k) (listed test (suc i) k)) ≡ false
-      by true r = rw (other, r) refl
+      by true r = rw (other-place i a b (λ e. omega (arith, l, e)), r) refl
       by false r = r
 
   listed-at : (k i a b : ℕ) → b < 64 → i ≤ a * 64 + b → a * 64 + b < i + k → among (a, b) (listed test i k) ≡ test (a * 64 + b)
@@ -107,15 +108,8 @@ module _ (test : ℕ → Bool) where
       later : (i ≡ a * 64 + b → ⊥) → among (a, b) (listed test (suc i) k) ≡ test (a * 64 + b) → among (a, b) (cond (test i) (pairOf i ∷ listed test (suc i) k) (listed test (suc i) k)) ≡ test (a * 64 + b)
       later d r = by (test i)
         where
-          other : isPair (a, b) (pairOf i) ≡ false
-          other = is (isPair (a, b) (pairOf i)) refl
-            where
-              is : (t : Bool) → isPair (a, b) (pairOf i) ≡ t → isPair (a, b) (pairOf i) ≡ false
-              is true e = absurd (d (omega (arith, ap place (isPair-is (a, b) (pairOf i) e))))
-              is false e = e
-
           by : (t : Bool) → among (a, b) (cond t (pairOf i ∷ listed test (suc i) k) (listed test (suc i) k)) ≡ test (a * 64 + b)
-          by true = rw other r
+          by true = rw (other-place i a b d) r
           by false = r
 
 module _ (n : ℕ) (E : ℕ → ℕ → Bool) where

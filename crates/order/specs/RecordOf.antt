@@ -1,5 +1,6 @@
 -- A well-formed order is the record of the order that it describes: nothing in its bytes is left to choice.
 --
+--     orderBits-are, length-orderBits    an order's record is made of bits, and how many
 --     record-of    a well-formed byte string is the record of what it describes
 -- Assumes nothing.
 use Prim.Native.Nat.{ℕ, _+_, _*_, _/_, _≤_}

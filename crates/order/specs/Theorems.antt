@@ -2,6 +2,9 @@
 --
 --     Same s t          s and t describe the same floor, as a set of edges, the same starts and the same goals
 --     one-record        two accepted records that describe the same are the same bytes (demand 2)
+--     RecordFor n E starts goals s    s is accepted, and read it gives back n, E, the starts and the goals
+--     Choice            what is asked of them: n from 1 to 64, edges between positions below n and at most 255 of them, distinct starts and goals
+--     recordFor         their record
 --     every-order       every floor of 1 to 64 positions and at most 255 edges, with distinct starts and distinct goals, has an accepted
 --                       record, and reading it gives them back
 --     an-order          the hypotheses of `every-order` hold of something

@@ -1,7 +1,9 @@
 -- The plan checker's layers: the order reader, the record reader, and the judgement on tables.
 --
+--     judgement o p     32, 33 or acceptance, on arrangements
 --     plan-is           the table of document 01 as these layers
 --     RecordGave, record-gave  what an accepted record tells
+--     plan-room         the moves have room in the plan's tail
 --     judgement-is      the judgement on tables is document 01's
 --     order-turned-down, record-turned-down, answer-is   the checker's answer at each return
 -- Assumes nothing.

@@ -1,4 +1,8 @@
--- The loop over the k moves of a plan's tail s, from the table h₀ by the matrix g: what is left to replay decides. Assumes nothing.
+-- The loop over the k moves of a plan's tail s, from the table h₀ by the matrix g: what is left to replay decides.
+--
+--     MovesLeft h j      the moves before number j + 1 were legal and left the table h
+--     moves-first, moves-stop, moves-next, moves-none    how the loop begins, stops, goes on and ends
+-- Assumes nothing.
 use Prim.Native.Nat.{ℕ, _+_, _-_, _*_, _≤_, _<_}
 use mathlib.Core.Path.{_≡_, refl, sym, subst}
 use mathlib.Core.Bool.{Bool, true, false}

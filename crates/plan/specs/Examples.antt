@@ -4,7 +4,7 @@
 --     caseBook, casePlan     document 01's order and plan ("Programs")
 --     case-1, case-7         starred cases 1, first half, and 7
 --     meets-30, ..           one plan each for the other numbers; an order's refusal is passed up
---     case-well-formed, case-solution, case-only    an order, a solution and its one record, for the theorems
+--     case-well-formed, case-accepted, case-solution, case-only    an order, its plan accepted, a solution and its one record, for the theorems
 --     full-empty, bare-empty                        an empty plan on a full floor and on one without racks, for the limits
 --     case-written, case-read                       writing and reading the case book's moves
 -- Assumes nothing.

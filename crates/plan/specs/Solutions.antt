@@ -5,6 +5,7 @@
 --     AcceptedPlan o p v   what acceptance of the plan p for the order o with the counts v means: 10 to 14, 30 and 31 pass both, v is the
 --                          count of moves, and the arrangements of the replay are a solution with as many moves
 --     OnlyRecord o ξ S     exactly one byte string that 30 and 31 pass has the arrangements S as its replay, and it is accepted with ξ
+--     only-record          every solution with fewer than 2^22 moves has it
 --     plan-solutions       a plan is accepted exactly if it describes a solution, and every solution with fewer than 2^22 moves has
 --                          exactly one record, which is accepted
 -- Assumes nothing.

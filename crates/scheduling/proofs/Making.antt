@@ -1,7 +1,7 @@
 -- The maker's answers: the plan checker's refusal passed up, 44, and the made timetable.
 --
 --     maker-refused     a refusal of the plan checker is the maker's, and the buffer stays
---     PlanRead, plan-read    what an accepted plan tells of its tail
+--     count-below, head-there, tail-moves, tail-fits    what an accepted plan tells: few moves, a head, and a tail that has the moves
 --     maker-short       44
 --     maker-room, head-room  the steps and the head have room
 --     maker-made        the answer and the buffer, once steps and head are written
@@ -19,13 +19,13 @@ use Rattle.field.specs.Bits.{pairs}
 use Rattle.field.specs.BitLaws.{field-lt}
 use Rattle.field.specs.RecordLaws.{rest-is, pairs-drop}
 use Rattle.field.specs.UnitLaws.{Fitting, fitting, tail-units}
+use Rattle.field.specs.Writing.{written, Fits, written-front, length-written}
 use Rattle.order.specs.Order.{floorOf, startsOf}
 use Rattle.plan.specs.Plan.{moveCount, planMoves, wrongPlanLength, planAnswer}
 use Rattle.plan.specs.PlanRecord.{moves-counted}
 use Rattle.timetable.specs.Timetable.{timetableRecord}
 use Rattle.scheduling.specs.Making.{timed, greatest}
-use Rattle.scheduling.specs.Rows.{stepsBytes, written}
-use Rattle.scheduling.specs.RowLaws.{length-written}
+use Rattle.scheduling.specs.Rows.{stepsBytes}
 use Rattle.scheduling.specs.Filling.{latest}
 use Rattle.scheduling.specs.FillingLaws.{latest-few}
 use Rattle.scheduling.specs.Windows.{allSteps, headBytes}
@@ -96,8 +96,8 @@ module _ (o p B : List ℕ) where
       unfolding madeOf
       few = omega (arith, made-of o p (k ∷ []) (sym e) .short, moves-counted p, count-is)
 
-      pub maker-room : 3 + length (stepsBytes (allSteps (pairs (take (length p - 3) (drop 3 p)) 0 k))) ≤ length B
-      maker-room = rw steps-are (omega (arith, few, room))
+      pub maker-room : Fits B 3 (stepsBytes (allSteps (pairs (take (length p - 3) (drop 3 p)) 0 k)))
+      maker-room = rw steps-are (record { room = omega (arith, few, room) })
 
       module _ (s : ℕ) (b : List ℕ) (es : s ≡ latest (pairs (take (length p - 3) (drop 3 p)) 0 k))
           (eb : b ≡ written B 3 (stepsBytes (allSteps (pairs (take (length p - 3) (drop 3 p)) 0 k)))) where
@@ -127,10 +127,11 @@ module _ (o p B : List ℕ) where
         maker-made c ec =
             let x = stepsBytes (madeOf o p) in
             let behind : b ≡ written B 3 x = eb ∙ ap (λ (l : List (List (ℕ × ℕ))). written B 3 (stepsBytes l)) steps-are in
-            let buffer : c ≡ headBytes s ++ x ++ drop (length (headBytes s ++ x)) B =
+            let buffer : c ≡ written B 0 (headBytes s ++ x) =
             ec ∙ ap (λ (l : List ℕ). written l 0 (headBytes s)) behind ∙ front-written B (headBytes s) x (three s) (omega (arith, few, room)) in (
               ap (λ (n : ℕ). accepted (n ∷ [])) rule ∙ sym up,
               buffer
-                  ∙ ap (λ (r : List ℕ). r ++ drop (length r) B) (sym whole)
+                  ∙ ap (written B 0) (sym whole)
+                  ∙ written-front B (timetableRecord (madeOf o p))
                   ∙ sym (ap (λ (a : Answer). leaves a (timetableRecord (madeOf o p)) B) up),
             )

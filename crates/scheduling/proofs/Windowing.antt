@@ -2,42 +2,43 @@
 --
 --     WroteRows t s n at b next row                  the steps of the first rows of the window t are written into s
 --     rows-first, rows-length, rows-room, rows-more, rows-all    from row to row
---     filled-latest, filled-few, filled-fit, filled-room, filled-written    what a filled window has
+--     filled-latest, filled-few, filled-fit, filled-steps, filled-room, filled-wrote    what a filled window has
 --     Known ms s n, known-first, known-later, known-on, known-last          that s is the number of steps, from the first window on
 --     WroteWindows ms s b at n                       the steps of the first n windows are written into s
---     windows-none, windows-room, windows-more, windows-all      from window to window
+--     windows-none, windows-length, windows-room, windows-more, windows-all      from window to window
 -- Assumes nothing.
 use Prim.Native.Nat.{ℕ, zero, suc, _+_, _-_, _*_, _/_, _≤_, _<_, min}
-use mathlib.Core.Path.{_≡_, refl, sym, ap, _∙_}
+use mathlib.Core.Path.{_≡_, refl, sym, ap, _∙_, subst}
 use mathlib.Core.List.{List, [], _∷_, _++_, append-nil}
 use native.Mathlib.Omega.{arith}
 use native.Mathlib.Decide.{ℕ-discrete}
 use native.Mathlib.Numerals.{add-one}
 use native.Mathlib.Nat.{add-zero, le-refl}
 use Rattle.field.specs.RecordLaws.{BelowPairs}
+use Rattle.field.specs.Writing.{written, Fits, Wrote, fits-next, wrote-none, wrote-then, wrote-length, fits-as, wrote-as}
 use Rattle.scheduling.specs.Filling.{started, emptyWindow, windowOf, latest, Filled}
 use Rattle.scheduling.specs.FillingLaws.{greatest-same, entries-empty, entries-pass}
 use Rattle.scheduling.specs.Windows.{rowsOf, windowSteps, windows, allSteps}
 use lib.ListN.{length, length-append}
-use Rattle.scheduling.specs.Rows.{EntriesFit, rowMoves, rows, stepBytes, stepsBytes, written}
-use Rattle.scheduling.specs.RowLaws.{rows-split, rows-next, stepsBytes-append, Wrote, wrote-none, wrote-length, wrote-room, wrote-more}
+use Rattle.scheduling.specs.Rows.{EntriesFit, rowMoves, rows, stepBytes, stepsBytes}
+use Rattle.scheduling.specs.RowLaws.{rows-split, rows-next, stepsBytes-append}
 
 module _ (t s : List ℕ) (n at : ℕ) where
   unfoldable pub WroteRows : List ℕ → ℕ → ℕ → Type 0
-  WroteRows b next row = Wrote s at (stepsBytes (rows t 0 row)) next b
+  WroteRows b next row = Wrote s at (stepsBytes (rows t 0 row)) b next
 
   pub rows-first : WroteRows s at 0
   unfolding WroteRows rows stepsBytes
   rows-first = wrote-none s at
 
-  module _ (room : at + length (stepsBytes (rows t 0 n)) ≤ length s) where
+  module _ (fits : Fits s at (stepsBytes (rows t 0 n))) where
     -- the first rows take no more than all
-    few : (row : ℕ) → row ≤ n → at + length (stepsBytes (rows t 0 row)) ≤ length s
+    few : (row : ℕ) → row ≤ n → Fits s at (stepsBytes (rows t 0 row))
     few row h =
         let all : n ≡ row + (n - row) = omega arith in
         let parts : stepsBytes (rows t 0 n) ≡ stepsBytes (rows t 0 row) ++ stepsBytes (rows t (0 + row) (n - row)) =
         ap (λ (k : ℕ). stepsBytes (rows t 0 k)) all ∙ ap stepsBytes (rows-split t 0 row (n - row)) ∙ stepsBytes-append (rows t 0 row) (rows t (0 + row) (n - row)) in
-        omega (arith, room, ap length parts, length-append (stepsBytes (rows t 0 row)) (stepsBytes (rows t (0 + row) (n - row))))
+        record { room = omega (arith, fits .room, ap length parts, length-append (stepsBytes (rows t 0 row)) (stepsBytes (rows t (0 + row) (n - row)))) }
 
     next-bytes : (row : ℕ) → stepsBytes (rows t 0 (row + 1)) ≡ stepsBytes (rows t 0 row) ++ stepBytes (rowMoves t row)
     unfolding stepsBytes
@@ -46,29 +47,28 @@ module _ (t s : List ℕ) (n at : ℕ) where
         ∙ stepsBytes-append (rows t 0 row) (rowMoves t row ∷ [])
         ∙ ap (λ (l : List ℕ). stepsBytes (rows t 0 row) ++ l) (append-nil (stepBytes (rowMoves t row)))
 
+    -- and so does the row behind them
+    few-more : (row : ℕ) → row < n → Fits s at (stepsBytes (rows t 0 row) ++ stepBytes (rowMoves t row))
+    few-more row h = subst (Fits s at) (next-bytes row) (few (row + 1) (omega arith))
+
     module _ (b : List ℕ) (next row : ℕ) (w : WroteRows b next row) where
       pub rows-length : row ≤ n → length b ≡ length s
       unfolding WroteRows
-      rows-length h = wrote-length s at (stepsBytes (rows t 0 row)) next b w (few row h)
+      rows-length h = wrote-length (few row h) w
 
-      pub rows-room : row < n → next + length (stepBytes (rowMoves t row)) ≤ length b
+      pub rows-room : row < n → Fits b next (stepBytes (rowMoves t row))
       unfolding WroteRows
-      rows-room h =
-          wrote-room s at (stepsBytes (rows t 0 row)) next b w (stepBytes (rowMoves t row))
-          (rw (← next-bytes row) (few (row + 1) (omega arith)))
+      rows-room h = fits-next (stepsBytes (rows t 0 row)) (stepBytes (rowMoves t row)) w (few-more row h)
 
-      pub rows-more : row < n → (next′ : ℕ) (b′ : List ℕ) → next′ ≡ next + length (stepBytes (rowMoves t row)) → b′ ≡ written b next (stepBytes (rowMoves t row))
-          → WroteRows b′ next′ (row + 1)
+      pub rows-more : row < n → (next′ : ℕ) (b′ : List ℕ) → Wrote b next (stepBytes (rowMoves t row)) b′ next′ → WroteRows b′ next′ (row + 1)
       unfolding WroteRows
-      rows-more h next′ b′ en eb =
-          rw (next-bytes row)
-          (wrote-more s at (stepsBytes (rows t 0 row)) next b w (stepBytes (rowMoves t row)) (rw (← next-bytes row) (few (row + 1) (omega arith))) next′ b′ en eb)
+      rows-more h next′ b′ v = wrote-as (sym (next-bytes row)) (wrote-then (stepsBytes (rows t 0 row)) (stepBytes (rowMoves t row)) (few-more row h) w v)
 
-      pub rows-all : row ≤ n → n ≤ row → (next ≡ at + length (stepsBytes (rows t 0 n))) × (b ≡ written s at (stepsBytes (rows t 0 n)))
+      pub rows-all : row ≤ n → n ≤ row → Wrote s at (stepsBytes (rows t 0 n)) b next
       unfolding WroteRows
       rows-all l u =
           let all : n ≡ row = omega arith in
-          rw all (w .ends, w .is)
+          rw all w
 
 module _ (ms : List (ℕ × ℕ)) (first r : ℕ) (w : List ℕ) (f : Filled first emptyWindow ms r w) where
   pub filled-latest : r ≡ latest ms
@@ -86,14 +86,11 @@ module _ (ms : List (ℕ × ℕ)) (first r : ℕ) (w : List ℕ) (f : Filled fir
     unfolding windowSteps windowOf
     filled-steps = rw (e, filled-latest, f .window-is) refl
 
-    pub filled-room : (at : ℕ) (B : List ℕ) → at + length (stepsBytes (windowSteps ms first)) ≤ length B → at + length (stepsBytes (rows w 0 n)) ≤ length B
-    filled-room at B room = rw filled-steps room
+    pub filled-room : (at : ℕ) (B : List ℕ) → Fits B at (stepsBytes (windowSteps ms first)) → Fits B at (stepsBytes (rows w 0 n))
+    filled-room at B fits = fits-as (ap stepsBytes filled-steps) fits
 
-    pub filled-written : (at next : ℕ) (B b : List ℕ) → (next ≡ at + length (stepsBytes (rows w 0 n))) × (b ≡ written B at (stepsBytes (rows w 0 n)))
-        → (r ≡ latest ms) × (next ≡ at + length (stepsBytes (windowSteps ms first))) × (b ≡ written B at (stepsBytes (windowSteps ms first)))
-    filled-written at next B b g =
-        let same = filled-steps in
-        (filled-latest, g .0 ∙ ap (λ (l : List (List (ℕ × ℕ))). at + length (stepsBytes l)) same, g .1 ∙ ap (λ (l : List (List (ℕ × ℕ))). written B at (stepsBytes l)) same)
+    pub filled-wrote : (at next : ℕ) (B b : List ℕ) → Wrote B at (stepsBytes (rows w 0 n)) b next → (r ≡ latest ms) × Wrote B at (stepsBytes (windowSteps ms first)) b next
+    filled-wrote at next B b v = (filled-latest, wrote-as (ap stepsBytes filled-steps) v)
 
 -- one window after another
 
@@ -131,7 +128,7 @@ known-last ms s (suc n) k h = k .later (omega arith)
 
 module _ (ms : List (ℕ × ℕ)) (s : List ℕ) where
   unfoldable pub WroteWindows : List ℕ → ℕ → ℕ → Type 0
-  WroteWindows b at n = Wrote s 3 (stepsBytes (windows ms n)) at b
+  WroteWindows b at n = Wrote s 3 (stepsBytes (windows ms n)) b at
 
   pub windows-none : WroteWindows s 3 0
   unfolding WroteWindows windows stepsBytes
@@ -141,32 +138,29 @@ module _ (ms : List (ℕ × ℕ)) (s : List ℕ) where
   unfolding windows
   window-bytes n = rw (add-one n) (stepsBytes-append (windows ms n) (windowSteps ms (4096 * n)))
 
-  module _ (room : 3 + length (stepsBytes (allSteps ms)) ≤ length s) where
-    few-windows : (n : ℕ) → n ≤ latest ms / 4096 + 1 → 3 + length (stepsBytes (windows ms n)) ≤ length s
+  module _ (fits : Fits s 3 (stepsBytes (allSteps ms))) where
+    few-windows : (n : ℕ) → n ≤ latest ms / 4096 + 1 → Fits s 3 (stepsBytes (windows ms n))
     unfolding allSteps
     few-windows n h =
         let all : latest ms / 4096 + 1 ≡ n + (latest ms / 4096 + 1 - n) = omega arith in
-        omega (arith, room, ap (λ (k : ℕ). length (stepsBytes (windows ms k))) all, windows-most ms n (latest ms / 4096 + 1 - n))
+        record { room = omega (arith, fits .room, ap (λ (k : ℕ). length (stepsBytes (windows ms k))) all, windows-most ms n (latest ms / 4096 + 1 - n)) }
 
     module _ (b : List ℕ) (at n : ℕ) (w : WroteWindows b at n) where
       pub windows-length : n ≤ latest ms / 4096 + 1 → length b ≡ length s
       unfolding WroteWindows
-      windows-length h = wrote-length s 3 (stepsBytes (windows ms n)) at b w (few-windows n h)
+      windows-length h = wrote-length (few-windows n h) w
 
       module _ (k : n + 1 ≤ latest ms / 4096 + 1) where
-        fits : 3 + length (stepsBytes (windows ms n) ++ stepsBytes (windowSteps ms (4096 * n))) ≤ length s
-        fits = rw (← window-bytes n) (few-windows (n + 1) k)
+        more-fits : Fits s 3 (stepsBytes (windows ms n) ++ stepsBytes (windowSteps ms (4096 * n)))
+        more-fits = subst (Fits s 3) (window-bytes n) (few-windows (n + 1) k)
 
-        pub windows-room : at + length (stepsBytes (windowSteps ms (4096 * n))) ≤ length b
+        pub windows-room : Fits b at (stepsBytes (windowSteps ms (4096 * n)))
         unfolding WroteWindows
-        windows-room = wrote-room s 3 (stepsBytes (windows ms n)) at b w (stepsBytes (windowSteps ms (4096 * n))) fits
+        windows-room = fits-next (stepsBytes (windows ms n)) (stepsBytes (windowSteps ms (4096 * n))) w more-fits
 
-        pub windows-more : (at′ : ℕ) (b′ : List ℕ) → at′ ≡ at + length (stepsBytes (windowSteps ms (4096 * n)))
-            → b′ ≡ written b at (stepsBytes (windowSteps ms (4096 * n))) → WroteWindows b′ at′ (n + 1)
+        pub windows-more : (at′ : ℕ) (b′ : List ℕ) → Wrote b at (stepsBytes (windowSteps ms (4096 * n))) b′ at′ → WroteWindows b′ at′ (n + 1)
         unfolding WroteWindows
-        windows-more at′ b′ ea eb =
-            rw (window-bytes n)
-            (wrote-more s 3 (stepsBytes (windows ms n)) at b w (stepsBytes (windowSteps ms (4096 * n))) fits at′ b′ ea eb)
+        windows-more at′ b′ v = wrote-as (sym (window-bytes n)) (wrote-then (stepsBytes (windows ms n)) (stepsBytes (windowSteps ms (4096 * n))) more-fits w v)
 
       module _ (h : n ≤ latest ms / 4096 + 1) (u : latest ms ≤ 4096 * n) where
         -- behind the last step a window has no steps
@@ -186,4 +180,4 @@ module _ (ms : List (ℕ × ℕ)) (s : List ℕ) where
 
         pub windows-all : b ≡ written s 3 (stepsBytes (allSteps ms))
         unfolding WroteWindows
-        windows-all = w .is ∙ ap (λ (l : List (List (ℕ × ℕ))). written s 3 (stepsBytes l)) all-steps
+        windows-all = w .bytes-are ∙ ap (λ (l : List (List (ℕ × ℕ))). written s 3 (stepsBytes l)) all-steps

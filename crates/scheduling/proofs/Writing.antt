@@ -1,9 +1,14 @@
 -- Writing a step: the moves of a row, one after another behind the count, which is written last.
 --
---     entry-none, entry-some, entry-room     what `write_entry` does, by the entry
+--     entry-none, entry-count, entry-some, entry-room    what `write_entry` does, by the entry
+--     entryMoves p e                         the move of an entry, if it is one
 --     row-next                               the moves of one more entry
+--     row-most, row-few                      the first p entries have at most as many moves as the row, and as there are entries
 --     Writing t i s at p n b                 the buffer b and the count n after p entries of row i, the buffer having been s
---     writing-first, -next, -last            how that goes on
+--     length-kept, entry-fits, count-few     before an entry: the length is the same, its move has room, and there are fewer than 64
+--     entry-fits-at, writing-next-at         the same, and the next turn, by the entry as it was read
+--     writing-first, writing-next, writing-all, writing-last    how that goes on
+--     count-at-most, end-is, length-same, at-inside    after all: at most 64 moves, where the step ends, the same length, and room for the count
 -- Assumes nothing.
 use Prim.Native.Nat.{ℕ, zero, suc, _+_, _-_, _*_, _/_, _≤_, _<_}
 use mathlib.Core.Path.{_≡_, refl, sym, ap, ap₂, _∙_}
@@ -14,12 +19,13 @@ use native.Mathlib.Nat.{add-assoc, zero-add, le-refl}
 use native.Mathlib.Numerals.{add-one}
 use native.Mathlib.Decide.{ℕ-discrete}
 use borrow.Author.Tests.{eq-eqb, ne-eqb}
-use lib.ListN.{length, getD, set, take, drop, length-append, length-drop, drop-of-length-le, take-append-drop}
+use lib.ListN.{length, getD, set, take, drop, length-append, length-drop, drop-of-length-le}
 use lib.Seq.{drop-drop, drop-at, take-at, set-at, length-take-le, take-suc}
 use lib.Dec.{eqb}
 use Rattle.field.specs.RecordLaws.{rest-is}
 use Rattle.field.specs.Packing.{pack, length-pack, putPair, added, added-is, put-next}
-use Rattle.scheduling.specs.Rows.{rowFrom, rowMoves, stepBytes, written, countWith, bufferWith}
+use Rattle.field.specs.Writing.{written, Fits, Wrote, written-none, length-written}
+use Rattle.scheduling.specs.Rows.{rowFrom, rowMoves, stepBytes, countWith, bufferWith}
 
 module _ (s : List ℕ) (at n p e : ℕ) where
   pub entry-none : e ≡ 0 → (n ≡ countWith n e) × (s ≡ bufferWith s at n p e)
@@ -91,22 +97,12 @@ row-few t i q (suc k) = by (eqb (getD t (i * 64 + q) 0) 0) (row-few t i (q + 1) 
 module _ (t : List ℕ) (i : ℕ) (s : List ℕ) (at : ℕ) where
   pub record Writing (p n : ℕ) (b : List ℕ) : Type 0 where
     pub counted : n ≡ length (rowFrom t i 0 p)
-    pub packed : b ≡ take (at + 1) s ++ (pack (rowFrom t i 0 p) ++ drop (at + 1 + length (pack (rowFrom t i 0 p))) s)
+    pub packed : b ≡ written s (at + 1) (pack (rowFrom t i 0 p))
 
   pub writing-first : Writing 0 0 s
-  writing-first =
-      record {
-        counted = unfold rowFrom in refl;
-        packed = unfold rowFrom pack in let none : at + 1 + 0 ≡ at + 1 = omega arith in rw none (sym (take-append-drop (at + 1) s));
-      }
+  writing-first = record { counted = unfold rowFrom in refl; packed = unfold rowFrom pack in sym (written-none s (at + 1)) }
 
-  module _ (room : at + length (stepBytes (rowMoves t i)) ≤ length s) (p n : ℕ) (b : List ℕ) (w : Writing p n b) (h : p < 64) where
-    e : ℕ
-    e = getD t (i * 64 + p) 0
-
-    ms : List (ℕ × ℕ)
-    ms = rowFrom t i 0 p
-
+  module _ (fits : Fits s at (stepBytes (rowMoves t i))) (p n : ℕ) (b : List ℕ) (w : Writing p n b) (h : p < 64) where
     next-moves : rowFrom t i 0 (p + 1) ≡ rowFrom t i 0 p ++ entryMoves p (getD t (i * 64 + p) 0)
     next-moves =
         let on : p + 1 ≡ suc p = add-one p in
@@ -121,22 +117,19 @@ module _ (t : List ℕ) (i : ℕ) (s : List ℕ) (at : ℕ) where
         by false = sym (length-append (rowFrom t i 0 p) ((p, getD t (i * 64 + p) 0 - 1) ∷ []))
 
     -- the bytes of the moves so far, and of all
-    pack-most : at + 1 + length (pack (rowFrom t i 0 p)) ≤ length s
+    pack-fits : Fits s (at + 1) (pack (rowFrom t i 0 p))
     unfolding stepBytes
-    pack-most = omega (arith, length-pack (rowFrom t i 0 p), length-pack (rowMoves t i), row-most t i p (omega (arith, h)), room)
+    pack-fits = record { room = omega (arith, length-pack (rowFrom t i 0 p), length-pack (rowMoves t i), row-most t i p (omega (arith, h)), fits .room) }
 
     before-is : length (take (at + 1) s) ≡ at + 1
-    before-is = length-take-le (at + 1) s (omega (arith, pack-most))
+    before-is = length-take-le (at + 1) s (omega (arith, pack-fits .room))
 
     pub length-kept : length b ≡ length s
-    length-kept =
-        ap length (w .packed)
-        ∙ simp (length-append, length-drop, before-is)
-        (omega (arith, pack-most))
+    length-kept = ap length (w .packed) ∙ length-written s (at + 1) (pack (rowFrom t i 0 p)) pack-fits
 
     pub entry-fits : at + 1 + (12 * countWith n (getD t (i * 64 + p) 0) + 7) / 8 ≤ length b
     unfolding stepBytes
-    entry-fits = rw (length-kept, count-next) (omega (arith, length-pack (rowMoves t i), row-most t i (p + 1) (omega (arith, h)), room))
+    entry-fits = rw (length-kept, count-next) (omega (arith, length-pack (rowMoves t i), row-most t i (p + 1) (omega (arith, h)), fits .room))
 
     pub count-few : n < 64
     count-few = omega (arith, w .counted, row-few t i 0 p, h)
@@ -155,10 +148,11 @@ module _ (t : List ℕ) (i : ℕ) (s : List ℕ) (at : ℕ) where
     behind = drop (at + 1 + length (pack (rowFrom t i 0 p))) s
 
     part-is : drop (at + 1) b ≡ pack (rowFrom t i 0 p) ++ behind
-    unfolding behind
+    unfolding behind written
     part-is = ap (drop (at + 1)) (w .packed) ∙ drop-at (take (at + 1) s) (pack (rowFrom t i 0 p) ++ drop (at + 1 + length (pack (rowFrom t i 0 p))) s) (at + 1) before-is
 
     front-is : take (at + 1) b ≡ take (at + 1) s
+    unfolding written
     front-is = ap (take (at + 1)) (w .packed) ∙ take-at (take (at + 1) s) (pack (rowFrom t i 0 p) ++ drop (at + 1 + length (pack (rowFrom t i 0 p))) s) (at + 1) before-is
 
     module _ (d : getD t (i * 64 + p) 0 ≡ 0 → ⊥) where
@@ -173,7 +167,7 @@ module _ (t : List ℕ) (i : ℕ) (s : List ℕ) (at : ℕ) where
       unfolding behind stepBytes
       behind-room =
           rw (length-drop (at + 1 + length (pack (rowFrom t i 0 p))) s)
-          (omega (arith, next-length, length-pack (rowFrom t i 0 (p + 1)), length-pack (rowMoves t i), row-most t i (p + 1) (omega (arith, h)), room))
+          (omega (arith, next-length, length-pack (rowFrom t i 0 (p + 1)), length-pack (rowMoves t i), row-most t i (p + 1) (omega (arith, h)), fits .room))
 
       behind-next : drop (added (length (rowFrom t i 0 p))) behind ≡ drop (at + 1 + length (pack (rowFrom t i 0 (p + 1)))) s
       unfolding behind
@@ -181,8 +175,8 @@ module _ (t : List ℕ) (i : ℕ) (s : List ℕ) (at : ℕ) where
           drop-drop (added (length (rowFrom t i 0 p))) (at + 1 + length (pack (rowFrom t i 0 p))) s
           ∙ ap (λ (k : ℕ). drop k s) (add-assoc (at + 1) (length (pack (rowFrom t i 0 p))) (added (length (rowFrom t i 0 p))) ∙ ap (λ (k : ℕ). at + 1 + k) (sym next-length))
 
-      writes : bufferWith b at n p (getD t (i * 64 + p) 0) ≡ take (at + 1) s ++ (pack (rowFrom t i 0 (p + 1)) ++ drop (at + 1 + length (pack (rowFrom t i 0 (p + 1)))) s)
-      unfolding bufferWith
+      writes : bufferWith b at n p (getD t (i * 64 + p) 0) ≡ written s (at + 1) (pack (rowFrom t i 0 (p + 1)))
+      unfolding bufferWith written
       writes =
           let e = getD t (i * 64 + p) 0 - 1 in
           rw (ne-eqb (getD t (i * 64 + p) 0) 0 d)
@@ -191,7 +185,7 @@ module _ (t : List ℕ) (i : ℕ) (s : List ℕ) (at : ℕ) where
           ∙ ap (λ (x : List ℕ). take (at + 1) s ++ x)
           (put-next (rowFrom t i 0 p) behind p e behind-room ∙ ap₂ (λ (x : List (ℕ × ℕ)) (y : List ℕ). pack x ++ y) (sym (grows d)) behind-next))
 
-    keeps : getD t (i * 64 + p) 0 ≡ 0 → bufferWith b at n p (getD t (i * 64 + p) 0) ≡ take (at + 1) s ++ (pack (rowFrom t i 0 (p + 1)) ++ drop (at + 1 + length (pack (rowFrom t i 0 (p + 1)))) s)
+    keeps : getD t (i * 64 + p) 0 ≡ 0 → bufferWith b at n p (getD t (i * 64 + p) 0) ≡ written s (at + 1) (pack (rowFrom t i 0 (p + 1)))
     unfolding bufferWith
     keeps z = rw (eq-eqb (getD t (i * 64 + p) 0) 0 z, stays z) (w .packed)
 
@@ -211,19 +205,19 @@ module _ (t : List ℕ) (i : ℕ) (s : List ℕ) (at : ℕ) where
       let all : 64 ≡ p = omega arith in
       rw all w
 
-  module _ (room : at + length (stepBytes (rowMoves t i)) ≤ length s) (n : ℕ) (b : List ℕ) (w : Writing 64 n b) where
+  module _ (fits : Fits s at (stepBytes (rowMoves t i))) (n : ℕ) (b : List ℕ) (w : Writing 64 n b) where
     pub count-at-most : n ≤ 64
     count-at-most = omega (arith, w .counted, row-few t i 0 64)
 
-    pub end-is : at + 1 + (12 * n + 7) / 8 ≡ at + length (stepBytes (rowMoves t i))
+    end-is : at + 1 + (12 * n + 7) / 8 ≡ at + length (stepBytes (rowMoves t i))
     unfolding stepBytes rowMoves
     end-is = omega (arith, w .counted, length-pack (rowFrom t i 0 64))
 
-    pub writing-last : set b at n ≡ written s at (stepBytes (rowMoves t i))
+    last-is : set b at n ≡ written s at (stepBytes (rowMoves t i))
     unfolding stepBytes rowMoves written
-    writing-last =
+    last-is =
         let ms = rowFrom t i 0 64 in
-        let inside : at < length s = omega (arith, room) in
+        let inside : at < length s = omega (arith, fits .room) in
         let on : at + 1 + length (pack ms) ≡ at + suc (length (pack ms)) = omega arith in
         let front : take (at + 1) s ≡ take at s ++ (getD s at 0 ∷ []) = ap (λ (k : ℕ). take k s) (add-one at) ∙ take-suc s at 0 inside in
         let split : b ≡ take at s ++ getD s at 0 ∷ (pack ms ++ drop (at + 1 + length (pack ms)) s) = w .packed ∙ ap (λ (x : List ℕ). x ++ (pack ms ++ drop (at + 1 + length (pack ms)) s)) front ∙ append-assoc (take at s) (getD s at 0 ∷ []) (pack ms ++ drop (at + 1 + length (pack ms)) s) in
@@ -231,13 +225,13 @@ module _ (t : List ℕ) (i : ℕ) (s : List ℕ) (at : ℕ) where
         ∙ set-at (take at s) (getD s at 0) (pack ms ++ drop (at + 1 + length (pack ms)) s) n at (length-take-le at s (omega (arith, inside)))
         ∙ rw (w .counted, on) refl
 
+    pub writing-last : Wrote s at (stepBytes (rowMoves t i)) (set b at n) (at + 1 + (12 * n + 7) / 8)
+    writing-last = record { bytes-are = last-is; next-is = end-is }
+
     pub length-same : length b ≡ length s
     unfolding stepBytes rowMoves
-    length-same =
-        ap length (w .packed)
-        ∙ simp (length-append, length-drop, length-take-le (at + 1) s (omega (arith, room)))
-        (omega (arith, room))
+    length-same = ap length (w .packed) ∙ length-written s (at + 1) (pack (rowFrom t i 0 64)) (record { room = omega (arith, fits .room) })
 
     pub at-inside : at < length b
     unfolding stepBytes
-    at-inside = rw length-same (omega (arith, room))
+    at-inside = rw length-same (omega (arith, fits .room))

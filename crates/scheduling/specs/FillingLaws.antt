@@ -3,6 +3,7 @@
 --     set-most                a table whose entries are at most b, with one more entry of at most b
 --     Early j P               no step is above j
 --     early-started, early-passed, early-pass    nor is it, with each move, above one more
+--     step-early              the step of a move is at most one above
 --     latest-few              so there are at most as many steps as moves
 --     greatest-same           the greatest step is the same whatever the window
 --     entries-empty, entries-pass              every entry of the window is a position, plus 1, or 0

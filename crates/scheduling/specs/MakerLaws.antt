@@ -3,6 +3,7 @@
 --
 --     PlanGave o p v, plan-gave      what acceptance of the plan p for the order o tells
 --     steps-packable                 steps that lead anywhere have room in the record's fields
+--     made-of                        the made steps of an accepted plan lead from the starts to the goals
 --     made-packable                  so have the made steps
 --     Timetabled o p, timetabled     the made record is at most 3 × k + 3 bytes long, and the timetable checker accepts it, with s steps and k moves
 --     MakerGave o p n v, maker-gave  what acceptance by the maker tells: the plan is accepted, the buffer has room, and the answer is s

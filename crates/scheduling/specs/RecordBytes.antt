@@ -1,9 +1,9 @@
 -- The timetable record as the bytes that the maker writes.
 --
---     step-bytes         the record of a step is its count and its packed moves
+--     step-bytes, steps-bytes    the record of a step is its count and its packed moves; and those of steps, one after another
 --     head-bytes         the head of the record
 --     record-bytes       the record is its head and the bytes of its steps
---     front-written      a record written behind its head, and then its head, leaves what stands behind it
+--     front-written      a record written behind its head, and then its head, is the record written at the front
 -- Assumes nothing.
 use Prim.Native.Nat.{ℕ, _+_, _*_, _/_, _%_, _^_, _≤_, _<_}
 use mathlib.Core.Path.{_≡_, refl, sym, ap, ap₂, _∙_}
@@ -16,10 +16,11 @@ use Rattle.field.specs.BitLaws.{none, more, Bits, Bytes, below-append, length-b
 use Rattle.field.specs.RecordLaws.{BelowPairs, bitsOf-toBytes, toBytes-are, toBytes-from, pairBits-are}
 use Rattle.field.specs.WholeBytes.{padded-append, padded-whole}
 use Rattle.field.specs.Packing.{pack, pack-is, bits-append, bits-split}
+use Rattle.field.specs.Writing.{written}
 use Rattle.timetable.specs.Timetable.{stepBits, stepLength, timetableRecord}
 use Rattle.timetable.specs.StepRecord.{stepRecord, joined, stepBits-are, length-stepBits}
 use Rattle.timetable.specs.TimetableRecord.{Steps, no-steps, one-step, Packable, headBits, record-parts}
-use Rattle.scheduling.specs.Rows.{stepBytes, stepsBytes, written}
+use Rattle.scheduling.specs.Rows.{stepBytes, stepsBytes}
 use Rattle.scheduling.specs.Windows.{headBytes}
 
 module _ (ms : List (ℕ × ℕ)) (few : length ms ≤ 255) (below : BelowPairs 64 ms) where
@@ -78,11 +79,12 @@ pub record-bytes : (l : List (List (ℕ × ℕ))) → Packable l → timetableRe
 record-bytes l p = record-parts l ∙ ap₂ _++_ (head-bytes (length l) (p .few-steps)) (steps-bytes (p .steps-fit))
 
 -- three bytes in front of bytes already written behind them
-pub front-written : (B h x : List ℕ) → length h ≡ 3 → 3 + length x ≤ length B → written (written B 3 x) 0 h ≡ h ++ x ++ drop (length (h ++ x)) B
+pub front-written : (B h x : List ℕ) → length h ≡ 3 → 3 + length x ≤ length B → written (written B 3 x) 0 h ≡ written B 0 (h ++ x)
 unfolding written
 front-written B h x e room =
     let front : length (take 3 B) ≡ 3 = length-take-le 3 B (omega arith) in
     let tail : drop 3 (take 3 B ++ (x ++ drop (3 + length x) B)) ≡ x ++ drop (3 + length x) B = drop-at (take 3 B) (x ++ drop (3 + length x) B) 3 front in
     let three : 0 + length h ≡ 3 = omega arith in
     let all : length (h ++ x) ≡ 3 + length x = length-append h x ∙ ap (λ (n : ℕ). n + length x) e in
-    rw (three, tail, all) (sym (append-assoc h x (drop (3 + length x) B)))
+    let none : 0 + (3 + length x) ≡ 3 + length x = omega arith in
+    rw (three, tail, all, none) (sym (append-assoc h x (drop (3 + length x) B)))

@@ -9,7 +9,6 @@
 --     stepsBytes l           steps of the timetable record, one after another
 --     countWith n e          how many moves a step of n moves has with the entry e
 --     bufferWith s at n p e  the byte string s with the move of the entry e of position p behind the n moves of the step that begins at byte `at`
---     written s at l         the byte string s with the bytes l written from byte `at` on
 -- Assumes nothing.
 use Prim.Native.Nat.{ℕ, zero, suc, _+_, _-_, _*_, _≤_}
 use mathlib.Core.Bool.{cond}
@@ -37,9 +36,6 @@ stepBytes ms = length ms ∷ pack ms
 unfoldable pub stepsBytes : List (List (ℕ × ℕ)) → List ℕ
 stepsBytes [] = []
 stepsBytes (ms ∷ l) = stepBytes ms ++ stepsBytes l
-
-unfoldable pub written : List ℕ → ℕ → List ℕ → List ℕ
-written s at l = take at s ++ (l ++ drop (at + length l) s)
 
 -- every entry of the window is a position below 64, plus 1
 pub record EntriesFit (t : List ℕ) : Type 0 where

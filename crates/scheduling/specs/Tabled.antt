@@ -3,6 +3,8 @@
 --
 --     entryOf l i p          the entry of position p in the row of step i, by the timed moves l, latest first
 --     entryOf-same, entryOf-place, entryOf-step    with one more move: its own entry, and another position's or step's
+--     length-noted, noted-same, noted-other    a move noted in the window: the length stays, its own entry, and any other
+--     step-ruled             the step by the tables is that of the rule
 --     Agrees A l first P     the pass P, of a window of the steps after step `first`, agrees with the timed moves l, which left the arrangement A
 --     agrees-started         before the first move it does
 --     agrees-next            and after each move

@@ -1,11 +1,13 @@
 -- The steps read off the windows are those that the making rule makes.
 --
+--     Entered t i p k x  the entry of position x .0 in row i is that of the move x, one of the k positions from p on
 --     row-iff            the moves of a row are those of its entries
 --     row-ascends        they ascend by position left
 --     entry-iff          the entry of a position is the move of the step that leaves it, where no two moves of the step leave one position
 --     row-made           the moves of a row are those of its step
 --     rows-made          and the rows of a window are its steps
 --     stepsFrom-split    the first a steps and those behind them
+--     window-made        the steps of a window are those of the made steps
 --     windows-made       the steps of the first n windows are as many of the made steps
 --     latest-made, latest-rule    the greatest step is that of the rule
 --     allSteps-made      the steps of all windows are the made steps

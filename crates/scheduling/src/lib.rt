@@ -9,11 +9,12 @@ ghost use Prim.Native.Nat.{_+_, _*_, _/_, _^_, _≤_, _<_, max};
 ghost use lib.ListN.{length};
 ghost use Rattle.answers.specs.Answer.{accepted, passUp};
 ghost use Rattle.field.specs.Bits.{pairs};
+ghost use Rattle.field.specs.Writing.{written, Fits, Wrote};
 ghost use Rattle.plan.specs.Verdict.{answerOf as planAnswerOf};
 ghost use Rattle.scheduling.specs.Filling.{noted, Filled, latest};
 ghost use Rattle.scheduling.specs.Windows.{rowsOf, windowSteps, allSteps, headBytes};
 ghost use Rattle.scheduling.specs.Maker.{makerAnswer, bufferAfter, answerOf};
-ghost use Rattle.scheduling.specs.Rows.{EntriesFit, rowMoves, rows, stepBytes, stepsBytes, written, countWith, bufferWith};
+ghost use Rattle.scheduling.specs.Rows.{EntriesFit, rowMoves, rows, stepBytes, stepsBytes, countWith, bufferWith};
 
 // Writes the move of an entry of a row behind the `count` moves that its step has so far, and says how many it has then. An entry of 0 is no
 // move.
@@ -31,8 +32,8 @@ fn write_entry(entry: usize, p: usize, buffer: &mut [u8], at: usize, count: usiz
 // Writes the step that a row of the window holds from byte `at` on, and says where the next one begins. The count is known last, and
 // written last.
 fn write_step(window: &[u8; 262144], row: usize, buffer: &mut [u8], at: usize) -> usize
-    requires { ⌜ (row < 4096) × ((at + length (stepBytes (rowMoves (now window) row)) ≤ length (now buffer)) × EntriesFit (now window)) ⌝ }
-    ensures { λ r. ⌜ (r ≡ at + length (stepBytes (rowMoves (now (window .entry)) row))) × (now (buffer .exit) ≡ written (now (buffer .entry)) at (stepBytes (rowMoves (now (window .entry)) row))) ⌝ }
+    requires { ⌜ (row < 4096) × (Fits (now buffer) at (stepBytes (rowMoves (now window) row)) × EntriesFit (now window)) ⌝ }
+    ensures { λ r. ⌜ Wrote (now (buffer .entry)) at (stepBytes (rowMoves (now (window .entry)) row)) (now (buffer .exit)) r ⌝ }
 {
     let base = row * 64;
     let mut count = 0;
@@ -109,8 +110,8 @@ fn rows_of(s: usize, first: usize) -> usize
 
 // Writes the steps of the window's first n rows from byte `at` on, and says where the next step begins.
 fn write_window(window: &[u8; 262144], n: usize, buffer: &mut [u8], at: usize) -> usize
-    requires { ⌜ (n ≤ 4096) × ((at + length (stepsBytes (rows (now window) 0 n)) ≤ length (now buffer)) × EntriesFit (now window)) ⌝ }
-    ensures { λ r. ⌜ (r ≡ at + length (stepsBytes (rows (now (window .entry)) 0 n))) × (now (buffer .exit) ≡ written (now (buffer .entry)) at (stepsBytes (rows (now (window .entry)) 0 n))) ⌝ }
+    requires { ⌜ (n ≤ 4096) × (Fits (now buffer) at (stepsBytes (rows (now window) 0 n)) × EntriesFit (now window)) ⌝ }
+    ensures { λ r. ⌜ Wrote (now (buffer .entry)) at (stepsBytes (rows (now (window .entry)) 0 n)) (now (buffer .exit)) r ⌝ }
 {
     let mut next = at;
     let mut row = 0;
@@ -129,8 +130,8 @@ struct Progress {
 
 // Makes and writes the steps of one window, those after step `first`, from byte `at` on.
 fn make_window(tail: &[u8], k: usize, first: usize, buffer: &mut [u8], at: usize) -> Progress
-    requires { ⌜ (k < 2 ^ 22) × (12 * k ≤ 8 * length (now tail)) × (at + length (stepsBytes (windowSteps (pairs (now tail) 0 k) first)) ≤ length (now buffer)) ⌝ }
-    ensures { λ r. ⌜ (r .steps ≡ latest (pairs (now (tail .entry)) 0 k)) × (r .next ≡ at + length (stepsBytes (windowSteps (pairs (now (tail .entry)) 0 k) first))) × (now (buffer .exit) ≡ written (now (buffer .entry)) at (stepsBytes (windowSteps (pairs (now (tail .entry)) 0 k) first))) ⌝ }
+    requires { ⌜ (k < 2 ^ 22) × (12 * k ≤ 8 * length (now tail)) × Fits (now buffer) at (stepsBytes (windowSteps (pairs (now tail) 0 k) first)) ⌝ }
+    ensures { λ r. ⌜ (r .steps ≡ latest (pairs (now (tail .entry)) 0 k)) × Wrote (now (buffer .entry)) at (stepsBytes (windowSteps (pairs (now (tail .entry)) 0 k) first)) (now (buffer .exit)) (r .next) ⌝ }
 {
     let mut window = [0u8; 262144];
     let s = fill(tail, k, first, &mut window);
@@ -142,7 +143,7 @@ fn make_window(tail: &[u8], k: usize, first: usize, buffer: &mut [u8], at: usize
 // Makes and writes all steps of the k moves of a plan's tail behind the record's head, window by window, and says how many they are. That is
 // known from the first window on; until then it counts as 1, so that this window is made.
 fn make_steps(tail: &[u8], k: usize, buffer: &mut [u8]) -> usize
-    requires { ⌜ (k < 2 ^ 22) × (12 * k ≤ 8 * length (now tail)) × (3 + length (stepsBytes (allSteps (pairs (now tail) 0 k))) ≤ length (now buffer)) ⌝ }
+    requires { ⌜ (k < 2 ^ 22) × (12 * k ≤ 8 * length (now tail)) × Fits (now buffer) 3 (stepsBytes (allSteps (pairs (now tail) 0 k))) ⌝ }
     ensures { λ r. ⌜ (r ≡ latest (pairs (now (tail .entry)) 0 k)) × (now (buffer .exit) ≡ written (now (buffer .entry)) 3 (stepsBytes (allSteps (pairs (now (tail .entry)) 0 k)))) ⌝ }
 {
     let mut s = 1;

@@ -13,13 +13,17 @@
 --     ones-third      with two positions, there is no third
 --     pigeonhole      k different numbers below n: k is at most n
 -- Assumes nothing.
-use Prim.Native.Nat.{ℕ, zero, suc, _+_, _-_, _*_, _/_, _%_, _^_, _≤_, _<_}
+use Prim.Native.Nat.{ℕ, zero, suc, _+_, _/_, _%_, _^_, _≤_, _<_}
 use mathlib.Core.Path.{_≡_, refl, sym, ap, subst, _∙_}
 use mathlib.Core.Logic.{_↔_, _≢_, _⊎_, inl, inr, ⊎-elim, by-cases}
+use mathlib.Core.Bool.{cond}
 use native.Mathlib.Decide.{ℕ-discrete}
+use native.Mathlib.Nat.{not-suc-le-zero}
 use native.Mathlib.Omega.{arith}
+use borrow.Author.Tests.{eq-eqb, ne-eqb}
 use lib.Arith.{bin-ind}
 use lib.Bits.{bitOr}
+use lib.Dec.{eqb}
 use lib.Count.{ones, ones-step}
 use Rattle.sets.specs.Sets.{bit, Has}
 use Rattle.sets.specs.SetLaws.{bit-low, bit-high, bit-two, has-none, has-or-not, has-or, has-only, has-some}
@@ -125,20 +129,14 @@ ones-least (suc n) s all =
     omega arith
 
 pub ones-most : (n s : ℕ) → ((p : ℕ) → Has s p → p < n) → ones s ≤ n
-ones-most zero s none = let r = ones-subset s 0 (λ p h. absurd (never (none p h))) in let z = ones-none in omega arith
-  where
-    never : {p : ℕ} → p < 0 → ⊥
-    never l = omega arith
+ones-most zero s none = let r = ones-subset s 0 (λ p h. absurd (not-suc-le-zero (none p h))) in let z = ones-none in omega arith
 ones-most (suc n) s below =
     let a = ones-step s in
     let r = ones-most n (s / 2) (λ p h. let l = below (suc p) (bit-high s p ∙ h) in omega arith) in
     omega arith
 
 pub ones-all : (n s : ℕ) → ((p : ℕ) → Has s p → p < n) → ones s ≡ n → (p : ℕ) → p < n → Has s p
-ones-all zero s below e p l = absurd (never l)
-  where
-    never : {p : ℕ} → p < 0 → ⊥
-    never l = omega arith
+ones-all zero s below e p l = absurd (not-suc-le-zero l)
 ones-all (suc n) s below e zero l =
     let a = ones-step s in
     let b = bit-low s in
@@ -173,38 +171,34 @@ ones-parts =
         let y = bit-low b in
         ⊎-elim (λ h. ⊎-elim (λ i. absurd (apart h i)) (λ i. omega arith) (has-or-not b 0)) (λ h. omega arith) (has-or-not a 0)
 
--- The first i numbers f 0, f 1, .. as a set.
-record Placed (f : ℕ → ℕ) (i : ℕ) : Type 0 where
-  set : ℕ
-  count : ones set ≡ i
-  among : (p : ℕ) → Has set p → (j : ℕ) × (j < i) × (f j ≡ p)
+pub pigeonhole : (n : ℕ) (f : ℕ → ℕ) (k : ℕ) → ((i : ℕ) → i < k → f i < n) → ((i j : ℕ) → i < j → j < k → f i ≢ f j) → k ≤ n
+pigeonhole n f zero below distinct = omega arith
+pigeonhole zero f (suc k) below distinct = omega (arith, below 0 (omega arith))
+pigeonhole (suc n) f (suc k) below distinct = omega (arith, pigeonhole n g k g-below g-distinct)
+  where
+    -- without the last number, which stands in for n
+    g : ℕ → ℕ
+    g i = cond (eqb (f i) n) (f k) (f i)
 
-module _ (n : ℕ) (f : ℕ → ℕ) (k : ℕ) (below : (i : ℕ) → i < k → f i < n) (distinct : (i j : ℕ) → i < j → j < k → f i ≢ f j) where
-  placed : (i : ℕ) → i ≤ k → Placed f i
-  placed zero l = record { set = 0; count = ones-none; among = λ p h. absurd (has-none p h) }
-  placed (suc i) l =
-      let r = placed i (omega arith) in
-      let has : (p : ℕ) → Has (bitOr (r .set) (2 ^ f i)) p ↔ (Has (r .set) p ⊎ (p ≡ f i)) = λ p.
-      let o = has-or (r .set) (2 ^ f i) p in
-      let v = has-only (f i) p in
-      (λ h. ⊎-elim (λ x. inl x) (λ x. inr (v .0 x)) (o .0 h), λ h. o .1 (⊎-elim (λ x. inl x) (λ x. inr (v .1 x)) h)) in
-      let one-more = ones-push (f i) (r .set) (bitOr (r .set) (2 ^ f i)) has (λ h. let a = r .among (f i) h in distinct (a .0) i (a .1) l (a .2)) in
-      record {
-        set = bitOr (r .set) (2 ^ f i);
-        count = (let c = r .count in omega arith);
-        among = λ p h.
-            ⊎-elim
-            (λ x. let a = r .among p x in let b = a .1 in (a .0, omega arith, a .2))
-            (λ x. (i, omega arith, sym x))
-            (has p .0 h);
-      }
+    g-is : (i : ℕ) → ((f i ≡ n) × (g i ≡ f k)) ⊎ ((f i ≢ n) × (g i ≡ f i))
+    g-is i = by-cases (ℕ-discrete (f i) n) (λ e. inl (e, rw (eq-eqb (f i) n e) refl)) (λ e. inr (e, rw (ne-eqb (f i) n e) refl))
 
-  pub pigeonhole : k ≤ n
-  pigeonhole =
-      let r = placed k (omega arith) in
-      let c = r .count in
-      let m = ones-most n (r .set) (λ p h. let a = r .among p h in let b = below (a .0) (a .1) in let e = a .2 in omega arith) in
-      omega arith
+    g-below : (i : ℕ) → i < k → g i < n
+    g-below i l =
+        let a = below i (omega arith) in
+        let b = below k (omega arith) in
+        let c = distinct i k l (omega arith) in
+        ⊎-elim (λ s. let x = s .0 in let y = s .1 in omega arith) (λ s. let x = s .0 in let y = s .1 in omega arith) (g-is i)
+
+    g-distinct : (i j : ℕ) → i < j → j < k → g i ≢ g j
+    g-distinct i j l h e =
+        let a = distinct i j l (omega arith) in
+        let b = distinct i k (omega arith) (omega arith) in
+        let c = distinct j k h (omega arith) in
+        ⊎-elim
+        (λ s. ⊎-elim (λ t. omega (arith, s .0, s .1, t .0, t .1)) (λ t. omega (arith, s .0, s .1, t .0, t .1)) (g-is j))
+        (λ s. ⊎-elim (λ t. omega (arith, s .0, s .1, t .0, t .1)) (λ t. omega (arith, s .0, s .1, t .0, t .1)) (g-is j))
+        (g-is i)
 
 pub ones-one : (v : ℕ) → ones (2 ^ v) ≡ 1
 ones-one v = let e = ones-push v 0 (2 ^ v) (λ p. (λ h. inr (has-only v p .0 h), λ h. ⊎-elim (λ x. absurd (has-none p x)) (λ x. has-only v p .1 x) h)) (has-none v) in let z = ones-none in omega arith

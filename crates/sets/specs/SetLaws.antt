@@ -1,7 +1,7 @@
 -- Laws of sets as words: what the operations on words do to the positions in them.
 --
 --     bit-low, bit-high       the lowest digit, and the others as those of half the number
---     bit-two                 a digit is 0 or 1
+--     bit-two, bit-zero       a digit is 0 or 1, and those of 0 are 0
 --     has-or-not              a position is in a set or it is not
 --     has-below               a word of k digits has no position from k on
 --     has-none                nothing is in the empty set
@@ -12,10 +12,10 @@
 --     has-some, has-positive, none-empty    a set that is not empty has a position, and the other way round
 -- Assumes nothing.
 use Prim.Native.Nat.{ℕ, zero, suc, _+_, _-_, _*_, _/_, _%_, _^_, _≤_, _<_, min, max}
-use mathlib.Core.Path.{_≡_, refl, sym, ap, ap₂, subst, _∙_}
-use mathlib.Core.Logic.{_↔_, _≢_, _⊎_, inl, inr, ⊎-elim, by-cases}
+use mathlib.Core.Path.{_≡_, refl, sym, ap, subst, _∙_}
+use mathlib.Core.Logic.{_↔_, _⊎_, inl, inr, ⊎-elim, by-cases}
 use native.Mathlib.Decide.{ℕ-discrete}
-use native.Mathlib.Nat.{div-one, one-mul, pow-suc, zero-min, zero-max}
+use native.Mathlib.Nat.{div-one, one-mul, pow-suc, zero-min, zero-max, not-suc-le-zero}
 use native.Mathlib.Numerals.{one-add}
 use native.Mathlib.Omega.{arith}
 use lib.Bits.{bitAnd, bitOr, and-step, or-step, and-shr, or-shr}
@@ -79,10 +79,7 @@ ones-half : (n : ℕ) → (2 ^ suc n - 1) / 2 ≡ 2 ^ n - 1
 ones-half n = let e = pow-suc 2 n in let p = pow-pos n in omega arith
 
 pub has-first : (n p : ℕ) → Has (2 ^ n - 1) p ↔ (p < n)
-has-first zero p = (λ h. absurd (has-none p h), λ l. absurd (none l))
-  where
-    none : {x : ℕ} → x < 0 → ⊥
-    none h = omega arith
+has-first zero p = (λ h. absurd (has-none p h), λ l. absurd (not-suc-le-zero l))
 has-first (suc n) zero = (λ h. omega arith, λ l. let e = pow-suc 2 n in let p = pow-pos n in let b = bit-low (2 ^ suc n - 1) in omega arith)
 has-first (suc n) (suc p) =
     let same : bit (2 ^ suc n - 1) (suc p) ≡ bit (2 ^ n - 1) p = bit-high (2 ^ suc n - 1) p ∙ ap (λ (x : ℕ). bit x p) (ones-half n) in
@@ -110,23 +107,20 @@ max-ones (suc zero) (suc zero) hx hy = (λ e. inl refl, λ s. refl)
 max-ones (suc zero) (suc (suc y)) hx hy = absurd (no-digit hy)
 max-ones (suc (suc x)) y hx hy = absurd (no-digit hx)
 
+low-digit : (q r : ℕ) → r < 2 → (q * 2 + r) % 2 ≡ r
+low-digit q r h = omega arith
+
 and-bit : (a b p : ℕ) → bit (bitAnd a b) p ≡ min (bit a p) (bit b p)
 unfolding bit
-and-bit a b p = ap (λ (x : ℕ). x % 2) (and-shr a b p ∙ and-step (a / 2 ^ p) (b / 2 ^ p)) ∙ low (bitAnd (a / 2 ^ p / 2) (b / 2 ^ p / 2)) (min (a / 2 ^ p % 2) (b / 2 ^ p % 2)) small
+and-bit a b p = ap (λ (x : ℕ). x % 2) (and-shr a b p ∙ and-step (a / 2 ^ p) (b / 2 ^ p)) ∙ low-digit (bitAnd (a / 2 ^ p / 2) (b / 2 ^ p / 2)) (min (a / 2 ^ p % 2) (b / 2 ^ p % 2)) small
   where
-    low : (q r : ℕ) → r < 2 → (q * 2 + r) % 2 ≡ r
-    low q r h = omega arith
-
     small : min (a / 2 ^ p % 2) (b / 2 ^ p % 2) < 2
     small = omega arith
 
 or-bit : (a b p : ℕ) → bit (bitOr a b) p ≡ max (bit a p) (bit b p)
 unfolding bit
-or-bit a b p = ap (λ (x : ℕ). x % 2) (or-shr a b p ∙ or-step (a / 2 ^ p) (b / 2 ^ p)) ∙ low (bitOr (a / 2 ^ p / 2) (b / 2 ^ p / 2)) (max (a / 2 ^ p % 2) (b / 2 ^ p % 2)) small
+or-bit a b p = ap (λ (x : ℕ). x % 2) (or-shr a b p ∙ or-step (a / 2 ^ p) (b / 2 ^ p)) ∙ low-digit (bitOr (a / 2 ^ p / 2) (b / 2 ^ p / 2)) (max (a / 2 ^ p % 2) (b / 2 ^ p % 2)) small
   where
-    low : (q r : ℕ) → r < 2 → (q * 2 + r) % 2 ≡ r
-    low q r h = omega arith
-
     small : max (a / 2 ^ p % 2) (b / 2 ^ p % 2) < 2
     small = omega arith
 
@@ -142,10 +136,7 @@ has-or a b p =
 
 -- the digits of a word of k, each turned round
 not-bit : (k s p : ℕ) → s < 2 ^ k → p < k → bit (2 ^ k - 1 - s) p + bit s p ≡ 1
-not-bit zero s p l h = absurd (none h)
-  where
-    none : {x : ℕ} → x < 0 → ⊥
-    none h = omega arith
+not-bit zero s p l h = absurd (not-suc-le-zero h)
 not-bit (suc k) s zero l h =
     let e = pow-suc 2 k in
     let a = bit-low s in

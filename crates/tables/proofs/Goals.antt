@@ -1,4 +1,9 @@
--- The loop over the goals: what is left to look up decides. Assumes nothing.
+-- The loop over the goals.
+--
+--     Left i                                before rack i + 1, what is left to look up decides
+--     left-first, left-next, left-none      how the loop begins, goes on and ends: no rack is misplaced
+--     found                                 or with the lowest that is
+-- Assumes nothing.
 use Prim.Native.Nat.{ℕ, suc, _+_, _-_, _*_, _≤_, _<_}
 use mathlib.Core.Path.{_≡_, refl, sym, ap, _∙_}
 use mathlib.Core.Bool.{cond}

@@ -2,6 +2,7 @@
 --
 --     matrixOf F       the matrix of the floor F's edges
 --     tableOf A        the table of the arrangement A
+--     Kept n m A h     the arrangement A of m racks is sound on n positions, and the table h holds it
 --     replayOn g h ms  replay of the moves ms from the table h by the matrix g
 --     legal-on         a move is legal by the tables exactly if it is legal
 --     moves-alike      the replay on tables of moves below 64 ends as the replay on arrangements does

@@ -1,6 +1,7 @@
 -- Laws of the table of racks: it is filled by the starts, a legal move keeps it, and it tells what the arrangement tells.
 --
 --     zeros-at           the empty table holds nothing
+--     passed, failed     a test that passes or fails, as an equation
 --     held-occupied      the table holds a rack exactly where the arrangement has one
 --     held-rack          rack i + 1 is what the table has at p exactly if rack i + 1 stands at p
 --     placed-holds       the racks of a sound arrangement, put down one after another, are held

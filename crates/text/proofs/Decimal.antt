@@ -6,7 +6,7 @@
 use Prim.Native.Nat.{ℕ, _+_, _/_, _%_, _≤_, _<_}
 use mathlib.Core.Path.{sym}
 use mathlib.Core.List.{List, [], _∷_, _++_}
-use Rattle.text.specs.Writing.{Fits, Wrote, fits-front, fits-next, fits-as, wrote-then, wrote-as}
+use Rattle.field.specs.Writing.{Fits, Wrote, fits-front, fits-next, fits-as, wrote-then, wrote-as}
 use Rattle.text.specs.Text.{decimal}
 use Rattle.text.specs.TextLaws.{decimal-one, decimal-more}
 

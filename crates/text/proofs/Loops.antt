@@ -20,7 +20,7 @@ use Rattle.timetable.specs.Timetable.{stepLength, stepMoves, stepCount, stepsOf
 use Rattle.timetable.specs.StepLaws.{partAt, length-partAt, head-partAt, moves-tail, moves-room}
 use Rattle.timetable.specs.ReadingLaws.{Stands, stands-next, stands-room, steps-next, steps-none}
 use Rattle.text.specs.Text.{moveText, movesText, stepLine, stepLines}
-use Rattle.text.specs.Writing.{Fits, Wrote, Left, left-fits, left-first, left-next, left-none, fits-front}
+use Rattle.field.specs.Writing.{Fits, Wrote, Left, left-fits, left-first, left-next, left-none, fits-front}
 
 -- the next part x of what is left, and the rest m
 module _ {s : List ℕ} {at : ℕ} {l t : List ℕ} {r : ℕ} {k : List ℕ} (x m : List ℕ) (e : k ≡ x ++ m) (f : Fits s at l) (left : Left s at l t r k) where

@@ -1,8 +1,7 @@
 -- The timetable program: what the maker answers and leaves in the lent buffer is what is printed.
 --
 --     order-is, plan-is     the parts of the input, as the code cuts them
---     printed, retold       what a writer wrote at the front is printed
---     refused-text, refusal-fits    a refusal's line
+--     refused-text, refusal-fits, refusal-told    a refusal's line
 --     record-is             the timetable at the front of the buffer, and where it ends
 --     made-packed, made-fits, made-text    it can be printed, and its text is the program's
 -- Assumes nothing.
@@ -14,27 +13,17 @@ use lib.ListN.{length, take, drop, length-append}
 use lib.Seq.{take-at}
 use Rattle.answers.specs.Answer.{Answer, accepted, refused}
 use Rattle.field.specs.RecordLaws.{rest-is}
+use Rattle.field.specs.Writing.{Fits, Wrote, wrote-as}
 use Rattle.timetable.specs.Timetable.{timetableRecord, stepsOf}
 use Rattle.timetable.specs.Reading.{WellPacked}
 use Rattle.timetable.specs.TimetableRecord.{record-well-packed, stepsOf-record}
 use Rattle.scheduling.specs.Maker.{madeOf, makerAnswer, bufferAfter}
 use Rattle.scheduling.specs.MakerLaws.{MakerGave, maker-gave, maker-record, made-packable, Timetabled}
 use Rattle.text.specs.Front.{recordEnd, recordEnd-is}
-use Rattle.text.specs.Program.{answerText, programText, Printed}
+use Rattle.text.specs.Program.{answerText, programText}
 use Rattle.text.specs.Sizes.{timetableText-short, refusalLine-short}
 use Rattle.text.specs.Split.{orderEnd, orderPart, planPart}
 use Rattle.text.specs.Text.{refusalLine, timetableText}
-use Rattle.text.specs.Writing.{Fits, Wrote, length-written, wrote-front}
-
-pub printed : {out l t x : List ℕ} {r : ℕ} → Fits out 0 l → Wrote out 0 l t r → l ≡ x → Printed x t r
-printed {out} {l} {t} {r = r} f w e =
-    record {
-      text-is = wrote-front out 0 f w ∙ e;
-      within = omega (arith, w .next-is, f .room, ap length (w .text-is), length-written out 0 l f);
-    }
-
-pub retold : {l x t : List ℕ} {r : ℕ} → Printed l t r → l ≡ x → Printed x t r
-retold {t = t} {r = r} p e = subst (λ (k : List ℕ). Printed k t r) e p
 
 module _ (s : List ℕ) (e : ℕ) (h : e ≡ orderEnd s) where
   pub end-within : e ≤ length s
@@ -102,5 +91,10 @@ module _ (s o p B : List ℕ) (eo : o ≡ orderPart s) (ep : p ≡ planPart s) (
           let small : length (take n b) ≤ 65536 = rw record-is short in
           record { room = omega (arith, h, small, timetableText-short (take n b) (made-packed .length-right) (omega (arith, small))) }
 
-pub refusal-fits : (n q : ℕ) → n ≤ 45 → q < 2 ^ 32 → (out : List ℕ) → length out ≡ 524288 → Fits out 0 (refusalLine n q)
-refusal-fits n q h k out e = record { room = omega (arith, e, refusalLine-short n q (omega (arith, h)) k) }
+-- a line of any number has room
+pub refusal-fits : (n q : ℕ) → n < 2 ^ 64 → q < 2 ^ 32 → (out : List ℕ) → length out ≡ 524288 → Fits out 0 (refusalLine n q)
+refusal-fits n q h k out e = record { room = omega (arith, e, refusalLine-short 19 n q (omega (arith, h)) k) }
+
+-- the line, of its number by another name
+pub refusal-told : (q : ℕ) {s t : List ℕ} {r n m : ℕ} → n ≡ m → Wrote s 0 (refusalLine n q) t r → Wrote s 0 (refusalLine m q) t r
+refusal-told q e w = wrote-as (ap (λ (k : ℕ). refusalLine k q) e) w

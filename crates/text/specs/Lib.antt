@@ -1,4 +1,3 @@
-pub mod Writing
 pub mod Text
 pub mod TextLaws
 pub mod Sizes

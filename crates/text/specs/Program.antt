@@ -3,12 +3,9 @@
 --
 --     answerText a l     the text for the timetable maker's answer a, where the steps made are l
 --     programText s      the text for the input s
---     Printed l t r      the first r bytes of t, which has as many, are the text l
 -- Assumes nothing.
-use Prim.Native.Nat.{ℕ, _≤_}
-use mathlib.Core.Path.{_≡_}
+use Prim.Native.Nat.{ℕ}
 use mathlib.Core.List.{List}
-use lib.ListN.{length, take}
 use Rattle.answers.specs.Answer.{Answer, accepted, refused}
 use Rattle.scheduling.specs.Maker.{madeOf, makerAnswer}
 use Rattle.text.specs.Text.{refusalLine, timetableText}
@@ -20,7 +17,3 @@ answerText (refused number place) steps = refusalLine number place
 
 unfoldable pub programText : List ℕ → List ℕ
 programText s = answerText (makerAnswer (orderPart s) (planPart s) 65536) (madeOf (orderPart s) (planPart s))
-
-pub record Printed (l t : List ℕ) (r : ℕ) : Type 0 where
-  pub text-is : take r t ≡ l
-  pub within : r ≤ length t

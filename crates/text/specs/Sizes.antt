@@ -3,7 +3,7 @@
 --     movesText-short     a move takes at most 6 bytes
 --     stepLine-short      the line of a step of c moves takes at most 6 bytes, and 6 for each move
 --     timetableText-short a timetable of fewer than 100,000 bytes takes at most 8 bytes of text for each of its bytes
---     refusalLine-short   the line of a refusal takes at most 32 bytes
+--     refusalLine-short   the line of a refusal takes at most 32 bytes, and one more for each digit of its number above two
 -- Assumes nothing.
 use Prim.Native.Nat.{ℕ, zero, suc, _+_, _*_, _^_, _≤_, _<_}
 use mathlib.Core.Path.{_≡_, _∙_}
@@ -107,7 +107,7 @@ familyWord-short n = by (within 10 19 n) (within 20 29 n) (within 30 39 n) (with
     by false false false true = omega arith
     by false false false false = omega arith
 
-pub refusalLine-short : (n p : ℕ) → n < 100 → p < 2 ^ 32 → length (refusalLine n p) ≤ 32
+pub refusalLine-short : (k n p : ℕ) → n < 10 ^ suc k → p < 2 ^ 32 → length (refusalLine n p) ≤ 31 + k
 unfolding refusalLine refusedText space newline
-refusalLine-short n p h k =
-    simp (length-append) (omega (arith, length-decimal 1 n h, length-decimal 9 p (omega arith), familyWord-short n))
+refusalLine-short k n p h l =
+    simp (length-append) (omega (arith, length-decimal k n h, length-decimal 9 p (omega arith), familyWord-short n))

@@ -1,5 +1,5 @@
 // The timetable program and the text that it prints, written into a lent buffer. specs/Program.antt and specs/Text.antt say what is printed,
-// specs/Writing.antt what a writer leaves in the buffer and where the next one begins.
+// field's specs/Writing.antt what a writer leaves in the buffer, byte for byte, and where the next one begins.
 use answers::Fault;
 use scheduling::MakerVerdict;
 use timetable::TimetableReading;
@@ -11,13 +11,13 @@ ghost use lib.ListN.{length, getD};
 ghost use Rattle.answers.specs.Answer.{numberOf};
 ghost use Rattle.answers.specs.Family.{familyWord};
 ghost use Rattle.field.specs.Bits.{pairs};
+ghost use Rattle.field.specs.Writing.{Fits, Wrote};
 ghost use Rattle.timetable.specs.Timetable.{stepLength, stepCount, stepMoves, stepsOf, wrongTimetableLength};
 ghost use Rattle.timetable.specs.Reading.{WellPacked};
-ghost use Rattle.text.specs.Writing.{Fits, Wrote};
 ghost use Rattle.text.specs.Text.{decimal, moveText, movesText, stepLine, stepLines, firstLine, timetableText, refusalLine};
 ghost use Rattle.text.specs.Split.{orderEnd};
 ghost use Rattle.text.specs.Front.{recordEnd};
-ghost use Rattle.text.specs.Program.{Printed, programText};
+ghost use Rattle.text.specs.Program.{programText};
 
 // One byte.
 fn put_byte(byte: u8, out: &mut [u8], at: usize) -> usize
@@ -186,17 +186,17 @@ fn record_end(buffer: &[u8]) -> usize
     at
 }
 
-// A refusal's line, alone at the front of `out`.
+// A refusal's line, at the front of `out`.
 fn print_refusal(fault: Fault, place: u32, out: &mut [u8; 524288]) -> usize
-    ensures { λ r. ⌜ Printed (refusalLine (numberOf fault) place) (now (out .exit)) r ⌝ }
+    ensures { λ r. ⌜ Wrote (now (out .entry)) 0 (refusalLine (numberOf fault) place) (now (out .exit)) r ⌝ }
 {
     put_refusal(answers::number(fault), place, out, 0)
 }
 
-// The timetable program on its whole input: leaves what it prints at the front of `out`, and says how many bytes that is. 524,288 bytes are
-// enough, since a timetable takes at most 8 bytes of text for each of its own, of which 65,536 are lent.
+// The timetable program on its whole input: writes what it prints at the front of `out`, leaves every byte behind it, and says how many bytes
+// the text has. 524,288 bytes are enough, since a timetable takes at most 8 bytes of text for each of its own, of which 65,536 are lent.
 pub fn timetable_program(input: &[u8], out: &mut [u8; 524288]) -> usize
-    ensures { λ r. ⌜ Printed (programText (now (input .entry))) (now (out .exit)) r ⌝ }
+    ensures { λ r. ⌜ Wrote (now (out .entry)) 0 (programText (now (input .entry))) (now (out .exit)) r ⌝ }
 {
     let end = order_end(input);
     let mut buffer = [0u8; 65536];

@@ -1,5 +1,8 @@
 -- The judgement on tables, from what its calls give: g and h are the tables filled, r the number of the first illegal step or 0 and h′
--- the table after the replay, q the lowest misplaced rack or 0. Assumes nothing.
+-- the table after the replay, q the lowest misplaced rack or 0.
+--
+--     illegal, misplaced, settled    42, 43, and acceptance
+-- Assumes nothing.
 use Prim.Native.Nat.{ℕ, _+_, _*_}
 use mathlib.Core.Path.{_≡_, refl, _∙_}
 use mathlib.Core.List.{List}

@@ -1,10 +1,13 @@
 -- The reader of 40 and 41.
 --
---     pad-room, pad-read            the pad of a step, read from the part that begins at its second byte
+--     pad-room, pad-there, pad-clear    the pad of a step, read from the part that begins at its second byte
 --     remembered, kept              whether a pad bit was set, after one more step
 --     Left s k at moves seen i    the loop over the k steps of s, before step i + 1, which begins at byte `at`: what is left to judge decides
---     left-first, .., left-none     how the loop begins, goes on and ends
---     short, .., sound              the reader's answers above the steps'
+--     left-first, left-next, left-none    how the loop begins, goes on and ends
+--     past, runs-past, left-over    40, where a step begins or ends past the end, and where bytes are left over
+--     part-length                   the part that is cut out is as long as its count byte says
+--     pads-set                      41, where a pad bit was set
+--     short, passed-up, spare-set, sound    the reader's answers above the steps'
 -- Assumes nothing.
 use Prim.Native.Nat.{ℕ, _+_, _-_, _*_, _≤_, _<_}
 use mathlib.Core.Path.{_≡_, refl, sym, ap, _∙_}

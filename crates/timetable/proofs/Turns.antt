@@ -3,7 +3,7 @@
 --     run-room, run-is           a step's moves, read from the part that begins at its second byte
 --     StepsLeft s g h₀ h i at    the loop over the steps of s, from the table h₀ by the matrix g: i steps were legal and left the table h,
 --                                the next begins at byte `at`, and what is left to replay decides
---     steps-first, .., steps-end how the loop begins, stops, goes on and ends
+--     steps-first, steps-stop, steps-on, steps-end    how the loop begins, stops, goes on and ends
 -- Assumes nothing.
 use Prim.Native.Nat.{ℕ, _+_, _-_, _*_, _≤_, _<_}
 use mathlib.Core.Path.{_≡_, refl, sym, ap, _∙_, subst}

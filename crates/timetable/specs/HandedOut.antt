@@ -1,6 +1,7 @@
 -- The step that is handed out: the two functions of the step reader answer the same.
 --
 --     Has s i, number-gave       what it tells that step i is not refused by its number
+--     given-has                  the same, of a step whose answer is accepted
 --     given-at, given-length     an accepted answer's values: where the part begins, and how long it is
 --     end-within                 the part lies in the timetable
 --     given-part                 the part given back is the one that the answer names

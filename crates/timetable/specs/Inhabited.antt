@@ -6,12 +6,14 @@
 --     string₁                        each of its bytes is below 256, as a lent slice has it
 --     second-stands, second-part     after one step what is left begins at byte 7, with a part that is a step
 --     reading₁                       the reading's counts
---     step-zero, .., step-three      the step reader's answers for 0, 1, 2 and 3; step 2 is 02 04 30 80 at offset 7
+--     step-zero, step-one, step-two, step-three    the step reader's answers for 0, 1, 2 and 3; step 2 is 02 04 30 80 at offset 7
 --     second-given, none-given       the part of step 2, and the empty part of step 3
---     cut-short, .., pad-bit         40 and 41, each by the damage that meets it
+--     cut-short, left-over, spare-bit, pad-bit     40 and 41, each by the damage that meets it
+--     order₁                         the first case's order
 --     answer₁                        the first case: accepted, 2 steps and 4 moves
 --     well-formed₁, accepted₁        its order is well formed, and what the acceptance means
 --     solution₁, only₁               its arrangements are a solution, and it is their one timetable
+--     ringOrder, ringTimetable, swapOrder, swapTimetable    the third case's orders and timetables
 --     ring-turned, swapped           the third case: a full ring turned, and two neighbours exchanged, are 42, step 1
 -- Assumes nothing.
 use Prim.Native.Nat.{ℕ}

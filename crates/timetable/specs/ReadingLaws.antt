@@ -8,7 +8,9 @@
 --     Stands s i at                 i steps are passed, and what is left begins at byte `at`
 --     stands-first, stands-next     before step 1, and from one step to the next
 --     stands-at                     after any i steps of a timetable that passes 40
+--     stands-room                   there is room for the step that begins there
 --     part-stands                   step i + 1 is the part that begins there
+--     stands-offset, step-room, stepPart-is    step i begins at its offset, with room, and is the part there
 --     steps-next, steps-none        of the steps that are left, the first and those after it
 --     offset-first, offset-next, offset-last    the parts follow one another from byte 3 to the end
 -- Assumes nothing.

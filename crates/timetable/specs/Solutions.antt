@@ -7,6 +7,7 @@
 --                               is the count of steps and of moves, the arrangements of the replay are a solution with as many steps, and
 --                               each step lists exactly the moves from one arrangement to the next
 --     OnlyTimetable o ζ S       exactly one accepted byte string has the arrangements S as its replay, and it is accepted with ζ steps
+--     only-timetable            every solution with fewer than 2^22 steps has it
 --     timetable-solutions       a timetable is accepted exactly if it describes a solution, and every solution with fewer than 2^22 steps
 --                               has exactly one timetable
 -- Assumes nothing.

@@ -2,11 +2,12 @@
 --
 --     partAt s at          the step that begins at byte `at`, count byte first and pad last
 --     nextAt s at          where the step after it begins
+--     stepLength-some, stepLength-moves, stepLength-few    a step has a byte, at least as many as moves, and at most 384
 --     parts-next           of the parts that are left, the first and those after it
 --     length-parts         k parts are k
 --     parts-none           no parts are left once all are passed
 --     Room s at            the step that begins at byte `at` does not run past the end
---     wrong-past, .., wrong-left, right-end    40, step by step: from the facts
+--     wrong-past, wrong-short, wrong-next, wrong-left, right-end    40, step by step: from the facts
 --     room, all-taken      and the facts from 40
 --     length-partAt, head-partAt    a step's length and its count byte
 --     cut-is, cut-length            the step as the part `&s[at..next]` that a loop cuts out

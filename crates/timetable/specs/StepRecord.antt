@@ -1,8 +1,11 @@
 -- A step as a byte string of its own: the part of the timetable that it is.
 --
 --     stepRecord ms              the step ms as a byte string, count byte first and pad last
+--     stepBits-are, length-stepBits    it is made of bits, in whole bytes
+--     bits-of-record, record-bytes     and has these bits, and is a byte string
 --     joined l                   parts, one after another
 --     Part p                     p is a step: bytes, as long as its count byte says, no pad bit set
+--     count-below                its count byte is below 256
 --     count-of, length-record, moves-of, clear-of    what is read back from the record of a step
 --     part-of-record             the record of a step is such a part
 --     record-of-part             such a part is the record of its moves

@@ -4,6 +4,7 @@
 --     headBits k                the head of a record of k steps
 --     record-bytes              the record is a byte string
 --     record-parts              the record is its head and the records of its steps
+--     spare-record, count-record, parts-record    its spare bits are clear, and its count and its parts are those of its steps
 --     stepsOf-record            a record's steps are those that it was made of
 --     moves-low                 the moves of a step have positions below 64
 --     record-well-packed        neither 40 nor 41 applies to a record

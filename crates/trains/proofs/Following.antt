@@ -8,10 +8,12 @@
 --     chain-on, chain-falls    the chain goes on where the move that leaves p enters, and fewer moves are unvisited
 --     chain-failed, chain-ended    what is found there holds from p
 --     chain-marked       a move that is led leaves a position from which the chain is known
+--     judge              whether each of the moves is led
 --     Leading            a loop over a step's moves: what is left to judge decides
+--     leading-first, leading-chain    before the first move; a chain may be followed from each move
 --     not-led, leading-next, leading-last   a move without a leader decides; one that is led leaves the rest; after the last the answer is yes
 -- Assumes nothing.
-use Prim.Native.Nat.{ℕ, zero, suc, _+_, _-_, _*_, _≤_, _<_}
+use Prim.Native.Nat.{ℕ, zero, suc, _+_, _-_, _≤_, _<_}
 use mathlib.Core.Path.{_≡_, refl, sym, ap, _∙_, subst}
 use mathlib.Core.Bool.{Bool, true, false, true≢false, false≢true}
 use mathlib.Core.List.{List, [], _∷_}
@@ -43,6 +45,20 @@ never t h p back n l = none (suc n) n (omega arith) l
     none : (b k : ℕ) → k < b → Led t h k p → ⊥
     none zero k s l = omega arith
     none (suc b) k s l = let w = back k l in none b (w .0) (omega (arith, w .1)) (w .2)
+
+-- a mark of 2 where a chain ends at a leader
+led-marked : (t h w : List ℕ) (p : ℕ) → Marks t h w → (n : ℕ) × Led t h n p → Marks t h (set w p 2)
+led-marked t h w p m l =
+    record {
+      size = length-set w p 2 ∙ m .size;
+      known = λ q x y.
+          ⊎-elim
+          (λ (s : q ≡ p). subst (λ (i : ℕ). (n : ℕ) × Led t h n i) (sym s) l)
+          (λ (d : q ≢ p).
+          let same : getD (set w p 2) q 0 ≡ getD w q 0 = getD-set-other w p q 2 0 d in
+          m .known q (λ z. x (same ∙ z)) (λ z. y (same ∙ z)))
+          (equal? q p);
+    }
 
 module _ (t h v : List ℕ) (p : ℕ) (chain : Chain t h v p) where
   ended : (n : ℕ) × Led t h n p → Followed t h v v p true
@@ -125,16 +141,7 @@ module _ (t h v : List ℕ) (p : ℕ) (chain : Chain t h v p) where
             record {
               led = λ r. whole;
               unled = λ r n l. absurd (true≢false r);
-              marks = λ r. record {
-                size = length-set w p 2 ∙ f .marks e .size;
-                known = λ q a b.
-                    ⊎-elim
-                    (λ (s : q ≡ p). subst (λ (i : ℕ). (n : ℕ) × Led t h n i) (sym s) whole)
-                    (λ (d : q ≢ p).
-                    let same : getD (set w p 2) q 0 ≡ getD w q 0 = getD-set-other w p q 2 0 d in
-                    f .marks e .known q (λ z. a (same ∙ z)) (λ z. b (same ∙ z)))
-                    (equal? q p);
-              };
+              marks = λ r. led-marked t h w p (f .marks e) whole;
               passed = λ r q z.
                   let away : q ≢ p = λ s. two z s in
                   sym (getD-set-other v p q 1 0 away) ∙ f .passed e q (sym (getD-set-other w p q 2 0 away) ∙ z);
@@ -153,17 +160,7 @@ each-first : {X : Type 0} {P : X → Type 0} {x : X} {xs : List X} → Each P (x
 each-first (each-more p ps) = (p, ps)
 
 pub chain-marked : (t h w : List ℕ) (a b : ℕ) → Marks t h w → (n : ℕ) × Led t h n b → Taking t h (a, b) → Marks t h (set w a 2)
-chain-marked t h w a b m l taken =
-    record {
-      size = length-set w a 2 ∙ m .size;
-      known = λ q x y.
-          ⊎-elim
-          (λ (s : q ≡ a). subst (λ (i : ℕ). (n : ℕ) × Led t h n i) (sym s) whole)
-          (λ (d : q ≢ a).
-          let same : getD (set w a 2) q 0 ≡ getD w q 0 = getD-set-other w a q 2 0 d in
-          m .known q (λ z. x (same ∙ z)) (λ z. y (same ∙ z)))
-          (equal? q a);
-    }
+chain-marked t h w a b m l taken = led-marked t h w a m whole
   where
     back : getD t a 0 - 1 ≡ b
     back = omega (arith, taken .1)

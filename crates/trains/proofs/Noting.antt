@@ -3,8 +3,10 @@
 --
 --     soundAfter g h lowest v ms   the moves ms are sound, leave positions from `lowest` on and enter none whose flag is up in v
 --     soundAfter-is                from the first move on, with no flag up, that is `soundMoves`
+--     judge                        that, with the lowest position and the flags as one
 --     Noting                       what is left to judge and to note decides
 --     not-ascending, no-edge, no-rack, entered-twice   a move that is not sound decides: the answer is no
+--     noting-first                 before the first move
 --     noting-next, noting-last     one that is sound leaves the rest; after the last the answer is yes
 -- Assumes nothing.
 use Prim.Native.Nat.{ℕ, _+_, _-_, _*_, _≤_, _<_}

@@ -31,7 +31,8 @@ use Rattle.motion.specs.Replay.{ended, replayFrom, replaySteps}
 use Rattle.motion.specs.Judgement.{judged}
 use Rattle.motion.specs.Sound.{Sound, isSound, isSound-sound}
 use Rattle.motion.specs.Test.{and-parts}
-use Rattle.motion.specs.StepCases.{floorF, starts, goals, timetable}
+use Rattle.motion.specs.Inhabited.{floorF, starts, goals}
+use Rattle.motion.specs.StepCases.{timetable}
 use Rattle.tables.specs.Tables.{edgeAt, heldAt, Holds, misplacedOn, judgedOn}
 use Rattle.tables.specs.TableLaws.{placed-holds}
 use Rattle.tables.specs.MovesOn.{matrixOf, tableOf}

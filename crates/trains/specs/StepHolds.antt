@@ -2,6 +2,7 @@
 --
 --     putDown-entered, putDown-other    what the table has where a move enters, and where none does
 --     takenUp-left, takenUp-other       what it has where a move leaves, and where none does
+--     takenUp-length, putDown-length    its length stays
 --     step-holds                        the law
 -- Assumes nothing.
 use Prim.Native.Nat.{ℕ, suc, _≤_, _<_}

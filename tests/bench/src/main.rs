@@ -22,7 +22,7 @@ use compare::plans;
 use compare::proved;
 use compare::random::Random;
 use compare::timetables;
-use compare::write::{Order, Plan};
+use compare::write::Order;
 use std::hint::black_box;
 use std::time::Instant;
 
@@ -188,7 +188,7 @@ fn breakdown() {
 fn grid_plan(m: usize, moves: usize) -> (Vec<u8>, Vec<u8>) {
     let mut random = Random::new(0xBE_0003);
     let sample = plans::sound_on(&mut random, floors::grid(8, 8), m, moves);
-    (sample.order.record(), Plan { moves: sample.moves, spare: 0, pad: 0 }.record())
+    (sample.order.record(), sample.plan().record())
 }
 
 #[cfg(feature = "plan_check")]

@@ -32,36 +32,22 @@ impl Floor {
     }
 }
 
-#[derive(Clone, Copy, Debug, PartialEq, Eq)]
-pub enum Shape {
-    NoEdges,
-    Path,
-    Ring,
-    Star,
-    Complete,
-    Grid,
-    Tree,
-    TwoParts,
-    Sparse,
-    Dense,
-    BiConnected,
-    AlmostBiConnected,
+kinds! {
+    pub enum Shape in SHAPES {
+        NoEdges,
+        Path,
+        Ring,
+        Star,
+        Complete,
+        Grid,
+        Tree,
+        TwoParts,
+        Sparse,
+        Dense,
+        BiConnected,
+        AlmostBiConnected,
+    }
 }
-
-pub const SHAPES: [Shape; 12] = [
-    Shape::NoEdges,
-    Shape::Path,
-    Shape::Ring,
-    Shape::Star,
-    Shape::Complete,
-    Shape::Grid,
-    Shape::Tree,
-    Shape::TwoParts,
-    Shape::Sparse,
-    Shape::Dense,
-    Shape::BiConnected,
-    Shape::AlmostBiConnected,
-];
 
 /// A floor of a random shape and size, its positions numbered at random.
 pub fn random_floor(random: &mut Random) -> Floor {
@@ -134,6 +120,15 @@ fn ring(n: usize) -> Vec<(usize, usize)> {
 
 pub fn all_pairs(n: usize) -> Vec<(usize, usize)> {
     (0..n).flat_map(|a| (a + 1..n).map(move |b| (a, b))).collect()
+}
+
+/// The floors of n positions, one for each set of edges.
+pub fn every_floor(n: usize) -> impl Iterator<Item = Floor> {
+    let pairs = all_pairs(n);
+    (0..1u32 << pairs.len()).map(move |chosen| {
+        let edges = pairs.iter().enumerate().filter(|(bit, _)| chosen >> bit & 1 == 1);
+        Floor::new(n, edges.map(|(_, &edge)| edge))
+    })
 }
 
 /// Rows of positions numbered along each row.

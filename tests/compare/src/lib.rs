@@ -8,15 +8,21 @@
 //! | `tally`      | how many cases were compared, and how often each number was met    |
 //! | `random`     | the generator of random numbers                                    |
 //! | `write`      | records written from their fields, sound or not                    |
+//! | `kinds`      | an enum together with the list of all its kinds                    |
 //! | `floors`     | floors of every shape                                              |
 //! | `breakdowns` | the proved breakdown of a floor                                    |
 //! | `orders`     | orders on them, and damage                                         |
 //! | `racks`      | an arrangement, random moves and random steps on it                |
+//! | `cases`      | an order and a record for it, sound or damaged                     |
 //! | `plans`      | plans, and damage                                                  |
 //! | `timetables` | timetables, and damage                                             |
 
+#[macro_use]
+mod kinds;
+
 #[cfg(feature = "inspection")]
 pub mod breakdowns;
+pub mod cases;
 pub mod floors;
 pub mod orders;
 pub mod packed;

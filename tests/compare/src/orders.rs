@@ -28,51 +28,30 @@ pub fn random_order(random: &mut Random) -> Order {
     order_on(random, &floor, m)
 }
 
-/// What is done to a well-formed order.
-#[derive(Clone, Copy, Debug, PartialEq, Eq)]
-pub enum Damage {
-    Cut,
-    Extended,
-    BitFlipped,
-    Noise,
-    NoiseAfterHead,
-    NoPosition,
-    TooManyPositions,
-    SpareSet,
-    PadSet,
-    EdgesSwapped,
-    EdgeRepeated,
-    EdgeLooped,
-    EdgeTurned,
-    EdgeOutOfRange,
-    StartShared,
-    GoalShared,
-    StartOutOfRange,
-    GoalOutOfRange,
-    TooManyRacks,
+kinds! {
+    /// What is done to a well-formed order.
+    pub enum Damage in DAMAGES {
+        Cut,
+        Extended,
+        BitFlipped,
+        Noise,
+        NoiseAfterHead,
+        NoPosition,
+        TooManyPositions,
+        SpareSet,
+        PadSet,
+        EdgesSwapped,
+        EdgeRepeated,
+        EdgeLooped,
+        EdgeTurned,
+        EdgeOutOfRange,
+        StartShared,
+        GoalShared,
+        StartOutOfRange,
+        GoalOutOfRange,
+        TooManyRacks,
+    }
 }
-
-pub const DAMAGES: [Damage; 19] = [
-    Damage::Cut,
-    Damage::Extended,
-    Damage::BitFlipped,
-    Damage::Noise,
-    Damage::NoiseAfterHead,
-    Damage::NoPosition,
-    Damage::TooManyPositions,
-    Damage::SpareSet,
-    Damage::PadSet,
-    Damage::EdgesSwapped,
-    Damage::EdgeRepeated,
-    Damage::EdgeLooped,
-    Damage::EdgeTurned,
-    Damage::EdgeOutOfRange,
-    Damage::StartShared,
-    Damage::GoalShared,
-    Damage::StartOutOfRange,
-    Damage::GoalOutOfRange,
-    Damage::TooManyRacks,
-];
 
 impl Damage {
     /// Whether the order has what is to be damaged.

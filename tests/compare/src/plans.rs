@@ -1,18 +1,12 @@
 //! Random plans, and damage to them.
 
+use crate::cases::{self, Case};
 use crate::floors::{self, Floor};
 use crate::orders;
 use crate::packed::refused;
 use crate::racks::{nonempty, only, Racks};
 use crate::random::Random;
 use crate::write::{Move, Order, Plan};
-
-/// An order and a plan, and the plan checker's answer where it is certain.
-pub struct Case {
-    pub order: Vec<u8>,
-    pub plan: Vec<u8>,
-    pub answer: Option<u64>,
-}
 
 /// An order and a plan that is accepted, by their fields: racks are moved at random, and their goals are
 /// where they then stand.
@@ -24,6 +18,10 @@ pub struct Sample {
 }
 
 impl Sample {
+    pub fn plan(&self) -> Plan {
+        Plan { moves: self.moves.clone(), spare: 0, pad: 0 }
+    }
+
     /// The arrangement before the move of this index.
     fn before(&self, index: usize) -> Racks {
         let mut racks = Racks::new(&self.floor, &self.order.starts);
@@ -64,89 +62,60 @@ pub fn sound_on(random: &mut Random, floor: Floor, m: usize, k: usize) -> Sample
     Sample { floor, order, moves }
 }
 
-#[derive(Clone, Copy, Debug, PartialEq, Eq)]
-pub enum Damage {
-    None,
-    Order,
-    Cut,
-    Extended,
-    CountChanged,
-    SpareSet,
-    PadSet,
-    BitFlipped,
-    Noise,
-    MoveChanged,
-    FromVacant,
-    IntoStanding,
-    NotJoined,
-    OutOfRange,
-    MoveRepeated,
-    MoveLeftOut,
-    GoalsExchanged,
-    GoalElsewhere,
+/// Rack 1 goes to and fro between two positions.
+pub fn to_and_fro(k: usize) -> Sample {
+    let floor = Floor::new(2, [(0, 1)]);
+    let (edges, goals) = (floor.edges.clone(), vec![(k % 2) as u8]);
+    let order = Order { n: 2, edges, starts: vec![0], goals, spare: 0, pad: 0 };
+    let moves = (0..k).map(|index| [(0, 1), (1, 0)][index % 2]).collect();
+    Sample { floor, order, moves }
 }
 
-pub const DAMAGES: [Damage; 18] = [
-    Damage::None,
-    Damage::Order,
-    Damage::Cut,
-    Damage::Extended,
-    Damage::CountChanged,
-    Damage::SpareSet,
-    Damage::PadSet,
-    Damage::BitFlipped,
-    Damage::Noise,
-    Damage::MoveChanged,
-    Damage::FromVacant,
-    Damage::IntoStanding,
-    Damage::NotJoined,
-    Damage::OutOfRange,
-    Damage::MoveRepeated,
-    Damage::MoveLeftOut,
-    Damage::GoalsExchanged,
-    Damage::GoalElsewhere,
-];
+kinds! {
+    pub enum Damage in DAMAGES {
+        None,
+        Order,
+        Cut,
+        Extended,
+        CountChanged,
+        SpareSet,
+        PadSet,
+        BitFlipped,
+        Noise,
+        MoveChanged,
+        FromVacant,
+        IntoStanding,
+        NotJoined,
+        OutOfRange,
+        MoveRepeated,
+        MoveLeftOut,
+        GoalsExchanged,
+        GoalElsewhere,
+    }
+}
 
 /// A case with a random damage.
 pub fn random_case(random: &mut Random) -> (Damage, Case) {
-    loop {
-        let sound = random_sound(random);
-        let damage = match random.below(10) {
-            0 | 1 => Damage::None,
-            2 => Damage::Order,
-            _ => random.pick(&DAMAGES),
-        };
-        if let Some(case) = damaged(random, &sound, damage) {
-            return (damage, case);
-        }
-    }
+    cases::random_case(random, &DAMAGES, random_sound, damaged)
 }
 
 /// The plan with the damage, if it has what is to be damaged.
 pub fn damaged(random: &mut Random, sound: &Sample, damage: Damage) -> Option<Case> {
     let mut order = sound.order.clone();
-    let mut plan = Plan { moves: sound.moves.clone(), spare: 0, pad: 0 };
+    let mut plan = sound.plan();
     let k = plan.moves.len();
     let accepted = (k as u64) << 8;
     let answer = match damage {
         Damage::None => accepted,
-        Damage::Order => {
-            let damage = orders::random_damage(random, &order);
-            let mut bytes = plan.record();
-            if random.one_in(4) {
-                orders::flip(random, &mut bytes);
-            }
-            let answer = damage.number().map(u64::from);
-            return Some(Case { order: orders::damaged(random, &order, damage), plan: bytes, answer });
-        }
+        Damage::Order => return Some(cases::order_damaged(random, &order, plan.record())),
         Damage::Cut | Damage::Extended | Damage::BitFlipped | Damage::Noise => {
-            let (plan, answer) = damage_bytes(random, plan.record(), damage);
-            return Some(Case { order: order.record(), plan, answer });
+            let (record, answer) = damage_bytes(random, plan.record(), damage);
+            return Some(Case { order: order.record(), record, answer });
         }
         Damage::CountChanged => {
-            let mut bytes = plan.record();
-            change_count(random, &mut bytes, k);
-            return Some(Case { order: order.record(), plan: bytes, answer: Some(30) });
+            let mut record = plan.record();
+            change_count(random, &mut record, k);
+            return Some(Case { order: order.record(), record, answer: Some(30) });
         }
         Damage::SpareSet => {
             plan.spare = random.between(1, 3) as u8;
@@ -160,7 +129,7 @@ pub fn damaged(random: &mut Random, sound: &Sample, damage: Damage) -> Option<Ca
         Damage::MoveChanged => {
             nonempty(k as u64)?;
             plan.moves[random.below(k)] = (random.below(64) as u8, random.below(64) as u8);
-            return Some(Case { order: order.record(), plan: plan.record(), answer: None });
+            return Some(Case { order: order.record(), record: plan.record(), answer: None });
         }
         Damage::FromVacant | Damage::IntoStanding | Damage::NotJoined | Damage::OutOfRange => {
             let index = random.between(0, k);
@@ -193,7 +162,7 @@ pub fn damaged(random: &mut Random, sound: &Sample, damage: Damage) -> Option<Ca
             refused(33, rack)
         }
     };
-    Some(Case { order: order.record(), plan: plan.record(), answer: Some(answer) })
+    Some(Case { order: order.record(), record: plan.record(), answer: Some(answer) })
 }
 
 /// Damage to a record's bytes, and the number it then meets, where that is certain.
@@ -233,7 +202,6 @@ pub fn change_count(random: &mut Random, bytes: &mut [u8], count: usize) {
 
 /// A move that is illegal on the arrangement, for this reason.
 fn illegal_move(random: &mut Random, racks: &Racks, reason: Damage) -> Option<Move> {
-    let all = racks.vacant() | racks.occupied;
     match reason {
         Damage::FromVacant => {
             let left = random.member(nonempty(racks.vacant())?);
@@ -244,17 +212,8 @@ fn illegal_move(random: &mut Random, racks: &Racks, reason: Damage) -> Option<Mo
             let left = random.member(nonempty(racks.occupied)?);
             Some((left, random.member(nonempty(racks.joined(left) & racks.occupied)?)))
         }
-        Damage::NotJoined => {
-            let left = random.member(nonempty(racks.occupied)?);
-            let apart = all & !racks.joined(left);
-            Some((left, random.member(nonempty(apart & racks.vacant()).or(nonempty(apart))?)))
-        }
-        _ => {
-            nonempty((64 - racks.n) as u64)?;
-            let outside = random.between(racks.n, 63) as u8;
-            let inside = random.member(all);
-            Some(if random.one_in(2) { (inside, outside) } else { (outside, inside) })
-        }
+        Damage::NotJoined => racks.move_apart(random),
+        _ => racks.move_outside(random),
     }
 }
 

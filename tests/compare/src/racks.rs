@@ -74,6 +74,21 @@ impl Racks {
         None
     }
 
+    /// A move to a position that is not joined to the one left, which holds a rack.
+    pub fn move_apart(&self, random: &mut Random) -> Option<Move> {
+        let left = random.member(nonempty(self.occupied)?);
+        let apart = (self.vacant() | self.occupied) & !self.joined(left);
+        Some((left, random.member(nonempty(apart & self.vacant()).or(nonempty(apart))?)))
+    }
+
+    /// A move from or to a position that is n or more, if there can be one.
+    pub fn move_outside(&self, random: &mut Random) -> Option<Move> {
+        nonempty((64 - self.n) as u64)?;
+        let outside = random.between(self.n, 63) as u8;
+        let inside = random.member(self.vacant() | self.occupied);
+        Some(if random.one_in(2) { (inside, outside) } else { (outside, inside) })
+    }
+
     /// A legal step of several trains, ascending by position left. Racks at the positions held stay.
     pub fn random_step(&self, random: &mut Random, held: u64) -> Vec<Move> {
         let longest = random.one_in(4);

@@ -1,5 +1,6 @@
 //! Random timetables, and damage to them.
 
+use crate::cases::{self, Case};
 use crate::floors::{self, Floor};
 use crate::orders;
 use crate::packed::refused;
@@ -7,13 +8,6 @@ use crate::plans::{change_count, damage_goals};
 use crate::racks::{nonempty, only, Racks};
 use crate::random::Random;
 use crate::write::{Move, Order, Step, Timetable};
-
-/// An order and a timetable, and the timetable checker's answer where it is certain.
-pub struct Case {
-    pub order: Vec<u8>,
-    pub timetable: Vec<u8>,
-    pub answer: Option<u64>,
-}
 
 /// An order and a timetable, by their fields. A random one is accepted: trains are moved at random, and
 /// the racks' goals are where they then stand.
@@ -68,10 +62,7 @@ pub fn sound_on(random: &mut Random, floor: Floor, m: usize, steps: usize) -> Sa
 /// neighbour to enter or none for each rack: as an order in which each rack's goal is where it would
 /// then stand (where it starts, if two would stand at one place), and one step.
 pub fn every_step(n: usize, mut each: impl FnMut(&Sample)) {
-    let pairs = floors::all_pairs(n);
-    for chosen in 0..1u32 << pairs.len() {
-        let edges = pairs.iter().enumerate().filter(|(bit, _)| chosen >> bit & 1 == 1);
-        let floor = Floor::new(n, edges.map(|(_, &edge)| edge));
+    for floor in floors::every_floor(n) {
         for occupied in 0..1u64 << n {
             let starts: Vec<u8> = (0..n as u8).filter(|&position| occupied & only(position) != 0).collect();
             every_choice(&floor, &starts, &mut Vec::new(), &mut each);
@@ -117,74 +108,38 @@ pub fn random_packed(random: &mut Random) -> Timetable {
     timetable
 }
 
-#[derive(Clone, Copy, Debug, PartialEq, Eq)]
-pub enum Damage {
-    None,
-    Order,
-    Cut,
-    Extended,
-    StepCountChanged,
-    CountByteChanged,
-    SpareSet,
-    PadSet,
-    BitFlipped,
-    Noise,
-    Unsorted,
-    MoveRepeated,
-    FromVacant,
-    NotJoined,
-    OutOfRange,
-    IntoStanding,
-    EnteredTwice,
-    RingTurns,
-    Exchange,
-    TooMany,
-    PadSetAfterFault,
-    StepLeftOut,
-    GoalsExchanged,
-    GoalElsewhere,
+kinds! {
+    pub enum Damage in DAMAGES {
+        None,
+        Order,
+        Cut,
+        Extended,
+        StepCountChanged,
+        CountByteChanged,
+        SpareSet,
+        PadSet,
+        BitFlipped,
+        Noise,
+        Unsorted,
+        MoveRepeated,
+        FromVacant,
+        NotJoined,
+        OutOfRange,
+        IntoStanding,
+        EnteredTwice,
+        RingTurns,
+        Exchange,
+        TooMany,
+        PadSetAfterFault,
+        StepLeftOut,
+        GoalsExchanged,
+        GoalElsewhere,
+    }
 }
-
-pub const DAMAGES: [Damage; 24] = [
-    Damage::None,
-    Damage::Order,
-    Damage::Cut,
-    Damage::Extended,
-    Damage::StepCountChanged,
-    Damage::CountByteChanged,
-    Damage::SpareSet,
-    Damage::PadSet,
-    Damage::BitFlipped,
-    Damage::Noise,
-    Damage::Unsorted,
-    Damage::MoveRepeated,
-    Damage::FromVacant,
-    Damage::NotJoined,
-    Damage::OutOfRange,
-    Damage::IntoStanding,
-    Damage::EnteredTwice,
-    Damage::RingTurns,
-    Damage::Exchange,
-    Damage::TooMany,
-    Damage::PadSetAfterFault,
-    Damage::StepLeftOut,
-    Damage::GoalsExchanged,
-    Damage::GoalElsewhere,
-];
 
 /// A case with a random damage.
 pub fn random_case(random: &mut Random) -> (Damage, Case) {
-    loop {
-        let sound = random_sound(random);
-        let damage = match random.below(10) {
-            0 | 1 => Damage::None,
-            2 => Damage::Order,
-            _ => random.pick(&DAMAGES),
-        };
-        if let Some(case) = damaged(random, &sound, damage) {
-            return (damage, case);
-        }
-    }
+    cases::random_case(random, &DAMAGES, random_sound, damaged)
 }
 
 /// The timetable with the damage, if it has what is to be damaged.
@@ -194,23 +149,15 @@ pub fn damaged(random: &mut Random, sound: &Sample, damage: Damage) -> Option<Ca
     let s = timetable.steps.len();
     let answer = match damage {
         Damage::None => (s as u64) << 8 | (timetable.move_count() as u64) << 30,
-        Damage::Order => {
-            let damage = orders::random_damage(random, &order);
-            let mut bytes = timetable.record();
-            if random.one_in(4) {
-                orders::flip(random, &mut bytes);
-            }
-            let answer = damage.number().map(u64::from);
-            return Some(Case { order: orders::damaged(random, &order, damage), timetable: bytes, answer });
-        }
+        Damage::Order => return Some(cases::order_damaged(random, &order, timetable.record())),
         Damage::Cut
         | Damage::Extended
         | Damage::StepCountChanged
         | Damage::CountByteChanged
         | Damage::BitFlipped
         | Damage::Noise => {
-            let (timetable, answer) = damage_bytes(random, &timetable, damage)?;
-            return Some(Case { order: order.record(), timetable, answer });
+            let (record, answer) = damage_bytes(random, &timetable, damage)?;
+            return Some(Case { order: order.record(), record, answer });
         }
         Damage::SpareSet => {
             timetable.spare = random.between(1, 3) as u8;
@@ -246,7 +193,7 @@ pub fn damaged(random: &mut Random, sound: &Sample, damage: Damage) -> Option<Ca
             refused(42, index as u32 + 1)
         }
     };
-    Some(Case { order: order.record(), timetable: timetable.record(), answer: Some(answer) })
+    Some(Case { order: order.record(), record: timetable.record(), answer: Some(answer) })
 }
 
 /// Damage to the record's bytes, and the number it then meets, where that is certain.
@@ -348,27 +295,13 @@ fn spoilt_order(random: &mut Random, racks: &Racks, reason: Damage) -> Option<Ve
 
 /// A legal step with one move more, which is illegal by itself.
 fn with_bad_move(random: &mut Random, racks: &Racks, reason: Damage) -> Option<Vec<Move>> {
-    let all = racks.vacant() | racks.occupied;
     let bad = match reason {
         Damage::FromVacant => {
             let left = random.member(nonempty(racks.vacant())?);
             (left, random.member(nonempty(racks.joined(left))?))
         }
-        Damage::NotJoined => {
-            let left = random.member(nonempty(racks.occupied)?);
-            let apart = all & !racks.joined(left);
-            (left, random.member(nonempty(apart & racks.vacant()).or(nonempty(apart))?))
-        }
-        _ => {
-            nonempty((64 - racks.n) as u64)?;
-            let outside = random.between(racks.n, 63) as u8;
-            let inside = random.member(all);
-            if random.one_in(2) {
-                (inside, outside)
-            } else {
-                (outside, inside)
-            }
-        }
+        Damage::NotJoined => racks.move_apart(random)?,
+        _ => racks.move_outside(random)?,
     };
     let held = bounded(bad.0) | bounded(bad.1);
     let mut moves = racks.random_step(random, held);

@@ -1,6 +1,6 @@
 //! The proved judgement of a floor against the second one.
 
-use compare::floors::{self, Floor, SHAPES};
+use compare::floors::{self, SHAPES};
 use compare::orders;
 use compare::packed;
 use compare::proved;
@@ -17,10 +17,7 @@ fn every_floor_of_up_to_six_positions() {
     let mut random = Random::new(0x5EED_6001);
     let mut tally = Tally::new("floor_check, every floor of up to six positions");
     for n in 1..=6 {
-        let pairs = floors::all_pairs(n);
-        for chosen in 0..1u32 << pairs.len() {
-            let edges = pairs.iter().enumerate().filter(|(bit, _)| chosen >> bit & 1 == 1);
-            let floor = Floor::new(n, edges.map(|(_, &edge)| edge));
+        for floor in floors::every_floor(n) {
             for m in 0..=n {
                 let order = orders::order_on(&mut random, &floor, m);
                 compare(&mut tally, &order.record());

@@ -2,7 +2,7 @@
 //! exactly where the floor is bi-connected and no ring.
 
 use compare::breakdowns::{longest_handle, proved_breakdown, ROWS};
-use compare::floors::{self, Floor, SHAPES};
+use compare::floors::{self, SHAPES};
 use compare::orders;
 use compare::proved;
 use compare::random::Random;
@@ -46,10 +46,7 @@ fn every_floor_of_up_to_six_positions() {
     let mut random = Random::new(0x5EED_8001);
     let mut seen = Seen::default();
     for n in 1..=6 {
-        let pairs = floors::all_pairs(n);
-        for chosen in 0..1u32 << pairs.len() {
-            let edges = pairs.iter().enumerate().filter(|(bit, _)| chosen >> bit & 1 == 1);
-            let floor = Floor::new(n, edges.map(|(_, &edge)| edge));
+        for floor in floors::every_floor(n) {
             let m = random.between(0, n);
             seen.judge(&orders::order_on(&mut random, &floor, m).record());
         }

@@ -1,6 +1,7 @@
 //! The generators and the second implementation against each other, without the proved library: answers
 //! that are certain from how a case was made, and judgements made again in the plainest way.
 
+use compare::cases::Case;
 use compare::floors::{self, Floor, Shape};
 use compare::packed;
 use compare::plans;
@@ -9,37 +10,43 @@ use compare::tally::{Hex, Tally};
 use compare::timetables;
 use compare::write::{Move, Order};
 use second::breakdown;
+use std::fmt::Debug;
+
+/// Holds the answers on random cases to what is certain of them, and the numbers met to these.
+fn answered_as_made<Damage: Debug>(
+    mut tally: Tally,
+    seed: u64,
+    numbers: &[u8],
+    random_case: fn(&mut Random) -> (Damage, Case),
+    check: fn(&[u8], &[u8]) -> u64,
+) {
+    let mut random = Random::new(seed);
+    for _ in 0..100_000 {
+        let (damage, Case { order, record, answer }) = random_case(&mut random);
+        let second = check(&order, &record);
+        tally.compare(answer.unwrap_or(second), second, &[format!("{damage:?}").as_bytes(), &order, &record]);
+    }
+    tally.finish(100_000, numbers);
+}
 
 #[test]
 fn plans_are_answered_as_they_were_made() {
-    let mut random = Random::new(0x5EED_1001);
-    let mut tally = Tally::new("plans");
-    for _ in 0..100_000 {
-        let (damage, case) = plans::random_case(&mut random);
-        let answer = packed::count(second::plan::check(&case.order, &case.plan));
-        tally.compare(
-            case.answer.unwrap_or(answer),
-            answer,
-            &[format!("{damage:?}").as_bytes(), &case.order, &case.plan],
-        );
-    }
-    tally.finish(100_000, &[0, 10, 11, 12, 13, 14, 30, 31, 32, 33]);
+    let numbers = [0, 10, 11, 12, 13, 14, 30, 31, 32, 33];
+    answered_as_made(Tally::new("plans"), 0x5EED_1001, &numbers, plans::random_case, |order, plan| {
+        packed::count(second::plan::check(order, plan))
+    });
 }
 
 #[test]
 fn timetables_are_answered_as_they_were_made() {
-    let mut random = Random::new(0x5EED_1002);
-    let mut tally = Tally::new("timetables");
-    for _ in 0..100_000 {
-        let (damage, case) = timetables::random_case(&mut random);
-        let answer = packed::steps_and_moves(second::timetable::check(&case.order, &case.timetable));
-        tally.compare(
-            case.answer.unwrap_or(answer),
-            answer,
-            &[format!("{damage:?}").as_bytes(), &case.order, &case.timetable],
-        );
-    }
-    tally.finish(100_000, &[0, 10, 11, 12, 13, 14, 40, 41, 42, 43]);
+    let numbers = [0, 10, 11, 12, 13, 14, 40, 41, 42, 43];
+    answered_as_made(
+        Tally::new("timetables"),
+        0x5EED_1002,
+        &numbers,
+        timetables::random_case,
+        |order, timetable| packed::steps_and_moves(second::timetable::check(order, timetable)),
+    );
 }
 
 /// Whether the step is legal, with its chains followed as the paper says, for each move anew. Its moves
@@ -127,12 +134,8 @@ fn breakdowns_of_every_small_floor_and_of_random_ones() {
             found += 1;
         }
     };
-    for n in 1..=6 {
-        let pairs = floors::all_pairs(n);
-        for chosen in 0..1u32 << pairs.len() {
-            let edges = pairs.iter().enumerate().filter(|(bit, _)| chosen >> bit & 1 == 1);
-            judge(&Floor::new(n, edges.map(|(_, &edge)| edge)));
-        }
+    for floor in (1..=6).flat_map(floors::every_floor) {
+        judge(&floor);
     }
     let mut random = Random::new(0x5EED_1004);
     for _ in 0..2_000 {
@@ -163,10 +166,9 @@ fn made_timetables_are_accepted() {
     for _ in 0..20_000 {
         let sample = plans::random_sound(&mut random);
         let order = sample.order.record();
-        let case = plans::damaged(&mut random, &sample, plans::Damage::None).unwrap();
         let k = sample.moves.len();
         let mut buffer = random.bytes(3 * k + 3);
-        let s = second::making::make(&order, &case.plan, &mut buffer).unwrap();
+        let s = second::making::make(&order, &sample.plan().record(), &mut buffer).unwrap();
         let end = (1..=s).fold(3, |at, _| at + second::timetable::step_length(buffer[at]));
         let counts = second::timetable::check(&order, &buffer[..end]).unwrap();
         assert_eq!((counts.steps, counts.moves), (s, k as u32));

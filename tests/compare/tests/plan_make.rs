@@ -106,12 +106,9 @@ fn the_same_plan_whatever_the_buffer_held() {
 #[test]
 fn every_order_of_two_racks_on_every_floor_of_four_positions() {
     let mut tally = Tally::new("plan_make, small floors");
-    let pairs = floors::all_pairs(4);
     let places: Vec<[u8; 2]> =
         (0..4).flat_map(|a| (0..4).filter(move |&b| a != b).map(move |b| [a, b])).collect();
-    for chosen in 0..1u32 << pairs.len() {
-        let edges = pairs.iter().enumerate().filter(|(bit, _)| chosen >> bit & 1 == 1);
-        let Floor { n, edges } = Floor::new(4, edges.map(|(_, &edge)| edge));
+    for Floor { n, edges } in floors::every_floor(4) {
         for starts in &places {
             for goals in &places {
                 let order = compare::write::Order {

@@ -22,7 +22,7 @@ fn sound_and_damaged_timetables_on_floors_of_every_shape() {
     let mut met = [0; DAMAGES.len()];
     for _ in 0..300_000 {
         let (damage, case) = timetables::random_case(&mut random);
-        compare(&mut tally, &case.order, &case.timetable);
+        compare(&mut tally, &case.order, &case.record);
         met[damage as usize] += 1;
     }
     each_met(&DAMAGES, &met);

@@ -6,7 +6,6 @@ use compare::plans;
 use compare::proved;
 use compare::random::Random;
 use compare::tally::Tally;
-use compare::write::{Order, Plan};
 
 const NUMBERS: [u8; 11] = [0, 10, 11, 12, 13, 14, 30, 31, 32, 33, 44];
 
@@ -37,11 +36,12 @@ fn sound_and_damaged_plans_with_buffers_around_the_limit() {
     let mut tally = Tally::new("timetable_make");
     for _ in 0..200_000 {
         let (_, case) = plans::random_case(&mut random);
-        let k = case.plan.get(..3).map_or(0, |head| u32::from_be_bytes([0, head[0], head[1], head[2]]) >> 2);
+        let k =
+            case.record.get(..3).map_or(0, |head| u32::from_be_bytes([0, head[0], head[1], head[2]]) >> 2);
         // a damaged count does not ask for more than a few kilobytes
         let length = random_length(&mut random, usize::min(k as usize, 4000));
         let mut buffer = random.bytes(length);
-        compare(&mut tally, &case.order, &case.plan, &mut buffer);
+        compare(&mut tally, &case.order, &case.record, &mut buffer);
     }
     tally.finish(200_000, &NUMBERS);
 }
@@ -52,9 +52,8 @@ fn sound_plans_whatever_the_buffer_held() {
     let mut tally = Tally::new("timetable_make, sound plans");
     for _ in 0..30_000 {
         let sample = plans::random_sound(&mut random);
-        let k = sample.moves.len();
-        let (order, plan) = (sample.order.record(), Plan { moves: sample.moves, spare: 0, pad: 0 }.record());
-        let length = 3 * k + 3 + random.below(20);
+        let (order, plan) = (sample.order.record(), sample.plan().record());
+        let length = 3 * sample.moves.len() + 3 + random.below(20);
         for mut buffer in [vec![0; length], vec![0xFF; length], random.bytes(length)] {
             compare(&mut tally, &order, &plan, &mut buffer);
         }
@@ -69,9 +68,8 @@ fn long_plans() {
     for (m, k) in [(1, 10_000), (1, 4_096), (1, 4_097), (20, 100_000), (62, 100_000), (63, 100_000)] {
         for floor in [floors::grid(8, 8), floors::bi_connected(&mut random, 64)] {
             let sample = plans::sound_on(&mut random, floor, m, k);
-            let plan = Plan { moves: sample.moves, spare: 0, pad: 0 };
             let mut buffer = random.bytes(3 * k + 10);
-            compare(&mut tally, &sample.order.record(), &plan.record(), &mut buffer);
+            compare(&mut tally, &sample.order.record(), &sample.plan().record(), &mut buffer);
         }
     }
     tally.close(12);
@@ -80,11 +78,9 @@ fn long_plans() {
 #[test]
 fn the_limit_of_the_longest_plan() {
     let most = (1 << 22) - 1;
-    let order = Order { n: 2, edges: vec![(0, 1)], starts: vec![0], goals: vec![1], spare: 0, pad: 0 };
-    let moves = (0..most).map(|index| [(0, 1), (1, 0)][index % 2]).collect();
-    let plan = Plan { moves, spare: 0, pad: 0 };
+    let sample = plans::to_and_fro(most);
     let mut tally = Tally::new("timetable_make, 4194303 moves and a buffer one byte short");
     let mut buffer = vec![0xAA; 3 * most + 2];
-    assert_eq!(compare(&mut tally, &order.record(), &plan.record(), &mut buffer), 44);
+    assert_eq!(compare(&mut tally, &sample.order.record(), &sample.plan().record(), &mut buffer), 44);
     tally.close(1);
 }

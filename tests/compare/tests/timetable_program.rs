@@ -142,7 +142,7 @@ fn random_plans_against_the_second_implementation() {
     let mut steps = 0;
     for _ in 0..600 {
         let (_, case) = plans::random_case(&mut random);
-        let input = [case.order, case.plan].concat();
+        let input = [case.order, case.record].concat();
         let expected = timetable_program(&input);
         assert!(printed(&input) == expected, "{expected}: {input:02X?}");
         steps += usize::from(expected.starts_with("steps"));

@@ -19,15 +19,15 @@ fn random_record(random: &mut Random, timetable: &mut Timetable) -> Vec<u8> {
     match random.below(12) {
         0 => timetable.spare = random.between(1, 3) as u8,
         1 => drop(timetables::set_pad(random, timetable)),
-        kind @ 2..=5 => {
-            let damage =
-                [Damage::Cut, Damage::Extended, Damage::StepCountChanged, Damage::BitFlipped][kind - 2];
+        kind @ 2..=6 => {
+            let damage = [
+                Damage::Cut,
+                Damage::Extended,
+                Damage::StepCountChanged,
+                Damage::BitFlipped,
+                Damage::CountByteChanged,
+            ][kind - 2];
             if let Some((bytes, _)) = timetables::damage_bytes(random, timetable, damage) {
-                return bytes;
-            }
-        }
-        6 => {
-            if let Some((bytes, _)) = timetables::damage_bytes(random, timetable, Damage::CountByteChanged) {
                 return bytes;
             }
         }

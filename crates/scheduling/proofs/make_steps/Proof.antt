@@ -35,7 +35,7 @@ loop-less : tie.Need-loop-less Inv-loop μ-loop
 loop-less c = omega (arith, (known-on (pairs (c .before .before .before .before .before .before .before .before .args .tail .now) 0 (c .before .before .before .before .before .before .before .before .args .k)) (c .before .before .before .before .before .loop .s) (c .before .before .before .before .before .loop .n) (c .before .before .before .before .before .loop .inv .1) (omega arith)))
 
 loop-again : tie.Need-loop-again Inv-loop μ-loop
-loop-again c = ((known-on (pairs (c .before .before .before .before .before .before .before .before .args .tail .now) 0 (c .before .before .before .before .before .before .before .before .args .k)) (c .before .before .before .before .before .loop .s) (c .before .before .before .before .before .loop .n) (c .before .before .before .before .before .loop .inv .1) (omega arith)), known-later (pairs (c .before .before .before .before .before .before .before .before .args .tail .now) 0 (c .before .before .before .before .before .before .before .before .args .k)) (c .before .before .make-window .result .steps) (c .before .before .before .before .before .loop .n) (c .before .before .make-window .ensures .0), windows-more (pairs (c .before .before .before .before .before .before .before .before .args .tail .now) 0 (c .before .before .before .before .before .before .before .before .args .k)) (c .before .before .before .before .before .before .before .before .args .buffer .now) (c .before .before .before .before .before .before .before .before .pre .2) (c .before .before .before .before .before .loop .buffer) (c .before .before .before .before .before .loop .at) (c .before .before .before .before .before .loop .n) (c .before .before .before .before .before .loop .inv .2) (known-on (pairs (c .before .before .before .before .before .before .before .before .args .tail .now) 0 (c .before .before .before .before .before .before .before .before .args .k)) (c .before .before .before .before .before .loop .s) (c .before .before .before .before .before .loop .n) (c .before .before .before .before .before .loop .inv .1) (omega arith)) (c .before .before .make-window .result .next) (c .before .before .make-window .last .1 .1 .1 .0) (c .before .before .make-window .ensures .1) (c .before .before .make-window .ensures .2))
+loop-again c = ((known-on (pairs (c .before .before .before .before .before .before .before .before .args .tail .now) 0 (c .before .before .before .before .before .before .before .before .args .k)) (c .before .before .before .before .before .loop .s) (c .before .before .before .before .before .loop .n) (c .before .before .before .before .before .loop .inv .1) (omega arith)), known-later (pairs (c .before .before .before .before .before .before .before .before .args .tail .now) 0 (c .before .before .before .before .before .before .before .before .args .k)) (c .before .before .make-window .result .steps) (c .before .before .before .before .before .loop .n) (c .before .before .make-window .ensures .0), windows-more (pairs (c .before .before .before .before .before .before .before .before .args .tail .now) 0 (c .before .before .before .before .before .before .before .before .args .k)) (c .before .before .before .before .before .before .before .before .args .buffer .now) (c .before .before .before .before .before .before .before .before .pre .2) (c .before .before .before .before .before .loop .buffer) (c .before .before .before .before .before .loop .at) (c .before .before .before .before .before .loop .n) (c .before .before .before .before .before .loop .inv .2) (known-on (pairs (c .before .before .before .before .before .before .before .before .args .tail .now) 0 (c .before .before .before .before .before .before .before .before .args .k)) (c .before .before .before .before .before .loop .s) (c .before .before .before .before .before .loop .n) (c .before .before .before .before .before .loop .inv .1) (omega arith)) (c .before .before .make-window .result .next) (c .before .before .make-window .last .1 .1 .1 .0) (c .before .before .make-window .ensures .1))
 
 same-length : tie.Need-same-length Inv-loop μ-loop
 same-length c = windows-length (pairs (c .before .before .before .before .args .tail .now) 0 (c .before .before .before .before .args .k)) (c .before .before .before .before .args .buffer .now) (c .before .before .before .before .pre .2) (c .before .loop .buffer) (c .before .loop .at) (c .before .loop .n) (c .before .loop .inv .2) (c .before .loop .inv .0)

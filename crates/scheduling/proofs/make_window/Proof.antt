@@ -4,7 +4,7 @@ use borrow.Author.Needs.{needs}
 use Rattle.field.specs.Bits.{pairs}
 use Rattle.field.specs.RecordLaws.{pairs-lt}
 use Rattle.scheduling.specs.Filling.{emptyWindow}
-use Rattle.scheduling.proofs.Windowing.{filled-few, filled-fit, filled-room, filled-written}
+use Rattle.scheduling.proofs.Windowing.{filled-few, filled-fit, filled-room, filled-wrote}
 use Rattle.scheduling.proofs.make_window.Statement.{statement}
 use Rattle.scheduling.proofs.make_window.Tie as tie
 
@@ -23,7 +23,7 @@ same-length c = search needs
 
 returns : tie.Need-returns
 unfolding emptyWindow
-returns c = filled-written (pairs (c .before .before .before .before .before .before .before .before .before .before .args .tail .now) 0 (c .before .before .before .before .before .before .before .before .before .before .args .k)) (c .before .before .before .before .before .before .before .before .before .before .args .first) (c .before .before .before .before .before .before .fill .result) (c .before .before .before .before .before .before .fill .last .1 .1 .1 .0) (c .before .before .before .before .before .before .fill .ensures) (c .before .before .before .before .before .rows-of .result) (c .before .before .before .before .before .rows-of .ensures) (c .before .before .before .before .before .before .before .before .before .before .args .at) (c .before .before .write-window .result) (c .before .before .before .before .before .before .before .before .before .before .args .buffer .now) (c .before .before .write-window .last .1 .1 .0) (c .before .before .write-window .ensures)
+returns c = filled-wrote (pairs (c .before .before .before .before .before .before .before .before .before .before .args .tail .now) 0 (c .before .before .before .before .before .before .before .before .before .before .args .k)) (c .before .before .before .before .before .before .before .before .before .before .args .first) (c .before .before .before .before .before .before .fill .result) (c .before .before .before .before .before .before .fill .last .1 .1 .1 .0) (c .before .before .before .before .before .before .fill .ensures) (c .before .before .before .before .before .rows-of .result) (c .before .before .before .before .before .rows-of .ensures) (c .before .before .before .before .before .before .before .before .before .before .args .at) (c .before .before .write-window .result) (c .before .before .before .before .before .before .before .before .before .before .args .buffer .now) (c .before .before .write-window .last .1 .1 .0) (c .before .before .write-window .ensures)
 
 pub make-window-spec : {M : Type 1} → statement M
 make-window-spec =

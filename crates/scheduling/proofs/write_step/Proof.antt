@@ -5,7 +5,7 @@ use native.Mathlib.Omega.{arith}
 use borrow.Author.Needs.{needs}
 use lib.ListN.{length-set}
 use mathlib.Core.Path.{_∙_}
-use Rattle.scheduling.proofs.Writing.{Writing, writing-first, writing-next-at, writing-last, entry-fits-at, count-few, count-at-most, end-is, at-inside, length-same, writing-all}
+use Rattle.scheduling.proofs.Writing.{Writing, writing-first, writing-next-at, writing-last, entry-fits-at, count-few, count-at-most, at-inside, length-same, writing-all}
 use Rattle.scheduling.proofs.write_step.Statement.{statement}
 use Rattle.scheduling.proofs.write_step.Tie as tie
 
@@ -75,7 +75,7 @@ same-length c =
 
 returns : tie.Need-returns Inv-loop μ-loop
 returns c =
-    (end-is (c .before .before .before .args .window .now) (c .before .before .before .args .row) (c .before .before .before .args .buffer .now) (c .before .before .before .args .at) (c .before .before .before .pre .1 .0) (c .before .loop .count) (c .before .loop .buffer) (writing-all (c .before .before .before .args .window .now) (c .before .before .before .args .row) (c .before .before .before .args .buffer .now) (c .before .before .before .args .at) (c .before .loop .p) (c .before .loop .count) (c .before .loop .buffer) (c .before .loop .inv .1) (omega arith) (omega arith)), writing-last (c .before .before .before .args .window .now) (c .before .before .before .args .row) (c .before .before .before .args .buffer .now) (c .before .before .before .args .at) (c .before .before .before .pre .1 .0) (c .before .loop .count) (c .before .loop .buffer) (writing-all (c .before .before .before .args .window .now) (c .before .before .before .args .row) (c .before .before .before .args .buffer .now) (c .before .before .before .args .at) (c .before .loop .p) (c .before .loop .count) (c .before .loop .buffer) (c .before .loop .inv .1) (omega arith) (omega arith)))
+    writing-last (c .before .before .before .args .window .now) (c .before .before .before .args .row) (c .before .before .before .args .buffer .now) (c .before .before .before .args .at) (c .before .before .before .pre .1 .0) (c .before .loop .count) (c .before .loop .buffer) (writing-all (c .before .before .before .args .window .now) (c .before .before .before .args .row) (c .before .before .before .args .buffer .now) (c .before .before .before .args .at) (c .before .loop .p) (c .before .loop .count) (c .before .loop .buffer) (c .before .loop .inv .1) (omega arith) (omega arith))
 
 pub write-step-spec : {M : Type 1} → statement M
 write-step-spec =

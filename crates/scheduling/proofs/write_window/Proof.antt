@@ -24,7 +24,7 @@ loop-less : tie.Need-loop-less Inv-loop μ-loop
 loop-less c = omega arith
 
 loop-again : tie.Need-loop-again Inv-loop μ-loop
-loop-again c = (omega arith, rows-more (c .before .before .before .before .before .before .before .args .window .now) (c .before .before .before .before .before .before .before .args .buffer .now) (c .before .before .before .before .before .before .before .args .n) (c .before .before .before .before .before .before .before .args .at) (c .before .before .before .before .before .before .before .pre .1 .0) (c .before .before .before .before .before .loop .buffer) (c .before .before .before .before .before .loop .next) (c .before .before .before .before .before .loop .row) (c .before .before .before .before .before .loop .inv .1) (omega arith) (c .before .before .write-step .result) (c .before .before .write-step .last .1 .1 .0) (c .before .before .write-step .ensures .0) (c .before .before .write-step .ensures .1))
+loop-again c = (omega arith, rows-more (c .before .before .before .before .before .before .before .args .window .now) (c .before .before .before .before .before .before .before .args .buffer .now) (c .before .before .before .before .before .before .before .args .n) (c .before .before .before .before .before .before .before .args .at) (c .before .before .before .before .before .before .before .pre .1 .0) (c .before .before .before .before .before .loop .buffer) (c .before .before .before .before .before .loop .next) (c .before .before .before .before .before .loop .row) (c .before .before .before .before .before .loop .inv .1) (omega arith) (c .before .before .write-step .result) (c .before .before .write-step .last .1 .1 .0) (c .before .before .write-step .ensures))
 
 same-length : tie.Need-same-length Inv-loop μ-loop
 same-length c = rows-length (c .before .before .before .args .window .now) (c .before .before .before .args .buffer .now) (c .before .before .before .args .n) (c .before .before .before .args .at) (c .before .before .before .pre .1 .0) (c .before .loop .buffer) (c .before .loop .next) (c .before .loop .row) (c .before .loop .inv .1) (omega arith)

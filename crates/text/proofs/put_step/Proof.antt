@@ -4,7 +4,7 @@ use lib.ListN.{getD}
 use Rattle.timetable.specs.StepLaws.{stepLength-some}
 use Rattle.text.specs.Text.{stepLine}
 use Rattle.text.specs.TextLaws.{newline-is}
-use Rattle.text.specs.Writing.{fits-front, fits-next, fits-as, wrote-then, wrote-as}
+use Rattle.field.specs.Writing.{fits-front, fits-next, fits-as, wrote-then, wrote-as}
 use Rattle.text.proofs.Loops.{part-room, part-moves}
 use borrow.Author.Needs.{needs}
 use Rattle.text.proofs.put_step.Statement.{statement}

@@ -4,8 +4,9 @@ use native.Mathlib.Omega.{arith}
 use mathlib.Core.Path.{ap, sym, subst, _∙_}
 use lib.ListN.{length, replicate, length-replicate}
 use lib.Seq.{length-take-le}
+use Rattle.field.specs.Writing.{wrote-as}
 use Rattle.scheduling.specs.Maker.{answerOf}
-use Rattle.text.proofs.Program.{printed, end-within, order-is, plan-is, refused-text, end-fits, made-packed, made-fits, made-text, retold}
+use Rattle.text.proofs.Program.{end-within, order-is, plan-is, refused-text, end-fits, made-packed, made-fits, made-text}
 use borrow.Author.Needs.{needs}
 use Rattle.text.proofs.timetable_program.Statement.{statement}
 use Rattle.text.proofs.timetable_program.Tie as tie
@@ -64,11 +65,11 @@ put-timetable-requires c κs =
 
 returns : tie.Need-returns
 returns c =
-    retold (c .print-refusal .ensures) (refused-text (c .before .before .before .before .before .before .before .before .before .before .before .before .args .input .now) _ _ (replicate 65536 0) (order-is (c .before .before .before .before .before .before .before .before .before .before .before .before .args .input .now) (c .before .before .before .before .before .before .before .before .before .before .order-end .result) (c .before .before .before .before .before .before .before .before .before .before .order-end .ensures)) (plan-is (c .before .before .before .before .before .before .before .before .before .before .before .before .args .input .now) (c .before .before .before .before .before .before .before .before .before .before .order-end .result) (c .before .before .before .before .before .before .before .before .before .before .order-end .ensures)) (length-replicate {A = ℕ} 65536 0) _ _ (ap answerOf (sym (c .before .before .before .fault .given .1)) ∙ c .before .before .before .before .before .before .make .ensures .0))
+    wrote-as (refused-text (c .before .before .before .before .before .before .before .before .before .before .before .before .args .input .now) _ _ (replicate 65536 0) (order-is (c .before .before .before .before .before .before .before .before .before .before .before .before .args .input .now) (c .before .before .before .before .before .before .before .before .before .before .order-end .result) (c .before .before .before .before .before .before .before .before .before .before .order-end .ensures)) (plan-is (c .before .before .before .before .before .before .before .before .before .before .before .before .args .input .now) (c .before .before .before .before .before .before .before .before .before .before .order-end .result) (c .before .before .before .before .before .before .before .before .before .before .order-end .ensures)) (length-replicate {A = ℕ} 65536 0) _ _ (ap answerOf (sym (c .before .before .before .fault .given .1)) ∙ c .before .before .before .before .before .before .make .ensures .0)) (c .print-refusal .ensures)
 
 returns-2 : tie.Need-returns-2
 returns-2 c =
-    printed (made-fits (c .before .before .before .before .before .before .before .before .before .before .before .before .before .before .args .input .now) _ _ _ (order-is (c .before .before .before .before .before .before .before .before .before .before .before .before .before .before .args .input .now) (c .before .before .before .before .before .before .before .before .before .before .before .before .order-end .result) (c .before .before .before .before .before .before .before .before .before .before .before .before .order-end .ensures)) (plan-is (c .before .before .before .before .before .before .before .before .before .before .before .before .before .before .args .input .now) (c .before .before .before .before .before .before .before .before .before .before .before .before .order-end .result) (c .before .before .before .before .before .before .before .before .before .before .before .before .order-end .ensures)) (length-replicate {A = ℕ} 65536 0) _ (ap answerOf (sym (c .before .before .before .before .before .enum-told .given .1)) ∙ c .before .before .before .before .before .before .before .before .make .ensures .0) (c .before .before .before .before .before .before .before .before .make .last .1 .1 .0) (c .before .before .before .before .before .before .before .before .make .ensures .1) (c .before .before .before .record-end .result) (c .before .before .before .record-end .ensures) (c .before .before .before .before .before .before .before .before .before .before .before .before .before .before .args .out .now) (omega arith)) (c .put-timetable .ensures) (made-text (c .before .before .before .before .before .before .before .before .before .before .before .before .before .before .args .input .now) _ _ _ (order-is (c .before .before .before .before .before .before .before .before .before .before .before .before .before .before .args .input .now) (c .before .before .before .before .before .before .before .before .before .before .before .before .order-end .result) (c .before .before .before .before .before .before .before .before .before .before .before .before .order-end .ensures)) (plan-is (c .before .before .before .before .before .before .before .before .before .before .before .before .before .before .args .input .now) (c .before .before .before .before .before .before .before .before .before .before .before .before .order-end .result) (c .before .before .before .before .before .before .before .before .before .before .before .before .order-end .ensures)) (length-replicate {A = ℕ} 65536 0) _ (ap answerOf (sym (c .before .before .before .before .before .enum-told .given .1)) ∙ c .before .before .before .before .before .before .before .before .make .ensures .0) (c .before .before .before .before .before .before .before .before .make .last .1 .1 .0) (c .before .before .before .before .before .before .before .before .make .ensures .1) (c .before .before .before .record-end .result) (c .before .before .before .record-end .ensures))
+    wrote-as (made-text (c .before .before .before .before .before .before .before .before .before .before .before .before .before .before .args .input .now) _ _ _ (order-is (c .before .before .before .before .before .before .before .before .before .before .before .before .before .before .args .input .now) (c .before .before .before .before .before .before .before .before .before .before .before .before .order-end .result) (c .before .before .before .before .before .before .before .before .before .before .before .before .order-end .ensures)) (plan-is (c .before .before .before .before .before .before .before .before .before .before .before .before .before .before .args .input .now) (c .before .before .before .before .before .before .before .before .before .before .before .before .order-end .result) (c .before .before .before .before .before .before .before .before .before .before .before .before .order-end .ensures)) (length-replicate {A = ℕ} 65536 0) _ (ap answerOf (sym (c .before .before .before .before .before .enum-told .given .1)) ∙ c .before .before .before .before .before .before .before .before .make .ensures .0) (c .before .before .before .before .before .before .before .before .make .last .1 .1 .0) (c .before .before .before .before .before .before .before .before .make .ensures .1) (c .before .before .before .record-end .result) (c .before .before .before .record-end .ensures)) (c .put-timetable .ensures)
 
 pub timetable-program-spec : {M : Type 1} → statement M
 timetable-program-spec =

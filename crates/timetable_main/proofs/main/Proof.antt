@@ -1,6 +1,8 @@
 -- `timetable_main::main` ends and is safe: what is written lies in the array. Assumes nothing.
 use mathlib.Core.Path.{sym}
+use native.Mathlib.Omega.{arith}
 use lib.Seq.{length-take-le}
+use Rattle.field.specs.Writing.{wrote-within}
 use borrow.Author.Needs.{needs}
 use Rattle.timetable_main.proofs.main.Statement.{statement}
 use Rattle.timetable_main.proofs.main.Tie as tie
@@ -24,10 +26,10 @@ timetable-program-requires : tie.Need-timetable-program-requires
 timetable-program-requires c κs = search needs
 
 array-share-prefix-out : tie.Need-array-share-prefix-out
-array-share-prefix-out c = search needs
+array-share-prefix-out c = wrote-within (omega arith) (c .timetable-program .ensures)
 
 slice-aggregate-write-all : tie.Need-slice-aggregate-write-all
-slice-aggregate-write-all c = sym (length-take-le _ _ (c .before .timetable-program .ensures .within))
+slice-aggregate-write-all c = sym (length-take-le _ _ (wrote-within (omega arith) (c .before .timetable-program .ensures)))
 
 write-all-requires : tie.Need-write-all-requires
 write-all-requires c κs = search needs

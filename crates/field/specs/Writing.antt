@@ -1,13 +1,16 @@
--- Writing bytes into a lent byte string, from a byte on: what a writer leaves, and that two writers one after the other write what one would.
+-- Writing bytes into a lent byte string, from a byte on: what a writer leaves, byte for byte, and that two writers one after the other write
+-- what one would.
 --
---     written s at l       the byte string s with the bytes l written from byte `at` on
+--     written s at l       the byte string s with the bytes l written from byte `at` on: what stood before them and behind them stays
 --     Fits s at l          s has room for l from byte `at` on
 --     Wrote s at l t r     t is s with l written from byte `at` on, and r is where the next writer begins
+--     written-front        from the front on: l, and behind it what stood there
+--     written-none         nothing written changes nothing
 --     length-written       nothing is moved: the length stays
 --     written-append       writing l and then m behind it is writing l ++ m
 --     fits-front, fits-next    what has room, and what has room behind it once it is written
 --     wrote-none, wrote-byte, wrote-then    nothing, one byte, and one text behind another
---     wrote-front          the front of what is left is what was written
+--     wrote-length, wrote-within    the length stays, and the next writer begins within it
 --     fits-as, wrote-as    the same, of a text by another name
 --     Left s at l t r m    t is s with the front of l written from byte `at` on, up to byte r; m, the rest of l, is left to write
 --     left-first, left-fits, left-next, left-none    how a writer's loop begins, has room, goes on and ends
@@ -16,7 +19,7 @@ use Prim.Native.Nat.{ℕ, _+_, _≤_, _<_}
 use mathlib.Core.Path.{_≡_, refl, sym, ap, ap₂, _∙_, subst}
 use mathlib.Core.List.{List, [], _∷_, _++_, append-assoc}
 use native.Mathlib.Omega.{arith}
-use native.Mathlib.Nat.{add-assoc, add-zero}
+use native.Mathlib.Nat.{add-assoc, add-zero, zero-add}
 use native.Mathlib.Numerals.{add-one}
 use lib.ListN.{length, set, take, drop, length-append, length-drop, take-append-drop}
 use lib.Seq.{drop-drop, take-at, drop-at, length-take-le, set-split}
@@ -28,8 +31,16 @@ pub record Fits (s : List ℕ) (at : ℕ) (l : List ℕ) : Type 0 where
   pub room : at + length l ≤ length s
 
 pub record Wrote (s : List ℕ) (at : ℕ) (l t : List ℕ) (r : ℕ) : Type 0 where
-  pub text-is : t ≡ written s at l
+  pub bytes-are : t ≡ written s at l
   pub next-is : r ≡ at + length l
+
+pub written-front : (s l : List ℕ) → written s 0 l ≡ l ++ drop (length l) s
+unfolding written
+written-front s l = ap (λ (n : ℕ). l ++ drop n s) (zero-add (length l))
+
+pub written-none : (s : List ℕ) (at : ℕ) → written s at [] ≡ s
+unfolding written
+written-none s at = ap (λ (n : ℕ). take at s ++ drop n s) (add-zero at) ∙ take-append-drop at s
 
 module _ (s : List ℕ) (at : ℕ) (l : List ℕ) (f : Fits s at l) where
   front-length : length (take at s) ≡ at
@@ -46,7 +57,7 @@ module _ (s : List ℕ) (at : ℕ) (l : List ℕ) (f : Fits s at l) where
   unfolding written
   regrouped = sym (append-assoc (take at s) l (drop (at + length l) s))
 
-  pub take-written : take (at + length l) (written s at l) ≡ take at s ++ l
+  take-written : take (at + length l) (written s at l) ≡ take at s ++ l
   take-written = ap (take (at + length l)) regrouped ∙ take-at (take at s ++ l) (drop (at + length l) s) (at + length l) both-length
 
   drop-written : drop (at + length l) (written s at l) ≡ drop (at + length l) s
@@ -72,18 +83,26 @@ module _ (s : List ℕ) (at : ℕ) (l : List ℕ) (f : Fits s at l) where
       ∙ ap (λ (x : List ℕ). take at s ++ x) (sym (append-assoc l m (drop (at + length (l ++ m)) s)))
       ∙ sym (over s (l ++ m) at)
 
+pub wrote-length : {s : List ℕ} {at : ℕ} {l t : List ℕ} {r : ℕ} → Fits s at l → Wrote s at l t r → length t ≡ length s
+wrote-length {s} {at} {l} f w = ap length (w .bytes-are) ∙ length-written s at l f
+
+-- whether there was room or not
+pub wrote-within : {s : List ℕ} {at : ℕ} {l t : List ℕ} {r : ℕ} → at ≤ length s → Wrote s at l t r → r ≤ length t
+unfolding written
+wrote-within {s} {at} {l} h w =
+    let rest = drop (at + length l) s in
+    omega (arith, w .next-is, ap length (w .bytes-are), length-append (take at s) (l ++ rest), length-append l rest, length-take-le at s h)
+
 module _ {s : List ℕ} {at : ℕ} (l m : List ℕ) where
   pub fits-front : Fits s at (l ++ m) → Fits s at l
   fits-front f = record { room = omega (arith, f .room, length-append l m) }
 
   pub fits-next : {t : List ℕ} {r : ℕ} → Wrote s at l t r → Fits s at (l ++ m) → Fits t r m
-  fits-next {t} {r} w f =
-      let same : length t ≡ length s = ap length (w .text-is) ∙ length-written s at l (fits-front f) in
-      record { room = omega (arith, same, w .next-is, f .room, length-append l m) }
+  fits-next {t} {r} w f = record { room = omega (arith, wrote-length (fits-front f) w, w .next-is, f .room, length-append l m) }
 
   pub wrote-then : {t u : List ℕ} {r q : ℕ} → Fits s at (l ++ m) → Wrote s at l t r → Wrote t r m u q → Wrote s at (l ++ m) u q
   wrote-then {t} {u} {r} {q} f w v = record {
-    text-is = v .text-is ∙ ap₂ (λ (x : List ℕ) (n : ℕ). written x n m) (w .text-is) (w .next-is) ∙ written-append s at l (fits-front f) m;
+    bytes-are = v .bytes-are ∙ ap₂ (λ (x : List ℕ) (n : ℕ). written x n m) (w .bytes-are) (w .next-is) ∙ written-append s at l (fits-front f) m;
     next-is = omega (arith, v .next-is, w .next-is, length-append l m);
   }
 
@@ -96,30 +115,23 @@ module _ {s : List ℕ} {at : ℕ} {l m : List ℕ} (e : l ≡ m) where
 
 module _ (s : List ℕ) (at : ℕ) where
   pub wrote-none : Wrote s at [] s at
-  unfolding written
-  wrote-none = record {
-    text-is = sym (ap (λ (n : ℕ). take at s ++ drop n s) (add-zero at) ∙ take-append-drop at s);
-    next-is = sym (add-zero at);
-  }
+  wrote-none = record { bytes-are = sym (written-none s at); next-is = sym (add-zero at) }
 
   pub wrote-byte : (b : ℕ) → at < length s → Wrote s at (b ∷ []) (set s at b) (at + 1)
   unfolding written
   wrote-byte b h = record {
-    text-is = set-split s at b h ∙ ap (λ (n : ℕ). take at s ++ b ∷ drop n s) (sym (add-one at));
+    bytes-are = set-split s at b h ∙ ap (λ (n : ℕ). take at s ++ b ∷ drop n s) (sym (add-one at));
     next-is = refl;
   }
 
-  pub wrote-front : {l t : List ℕ} {r : ℕ} → Fits s at l → Wrote s at l t r → take r t ≡ take at s ++ l
-  wrote-front {l} f w = ap₂ take (w .next-is) (w .text-is) ∙ take-written s at l f
-
 pub record Left (s : List ℕ) (at : ℕ) (l t : List ℕ) (r : ℕ) (m : List ℕ) : Type 0 where
-  pub text-same : written t r m ≡ written s at l
+  pub bytes-same : written t r m ≡ written s at l
   pub next-same : r + length m ≡ at + length l
   pub length-same : length t ≡ length s
 
 module _ {s : List ℕ} {at : ℕ} {l : List ℕ} where
   pub left-first : Left s at l s at l
-  left-first = record { text-same = refl; next-same = refl; length-same = refl }
+  left-first = record { bytes-same = refl; next-same = refl; length-same = refl }
 
   pub left-fits : {t m : List ℕ} {r : ℕ} → Fits s at l → Left s at l t r m → Fits t r m
   left-fits f k = record { room = omega (arith, f .room, k .next-same, k .length-same) }
@@ -128,10 +140,10 @@ module _ {s : List ℕ} {at : ℕ} {l : List ℕ} where
   left-next x m {t} {u} {r} {q} f k w =
       let fits : Fits t r x = fits-front x m (left-fits f k) in
       record {
-        text-same = ap₂ (λ (y : List ℕ) (n : ℕ). written y n m) (w .text-is) (w .next-is) ∙ written-append t r x fits m ∙ k .text-same;
+        bytes-same = ap₂ (λ (y : List ℕ) (n : ℕ). written y n m) (w .bytes-are) (w .next-is) ∙ written-append t r x fits m ∙ k .bytes-same;
         next-same = omega (arith, w .next-is, k .next-same, length-append x m);
-        length-same = ap length (w .text-is) ∙ length-written t r x fits ∙ k .length-same;
+        length-same = wrote-length fits w ∙ k .length-same;
       }
 
   pub left-none : {t : List ℕ} {r : ℕ} → Left s at l t r [] → Wrote s at l t r
-  left-none {t} {r} k = record { text-is = wrote-none t r .text-is ∙ k .text-same; next-is = sym (add-zero r) ∙ k .next-same }
+  left-none {t} {r} k = record { bytes-are = wrote-none t r .bytes-are ∙ k .bytes-same; next-is = sym (add-zero r) ∙ k .next-same }
