@@ -1,3 +1,4 @@
 pub mod Shift
 pub mod Placed
 pub mod Held
+pub mod Planned
