@@ -1,1 +1,2 @@
 pub mod OrderTables
+pub mod Moves

@@ -2,6 +2,7 @@
 --
 --     held-by            what a table holds, by its rows
 --     held-placed        the table of a sound arrangement has its racks placed
+--     held-agree         two tables that hold the same arrangement agree
 --     tables-alike       two arrangements with the same table are the same
 -- Assumes nothing.
 use Prim.Native.Nat.{ℕ, suc, _-_, _≤_, _<_}
@@ -55,6 +56,15 @@ module _ {A : Arrangement} {h : List ℕ} (holds : Holds A h) where
           let l = x .1 in
           let a : row h p ≡ suc (x .0) = ap (row h) (sym (x .2)) ∙ holds .racks (x .0) (x .1) in
           omega arith)
+
+-- two tables that hold the same arrangement agree
+pub held-agree : {A : Arrangement} {h k : List ℕ} → Holds A h → Holds A k → (p : ℕ) → row h p ≡ row k p
+held-agree {A} {h} {k} a b p =
+    ⊎-elim
+    (λ t. let x = occupied-rack A p .0 t in
+    ap (row h) (sym (x .2)) ∙ a .racks (x .0) (x .1) ∙ sym (b .racks (x .0) (x .1)) ∙ ap (row k) (x .2))
+    (λ t. a .others p t ∙ sym (b .others p t))
+    (occupied-or-vacant A p)
 
 pub tables-alike : (n m : ℕ) {A G : Arrangement} {h k : List ℕ} → Sound n A → Holds A h → Holds G k → length A ≡ m → length G ≡ m
     → ((p : ℕ) → p < 64 → row h p ≡ row k p) → A ≡ G

@@ -1,45 +1,45 @@
+-- `planner::same_tables` meets its contract.
+-- Assumes nothing.
+use Prim.Native.Nat.{_-_, _≤_}
+use native.Mathlib.Omega.{arith}
+use Rattle.graph.specs.Decision.{says-yes, says-no}
+use Rattle.moving.specs.Journey.{row}
+use Rattle.planner.proofs.SameLaws.{Alike, alike-none, alike-next}
 use Rattle.planner.proofs.same_tables.Statement.{statement}
 use Rattle.planner.proofs.same_tables.Tie as tie
-use Rattle.planner.proofs.same_tables.Reads as reads
-use Rattle.planner.proofs.same_tables.Lts as lts
 
 abbrev Inv-loop : tie.InvT-loop
-Inv-loop start goal p₀ p = ?
+Inv-loop start goal p₀ p = (p ≤ 64) × Alike (row start) (row goal) p
 
 abbrev μ-loop : tie.MeasureT-loop
-μ-loop start goal p₀ p = ?
+μ-loop start goal p₀ p = 64 - p
 
--- src/lib.rt:13:5
 loop-holds : tie.Need-loop-holds Inv-loop μ-loop
-loop-holds c = ?
+loop-holds c = (omega arith, alike-none (row (c .args .start .now)) (row (c .args .goal .now)))
 
--- src/lib.rt:14:12
 element-copy-out-if1 : tie.Need-element-copy-out-if1 Inv-loop μ-loop
-element-copy-out-if1 c = ?
+element-copy-out-if1 c = omega arith
 
--- src/lib.rt:14:24
 element-copy-out-if1-2 : tie.Need-element-copy-out-if1-2 Inv-loop μ-loop
-element-copy-out-if1-2 c = ?
+element-copy-out-if1-2 c = omega arith
 
--- src/lib.rt:15:13
 returns : tie.Need-returns Inv-loop μ-loop
-returns c = ?
+returns c = says-no (λ all. c .if1 .taken (all (c .before .before .before .before .loop .p) (omega arith)))
 
--- src/lib.rt:17:9
 add-p : tie.Need-add-p Inv-loop μ-loop
-add-p c = ?
+add-p c = omega arith
 
--- src/lib.rt:13:5
 loop-less : tie.Need-loop-less Inv-loop μ-loop
-loop-less c = ?
+loop-less c = omega arith
 
--- src/lib.rt:13:5
 loop-again : tie.Need-loop-again Inv-loop μ-loop
-loop-again c = ?
+loop-again c = 
+    let a = c .before .before .before .before .before .args in
+    let l = c .before .before .before .before .loop in
+    (omega arith, alike-next (row (a .start .now)) (row (a .goal .now)) (l .p) (c .if1 .left) (l .inv .1))
 
--- src/lib.rt:9:1
 returns-2 : tie.Need-returns-2 Inv-loop μ-loop
-returns-2 c = ?
+returns-2 c = let l = c .before .loop in says-yes (λ p h. l .inv .1 p (omega arith))
 
 pub same-tables-spec : {M : Type 1} → statement M
 same-tables-spec =

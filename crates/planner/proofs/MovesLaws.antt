@@ -1,0 +1,122 @@
+-- From an accepted order that can be planned to the moves of its plan.
+--
+--     start-holds, goal-holds    the tables that the order's starts and goals fill
+--     room-racks                 two vacancies at least
+--     rows-right, broken         the rows of its floor, and that they have a breakdown
+--     none-needed                where the two tables agree there is nothing to move
+--     planned                    what the trip from the one to the other writes is a plan
+-- Assumes nothing.
+use Prim.Native.Nat.{ℕ, _+_, _-_, _*_, _/_, _≤_, _<_}
+use mathlib.Core.Path.{_≡_, refl, sym, ap, subst, _∙_}
+use mathlib.Core.List.{List, [], _++_}
+use mathlib.Core.Logic.{_↔_, _≢_}
+use native.Mathlib.Omega.{arith}
+use lib.Dec.{T}
+use lib.ListN.{length, take, drop, replicate}
+use Rattle.field.specs.Bits.{pairs, positions}
+use Rattle.order.specs.Floor.{Floor, joined}
+use Rattle.order.specs.Order.{positionCount, rackCount, floorOf, startsOf, goalsOf}
+use Rattle.order.specs.Tables.{placed}
+use Rattle.order.specs.TailLaws.{tail-starts, tail-goals}
+use Rattle.motion.specs.Replay.{ended, replayMoves, replayFrom}
+use Rattle.motion.specs.Sound.{Sound}
+use Rattle.tables.specs.Tables.{Holds}
+use Rattle.tables.specs.TableLaws.{placed-holds}
+use Rattle.tables.specs.Accepted.{OrderGave}
+use Rattle.graph.specs.Connected.{BiConnected, Ring}
+use Rattle.graph.specs.Rows.{Edge, Rows}
+use Rattle.graph.specs.EdgeCount.{edgeCount}
+use Rattle.breakdown.specs.Answer.{Answer}
+use Rattle.moving.specs.Went.{Same}
+use Rattle.moving.specs.WentLaws.{same-refl}
+use Rattle.moving.specs.Journey.{row, Packed, Trip}
+use Rattle.moving.specs.JourneyLaws.{packed-nothing, went-written}
+use Rattle.planning.specs.Placed.{Placed, Filled}
+use Rattle.planning.specs.Planned.{trip-planned}
+use Rattle.floor.specs.JoinedRows.{joinedRows, rowsOf}
+use Rattle.floor.specs.FloorAnswer.{Joins}
+use Rattle.floor.specs.FloorRows.{edge-joins, filled-is, filled-rows}
+use Rattle.floor.specs.FloorLaws.{Plannable, plannable-rows}
+use Rattle.planner.specs.OrderTables.{held-by, held-placed, held-agree, tables-alike}
+use Rattle.planner.specs.Moves.{Moves}
+
+module _ (o : List ℕ) (n e m : ℕ) (gave : OrderGave o n e m) where
+  pub start-holds : (h : List ℕ) → h ≡ placed (replicate 64 0) 1 (positions (take (length o - 3) (drop 3 o)) (6 * (2 * e)) m) → Holds (startsOf o) h
+  start-holds h is =
+      let w = gave .placed-well in
+      subst (Holds (startsOf o)) (sym (is ∙ ap (placed (replicate 64 0) 1) (tail-starts o e m (gave .edges-are) (gave .racks-are))))
+      (placed-holds (floorOf o .positions) (startsOf o) (w .few-positions) (w .starts-sound))
+
+  pub goal-holds : (h : List ℕ) → h ≡ placed (replicate 64 0) 1 (positions (take (length o - 3) (drop 3 o)) (6 * (2 * e + m)) m) → Holds (goalsOf o) h
+  goal-holds h is =
+      let w = gave .placed-well in
+      subst (Holds (goalsOf o)) (sym (is ∙ ap (placed (replicate 64 0) 1) (tail-goals o e m (gave .edges-are) (gave .racks-are))))
+      (placed-holds (floorOf o .positions) (goalsOf o) (w .few-positions) (w .goals-sound))
+
+  pub start-placed : (h : List ℕ) → Holds (startsOf o) h → Placed n m (row h)
+  start-placed h holds =
+      let w = gave .placed-well in
+      held-placed holds n m (subst (λ (k : ℕ). Sound k (startsOf o)) (sym (gave .positions-are)) (w .starts-sound)) (w .starts-length ∙ sym (gave .racks-are))
+
+  pub goal-placed : (h : List ℕ) → Holds (goalsOf o) h → Placed n m (row h)
+  goal-placed h holds =
+      let w = gave .placed-well in
+      held-placed holds n m (subst (λ (k : ℕ). Sound k (goalsOf o)) (sym (gave .positions-are)) (w .goals-sound)) (w .goals-length ∙ sym (gave .racks-are))
+
+  module _ (plannable : Plannable o) where
+    pub room-racks : m + 2 ≤ n
+    room-racks = let v = plannable .vacancies in let a = gave .positions-are ∙ positions-is in let b = gave .racks-are in omega arith
+      where
+        positions-is : floorOf o .positions ≡ positionCount o
+        positions-is = unfold floorOf in refl
+
+    module _ (g : List ℕ) (filled : g ≡ joinedRows (replicate 64 0) (pairs (take (length o - 3) (drop 3 o)) 0 e)) where
+      pub rows-right : Rows n g
+      rows-right = filled-rows o n e m gave g filled
+
+      pub broken : (r c : ℕ) (a s l t : List ℕ) → Answer n g r c a s l t → 0 < r
+      broken r c a s l t answer =
+          answer .exactly .1
+          (rw (gave .positions-are, filled-is o n e m gave g filled) (plannable-rows o plannable))
+
+      joins : (a b : ℕ) → Edge g a b → (a < floorOf o .positions) × (b < floorOf o .positions) × T (joined (floorOf o) a b)
+      joins a b edge =
+          let l = rows-right .inside a b edge in
+          let p = gave .positions-are in
+          (subst (λ (k : ℕ). a < k) p (l .0), subst (λ (k : ℕ). b < k) p (l .1),
+          edge-joins (floorOf o) (gave .placed-well .edges-below) a b (subst (λ (x : List ℕ). Edge x a b) (filled-is o n e m gave g filled) edge))
+
+      pub planned : (h k start goal start′ t t′ : List ℕ) (w : ℕ) → Holds (startsOf o) h → Holds (goalsOf o) k → (((p : ℕ) → p < 64 → row h p ≡ row k p) → ⊥)
+          → Filled m (row h) (row start) → Filled m (row k) (row goal) → Trip g m (8 * (n * (n * n))) start t 0 start′ t′ w → Same (row start′) (row goal)
+          → Moves o n t t′ w
+      planned h k start goal start′ t t′ w a b differ fa fb trip ends =
+          let well = gave .placed-well in
+          record {
+            moves = trip .written;
+            count = (let e = trip .counted in omega arith);
+            few = (let x = went-written (trip .went) in let y = trip .few in omega arith);
+            replayed =
+                trip-planned (floorOf o) joins n m (startsOf o) (goalsOf o) (row h) (row k) (row start) (row goal) (well .starts-length ∙ sym (well .goals-length))
+                (held-by a) (held-by b) (start-placed h a) (goal-placed k b) fa fb trip (same-refl (row start)) ends;
+            packed = trip .packed t [] refl (packed-nothing t);
+            still = λ e. absurd (differ (same-tables e));
+          }
+        where
+          same-tables : startsOf o ≡ goalsOf o → (p : ℕ) → p < 64 → row h p ≡ row k p
+          same-tables e p l = held-agree (subst (λ (A : List ℕ). Holds A h) e a) b p
+
+  pub none-needed : (h k t : List ℕ) → Holds (startsOf o) h → Holds (goalsOf o) k → ((p : ℕ) → p < 64 → row h p ≡ row k p) → Moves o n t t 0
+  none-needed h k t a b same =
+      let well = gave .placed-well in
+      let alike = tables-alike (floorOf o .positions) (rackCount o) (well .starts-sound) a b (well .starts-length) (well .goals-length) same in
+      record {
+        moves = [];
+        count = refl;
+        few = omega arith;
+        replayed = nothing (floorOf o) (startsOf o) ∙ ap ended alike;
+        packed = packed-nothing t;
+        still = λ e. refl;
+      }
+    where
+      nothing : (F : Floor) (A : List ℕ) → replayMoves F A [] ≡ ended A
+      nothing F A = unfold replayMoves replayFrom in refl
