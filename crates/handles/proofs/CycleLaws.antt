@@ -2,6 +2,7 @@
 --
 --     lane-stage, lane-floor, lane-order    the stage ends before the floor does; the rows' words hold the floor; so do the row's places
 --     lane-apart           different places have different positions
+--     lane-new             a place from s on is none of the stage's positions
 --     stage-below          the stage's positions are on the floor; left-below, right-below, its ends
 --     stage-in, stage-out  the stage as a set and as the places before s
 --     beside-some, beside-is    v has a neighbour in the stage that is not u
@@ -49,6 +50,9 @@ module _ {n : ℕ} {g : List ℕ} {at : ℕ → ℕ} {s e u v : ℕ} (rows : Row
 
   pub lane-apart : (i j : ℕ) → i < n → j < n → i ≢ j → at i ≢ at j
   lane-apart i j hi hj other = by-cases (decLt i j) (λ l. lane .distinct i j l hj) (λ l e. lane .distinct j i (omega arith) hi (sym e))
+
+  pub lane-new : (i p : ℕ) → s ≤ i → i < n → Among at s p → at i ≢ p
+  lane-new i p le l a same = let b = a .before in lane-apart i (a .place) l (omega arith) (omega arith) (same ∙ sym (a .is))
 
   module _ (stage : ℕ) (has : (p : ℕ) → Has stage p ↔ Between at 0 s p) where
     pub stage-in : (p : ℕ) → Among at s p → Has stage p
@@ -177,17 +181,13 @@ module _ {n : ℕ} {g : List ℕ} {at : ℕ → ℕ} {s e u v : ℕ} (rows : Row
             edge : {a b c d : ℕ} → a ≡ c → b ≡ d → Edge g c d → Edge g a b
             edge {a} {b} {c} {d} x y z = subst (λ (p : ℕ). Edge g p b) (sym x) (subst (λ (q : ℕ). Edge g c q) (sym y) z)
 
-        -- a place of the handle is no place of the stage
-        new : (i : ℕ) (p : ℕ) → s ≤ i → i < n → Among at s p → at i ≢ p
-        new i p le l a same = let b = a .before in lane-apart i (a .place) l (omega arith) (omega arith) (same ∙ sym (a .is))
-
         distinct : (i j : ℕ) → i < j → j < e - s + size → cycle i ≢ cycle j
         distinct i j l h =
             let within = lane .within in
             by-cases (decLt j (e - s))
             (λ x same. lane .distinct (s + i) (s + j) (omega arith) (omega arith) (sym (inner i (omega arith)) ∙ same ∙ inner j x))
             (λ x. by-cases (decLt i (e - s))
-            (λ y same. new (s + i) (cycle j) (omega arith) (omega arith) (in-stage j (omega arith) h) (sym (inner i y) ∙ same))
+            (λ y same. lane-new (s + i) (cycle j) (omega arith) (omega arith) (in-stage j (omega arith) h) (sym (inner i y) ∙ same))
             (λ y same. nearest .path route-some .distinct (i - (e - s)) (j - (e - s)) (omega arith) (omega arith)
             (sym (later i (omega arith) (omega arith)) ∙ same ∙ later j (omega arith) h)))
 
