@@ -1,2 +1,3 @@
+pub mod StageLaws
 pub mod CycleLaws
 pub mod PlaceLaws

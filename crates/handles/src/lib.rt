@@ -61,7 +61,7 @@ fn after(order: &[u8; 64], i: usize, e: usize, v: usize) -> usize
     if e <= i + 1 {
         return v;
     }
-    order[i + 1] as usize
+    field::wide(order[i + 1])
 }
 
 // Carries the rack at place q of the handle to y, beside v, and leaves everything else as it stands: the rack goes along the handle to v and on to y, and
@@ -107,7 +107,7 @@ fn place_of(order: &[u8; 64], s: usize, e: usize, p: usize) -> usize
 {
     let mut i = s;
     while i + 1 < e {
-        if order[i] as usize == p {
+        if field::wide(order[i]) == p {
             return i;
         }
         i += 1;

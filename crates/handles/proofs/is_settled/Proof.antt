@@ -1,0 +1,71 @@
+-- `handles::is_settled` meets its contract.
+-- Assumes nothing.
+use Prim.Native.Nat.{ℕ, _-_, _≤_, _<_}
+use mathlib.Core.Path.{_≡_}
+use mathlib.Core.Bool.{true, false}
+use native.Mathlib.Omega.{arith}
+use Rattle.moving.specs.Journey.{row}
+use Rattle.handles.proofs.StageLaws.{Agreed, agreed-next}
+use Rattle.handles.proofs.is_settled.Statement.{statement}
+use Rattle.handles.proofs.is_settled.Tie as tie
+
+none : {s j : ℕ} → s ≤ j → j < s → ⊥
+none a b = omega arith
+
+wrong : false ≡ true → ⊥
+wrong t = let z : _≡_ {A = ℕ} 0 1 = cc in omega arith
+
+abbrev Inv-loop : tie.InvT-loop
+Inv-loop order s e goal racks i₀ i = (s ≤ i) × Agreed (row order) (row goal) (row racks) s i
+
+abbrev μ-loop : tie.MeasureT-loop
+μ-loop order s e goal racks i₀ i = e - i
+
+loop-holds : tie.Need-loop-holds Inv-loop μ-loop
+loop-holds c = (omega arith, λ j le l. absurd (none le l))
+
+element-copy-out-p : tie.Need-element-copy-out-p Inv-loop μ-loop
+element-copy-out-p c = let p = c .before .before .pre .0 in omega arith
+
+cast-p : tie.Need-cast-p Inv-loop μ-loop
+cast-p c = let x = c .before .before .before .pre .1 (c .before .before .loop .i) (c .before .loop-test .taken) in omega arith
+
+element-copy-out-if1 : tie.Need-element-copy-out-if1 Inv-loop μ-loop
+element-copy-out-if1 c = c .before .before .before .pre .1 (c .before .before .loop .i) (c .before .loop-test .taken)
+
+element-copy-out-if1-2 : tie.Need-element-copy-out-if1-2 Inv-loop μ-loop
+element-copy-out-if1-2 c = c .before .before .before .before .pre .1 (c .before .before .before .loop .i) (c .before .before .loop-test .taken)
+
+returns : tie.Need-returns Inv-loop μ-loop
+returns c = λ t. absurd (wrong t)
+
+add-i : tie.Need-add-i Inv-loop μ-loop
+add-i c = omega arith
+
+loop-less : tie.Need-loop-less Inv-loop μ-loop
+loop-less c = omega arith
+
+loop-again : tie.Need-loop-again Inv-loop μ-loop
+loop-again c = let a = c .before .before .before .before .before .before .args in
+    let l = c .before .before .before .before .before .loop in
+    (omega arith, agreed-next (row (a .order .now)) (row (a .goal .now)) (row (a .racks .now)) (a .s) (l .i) (c .if1 .left) (l .inv .1))
+
+returns-2 : tie.Need-returns-2 Inv-loop μ-loop
+returns-2 c = λ t j le l. c .before .loop .inv .1 j le (omega arith)
+
+pub is-settled-spec : {M : Type 1} → statement M
+is-settled-spec =
+    tie.close
+    (tie.spec
+    Inv-loop
+    μ-loop
+    loop-holds
+    element-copy-out-p
+    cast-p
+    element-copy-out-if1
+    element-copy-out-if1-2
+    returns
+    add-i
+    loop-less
+    loop-again
+    returns-2)
