@@ -1,3 +1,4 @@
 pub mod StageLaws
 pub mod CycleLaws
 pub mod PlaceLaws
+pub mod FetchLaws
