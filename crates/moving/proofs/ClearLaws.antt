@@ -3,7 +3,7 @@
 --     Vacating, vacating-none, vacating-next, vacating-all    the state of `vacancies`; vacancy-held, vacancy-vacant    one position of it
 --     Shifting, shifting-begin, shifting-held, shifting-vacant, shifting-step, shifting-end    the state of `shift`: the racks behind place i stand one place on, and place i is vacant
 --     Shifts, shifts-begin, shifts-step, shifts-end    and its journey
---     way-some, way-short, way-small, way-distinct, way-end, way-held, way-joined, cleared    the way to the nearest vacancy
+--     way-some, way-short, way-inside, way-small, way-distinct, way-end, way-held, way-joined, cleared    the way to the nearest vacancy
 -- Assumes nothing.
 use Prim.Native.Nat.{ℕ, _+_, _-_, _≤_, _<_}
 use mathlib.Core.Path.{_≡_, refl, sym, ap, subst, _∙_}
@@ -17,8 +17,8 @@ use Rattle.graph.specs.WalkLaws.{walk-last}
 use Rattle.graph.specs.Rows.{Edge, Rows}
 use Rattle.graph.specs.Nearest.{Nearest}
 use Rattle.graph.specs.NearestLaws.{nearest-found, nearest-short, nearest-inner}
-use Rattle.moving.specs.Journey.{row, Fits, Journey}
-use Rattle.moving.specs.JourneyLaws.{journey-none, journey-append, journey-more, fits-then, fits-less}
+use Rattle.moving.specs.Journey.{row, Journey, JourneyIn}
+use Rattle.moving.specs.JourneyLaws.{journey-in-none, journey-in-append, journey-in-more, journey-in-one}
 use Rattle.moving.specs.Turned.{Shifted}
 use Rattle.moving.specs.Cleared.{Reaches, Cleared}
 
@@ -105,23 +105,29 @@ module _ (at : ℕ → ℕ) (size : ℕ) (distinct : (i j : ℕ) → i < j → j
         others = s .others;
       }
 
--- The journey of `shift` as far as place i, whatever the rows are that join the way's positions.
+-- The journey of `shift` as far as place i, whatever the rows are that join the way's positions, and within any set that has them.
 abbrev pub Shifts : List ℕ → ℕ → ℕ → List ℕ → List ℕ → List ℕ → ℕ → ℕ → ℕ → List ℕ → List ℕ → List ℕ → ℕ → ℕ → Type 0
 Shifts at size m h l t w j i h′ l′ t′ w′ j′ =
-    (g : List ℕ) → ((x : ℕ) → x + 1 < size → Edge g (row at x) (row at (x + 1))) → Journey g m (size - 1 - i) h l t w j h′ l′ t′ w′ j′
+    (g : List ℕ) (free : ℕ) → ((x : ℕ) → x < size → Has free (row at x)) → ((x : ℕ) → x + 1 < size → Edge g (row at x) (row at (x + 1)))
+    → JourneyIn (Has free) g m (size - 1 - i) h l t w j h′ l′ t′ w′ j′
 
 module _ (at : List ℕ) (size m : ℕ) (h l t : List ℕ) (w j : ℕ) where
   pub shifts-begin : 0 < size → Shifts at size m h l t w j (size - 1) h l t w j
-  shifts-begin some g joined = journey-more (size - 1 - (size - 1)) (omega arith) (journey-none h l t w j)
+  shifts-begin some g free inside joined = journey-in-more (size - 1 - (size - 1)) (omega arith) (journey-in-none h l t w j)
 
   pub shifts-step : (u i : ℕ) (h′ l′ t′ h″ l″ t″ : List ℕ) (w′ j′ w″ j″ : ℕ) → u ≡ i + 1 → u < size → Shifts at size m h l t w j u h′ l′ t′ w′ j′
+      → row h′ (row at i) ≢ 0 → row h′ (row at (i + 1)) ≡ 0 → row h″ (row at i) ≡ 0 → row h″ (row at (i + 1)) ≡ row h′ (row at i)
       → ((g : List ℕ) → Edge g (row at i) (row at (i + 1)) → Journey g m 1 h′ l′ t′ w′ j′ h″ l″ t″ w″ j″) → Shifts at size m h l t w j i h″ l″ t″ w″ j″
-  shifts-step u i h′ l′ t′ h″ l″ t″ w′ j′ w″ j″ up place s one g joined =
-      journey-more (size - 1 - i) (omega arith) (journey-append (s g joined) (one g (joined i (omega arith))))
+  shifts-step u i h′ l′ t′ h″ l″ t″ w′ j′ w″ j″ up place s held vacant left entered one g free inside joined =
+      journey-in-more (size - 1 - i) (omega arith)
+      (journey-in-append (s g free inside joined)
+      (journey-in-one (row at i) (row at (i + 1)) held left vacant (λ e. held (sym entered ∙ e)) (inside i (omega arith)) (inside (i + 1) (omega arith))
+      (one g (joined i (omega arith)))))
 
   pub shifts-end : (i : ℕ) (h′ l′ t′ : List ℕ) (w′ j′ : ℕ) → i ≡ 0 → Shifts at size m h l t w j i h′ l′ t′ w′ j′
-      → (g : List ℕ) → ((x : ℕ) → x + 1 < size → Edge g (row at x) (row at (x + 1))) → Journey g m (size - 1) h l t w j h′ l′ t′ w′ j′
-  shifts-end i h′ l′ t′ w′ j′ zero s g joined = journey-more (size - 1) (omega arith) (s g joined)
+      → (g : List ℕ) (free : ℕ) → ((x : ℕ) → x < size → Has free (row at x)) → ((x : ℕ) → x + 1 < size → Edge g (row at x) (row at (x + 1)))
+      → JourneyIn (Has free) g m (size - 1) h l t w j h′ l′ t′ w′ j′
+  shifts-end i h′ l′ t′ w′ j′ zero s g free inside joined = journey-in-more (size - 1) (omega arith) (s g free inside joined)
 
 -- The way that a search for a vacancy finds, as `shift` asks for it.
 module _ {n : ℕ} {g : List ℕ} (h at : List ℕ) (free vacant p size : ℕ) (rows : Rows n g) (below : (q : ℕ) → Has free q → q < n)
@@ -135,11 +141,11 @@ module _ {n : ℕ} {g : List ℕ} (h at : List ℕ) (free vacant p size : ℕ) (
   pub way-short : size ≤ n
   way-short = nearest-short nearest n below
 
-  inside : (i : ℕ) → i < size → Has free (row at i)
-  inside = nearest .path way-some .inside
+  pub way-inside : (i : ℕ) → i < size → Has free (row at i)
+  way-inside = nearest .path way-some .inside
 
   pub way-small : (i : ℕ) → i < size → row at i < 64
-  way-small i l = let b = below (row at i) (inside i l) in let s = rows .small in omega arith
+  way-small i l = let b = below (row at i) (way-inside i l) in let s = rows .small in omega arith
 
   pub way-distinct : (i j : ℕ) → i < j → j < size → row at i ≢ row at j
   way-distinct = nearest .path way-some .distinct
@@ -148,7 +154,7 @@ module _ {n : ℕ} {g : List ℕ} (h at : List ℕ) (free vacant p size : ℕ) (
   way-end = vacancies (row at (size - 1)) .0 (nearest .target way-some) .1
 
   pub way-held : (i : ℕ) → i + 1 < size → row h (row at i) ≢ 0
-  way-held i l e = nearest-inner nearest i l (vacancies (row at i) .1 (below (row at i) (inside i (omega arith)), e))
+  way-held i l e = nearest-inner nearest i l (vacancies (row at i) .1 (below (row at i) (way-inside i (omega arith)), e))
 
   pub way-joined : (i : ℕ) → i + 1 < size → Edge g (row at i) (row at (i + 1))
   way-joined = nearest .path way-some .joined
@@ -157,5 +163,5 @@ module _ {n : ℕ} {g : List ℕ} (h at : List ℕ) (free vacant p size : ℕ) (
   cleared k s =
       record {
         vacant = subst (λ (x : ℕ). row k x ≡ 0) (nearest .path way-some .first) (s .first);
-        outside = λ q out. s .others q (λ i l e. out (subst (Has free) e (inside i l)));
+        outside = λ q out. s .others q (λ i l e. out (subst (Has free) e (way-inside i l)));
       }

@@ -10,7 +10,6 @@
 --     carried-there, carried-vacant, carried-left, carried-other, carried-same    the table with a rack carried to y: at y; where nothing stood;
 --                             where that rack stood; where another stands; of tables that agree
 --     Avoids y ms             no move of ms leaves or enters y
---     avoids-append           moves that avoid y and then more of them
 --     back-carried            moves taken back where a rack was carried to y meanwhile lead back but for that rack: carry away by conjugation
 --     Taken, went-back        the moves that are made where others are taken back
 --     went-renamed            the same moves with racks renamed
@@ -29,7 +28,7 @@ use lib.Dec.{eqb, leb}
 use lib.ListN.{length}
 use borrow.Author.Tests.{eq-eqb, ne-eqb, le-leb, lt-leb}
 use Rattle.graph.specs.Walk.{Symmetric}
-use Rattle.moving.specs.Went.{Same, Move, Went, Back}
+use Rattle.moving.specs.Went.{Same, Move, Went, Within, Back}
 use Rattle.moving.specs.Went.Went.{stay, real, stand-in}
 use Rattle.moving.specs.Went.Back.{done, skip, back}
 use Rattle.moving.specs.WentLaws.{same-then, move-from, move-back, move-renamed, went-from}
@@ -100,13 +99,8 @@ module _ (r y : ℕ) (h : ℕ → ℕ) where
   pub carried-same : (k : ℕ → ℕ) (p : ℕ) → h p ≡ k p → carried r y h p ≡ carried r y k p
   carried-same k p e = ap (λ (x : ℕ). cond (eqb p y) r (cond (eqb x r) 0 x)) e
 
-pub data Avoids (y : ℕ) : List (ℕ × ℕ) → Type 0 where
-  none : Avoids y []
-  more : {a b : ℕ} {ms : List (ℕ × ℕ)} → y ≢ a → y ≢ b → Avoids y ms → Avoids y ((a, b) ∷ ms)
-
-pub avoids-append : {y : ℕ} {ms ns : List (ℕ × ℕ)} → Avoids y ms → Avoids y ns → Avoids y (ms ++ ns)
-avoids-append Avoids.none v = v
-avoids-append (Avoids.more a b u) v = Avoids.more a b (avoids-append u v)
+abbrev pub Avoids : ℕ → List (ℕ × ℕ) → Type 0
+Avoids y ms = Within (λ p. y ≢ p) ms
 
 -- A move that neither leaves nor enters y, where rack r is carried to y: of another rack it is a move still, of r itself it is none.
 module _ {E : ℕ → ℕ → Type 0} (r y : ℕ) {h k : ℕ → ℕ} {a b : ℕ} (leaves : y ≢ a) (enters : y ≢ b) (x : Move E h a b k) where
@@ -144,8 +138,8 @@ pub back-carried : {E : ℕ → ℕ → Type 0} (s : Symmetric E) {m : ℕ} (r y
     → Went E m A ms ws B → Back E (carried r y A) past i → Back E (carried r y B) (onto ms past) i
 unfolding onto
 back-carried s r y {A} {B} v (stay t) b = back-from (λ p. carried-same r y B A p (sym (t p))) b
-back-carried s r y (Avoids.more u n v) (real x l w) b = back-carried s r y v w (carried-back r y u n x s b)
-back-carried s r y (Avoids.more u n v) (stand-in x l w) b = back-carried s r y v w (carried-back r y u n x s b)
+back-carried s r y (Within.more u n v) (real x l w) b = back-carried s r y v w (carried-back r y u n x s b)
+back-carried s r y (Within.more u n v) (stand-in x l w) b = back-carried s r y v w (carried-back r y u n x s b)
 
 pub record Taken (E : ℕ → ℕ → Type 0) (m : ℕ) (h : ℕ → ℕ) (past : List (ℕ × ℕ)) (k : ℕ → ℕ) : Type 0 where
   pub moves : List (ℕ × ℕ)

@@ -22,7 +22,7 @@ use lib.ListN.{replicate, length-replicate}
 use Rattle.sets.specs.Sets.{bit}
 use Rattle.graph.specs.Rows.{Edge, Rows}
 use Rattle.graph.specs.Examples.{rows-tested}
-use Rattle.moving.specs.Went.{Move, Went, Back}
+use Rattle.moving.specs.Went.{Move, Went, Within, Back}
 use Rattle.moving.specs.Went.Went.{stay, real, stand-in}
 use Rattle.moving.specs.Went.Back.{done}
 use Rattle.moving.specs.WentLaws.{same-refl}
@@ -115,8 +115,8 @@ exchanged = back-renamed (line-rows .symmetric) swap refl swap-some went (done (
 
 pub away : Avoids 3 moves
 away =
-    Avoids.more {a = 1} {b = 2} (λ e. omega arith) (λ e. omega arith)
-    (Avoids.more {a = 0} {b = 1} (λ e. omega arith) (λ e. omega arith) Avoids.none)
+    Within.more {a = 1} {b = 2} (λ e. omega arith) (λ e. omega arith)
+    (Within.more {a = 0} {b = 1} (λ e. omega arith) (λ e. omega arith) Within.none)
 
 pub carried-away : Back (Edge line) (carried 2 3 (row (table 0 1 2))) past (carried 2 3 (row (table 1 2 0)))
 unfolding onto

@@ -11,6 +11,7 @@
 --     Trip g m c h t w h′ t′ w′  at most c moves, each legal at its turn by the rows g, lead from h to h′; those of the racks up to m are packed into
 --                                the plan
 --     Journey g m c h l t w j h′ l′ t′ w′ j′    such a trip, with all of its moves logged
+--     JourneyIn P g m c h l t w j h′ l′ t′ w′ j′    such a journey, each of whose moves leaves a position of P and enters one
 -- Assumes nothing.
 use Prim.Native.Nat.{ℕ, _+_, _*_, _/_, _≤_, _<_}
 use mathlib.Core.Path.{_≡_}
@@ -18,7 +19,7 @@ use mathlib.Core.List.{List, [], _∷_, _++_}
 use lib.ListN.{getD, length, drop}
 use Rattle.field.specs.Packing.{pack}
 use Rattle.graph.specs.Rows.{Edge}
-use Rattle.moving.specs.Went.{Went}
+use Rattle.moving.specs.Went.{Went, Within}
 
 abbrev pub row : List ℕ → ℕ → ℕ
 row h p = getD h p 0
@@ -60,3 +61,7 @@ pub record Journey (g : List ℕ) (m c : ℕ) (h l t : List ℕ) (w j : ℕ) (h�
   pub log : length l′ ≡ length l
   pub logged : j′ ≡ j + length (trip .moves)
   pub trail : (s : ℕ) (past : List (ℕ × ℕ)) → s ≤ j → Trail l s j past → Trail l′ s j′ (onto (trip .moves) past)
+
+pub record JourneyIn (P : ℕ → Type 0) (g : List ℕ) (m c : ℕ) (h l t : List ℕ) (w j : ℕ) (h′ l′ t′ : List ℕ) (w′ j′ : ℕ) : Type 0 where
+  pub journey : Journey g m c h l t w j h′ l′ t′ w′ j′
+  pub within : Within P (journey .trip .moves)

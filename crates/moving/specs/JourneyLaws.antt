@@ -7,6 +7,8 @@
 --     trip-none, journey-none      no move
 --     trip-append, journey-append  a trip or a journey, and then another
 --     trip-more, journey-more      a bound that is higher
+--     journey-in-none, journey-in-append, journey-in-more, journey-in-less    the same of journeys within a set, and within a larger one
+--     journey-in-one       a journey of one move, from a to b
 --     trip-written         a trip writes no more moves than its bound
 --     made, journey-stand-in, journey-real    one move: of a stand-in, which is logged; of a real rack, which is written too
 --     fits-then            where there is room for c and d moves, there is room for d after c of them
@@ -28,10 +30,10 @@ use Rattle.field.specs.Packing.{pack, length-pack, putPair, added, added-is, pu
 use Rattle.sets.specs.Sets.{Has}
 use Rattle.sets.specs.SetLaws.{has-only}
 use Rattle.graph.specs.Rows.{Edge}
-use Rattle.moving.specs.Went.{Move, Went}
+use Rattle.moving.specs.Went.{Move, Went, Within}
 use Rattle.moving.specs.Went.Went.{stay, real, stand-in}
-use Rattle.moving.specs.WentLaws.{same-refl, went-append}
-use Rattle.moving.specs.Journey.{row, Packed, onto, Trail, Fits, Room, Trip, Journey}
+use Rattle.moving.specs.WentLaws.{same-refl, went-append, within-less, within-append, went-one}
+use Rattle.moving.specs.Journey.{row, Packed, onto, Trail, Fits, Room, Trip, Journey, JourneyIn}
 use Rattle.moving.specs.Journey.Trail.{start, entry}
 
 length-putPair : (t : List ℕ) (j a b : ℕ) → length (putPair t j a b) ≡ length t
@@ -166,6 +168,31 @@ module _ {g : List ℕ} {m : ℕ} where
             subst (Trail l″ s j″) (sym (onto-append ms ns past))
             (b .trail s (onto ms past) (let y = a .logged in omega arith) (a .trail s past le x));
       }
+
+  module _ {P : ℕ → Type 0} where
+    pub journey-in-none : (h l t : List ℕ) (w j : ℕ) → JourneyIn P g m 0 h l t w j h l t w j
+    unfolding journey-none trip-none
+    journey-in-none h l t w j = record { journey = journey-none h l t w j; within = Within.none }
+
+    pub journey-in-append : {c d : ℕ} {h l t h′ l′ t′ h″ l″ t″ : List ℕ} {w j w′ j′ w″ j″ : ℕ}
+        → JourneyIn P g m c h l t w j h′ l′ t′ w′ j′ → JourneyIn P g m d h′ l′ t′ w′ j′ h″ l″ t″ w″ j″
+        → JourneyIn P g m (c + d) h l t w j h″ l″ t″ w″ j″
+    unfolding journey-append trip-append
+    journey-in-append a b = record { journey = journey-append (a .journey) (b .journey); within = within-append (a .within) (b .within) }
+
+    pub journey-in-more : {c : ℕ} {h l t h′ l′ t′ : List ℕ} {w j w′ j′ : ℕ} (d : ℕ) → c ≤ d → JourneyIn P g m c h l t w j h′ l′ t′ w′ j′
+        → JourneyIn P g m d h l t w j h′ l′ t′ w′ j′
+    unfolding journey-more trip-more
+    journey-in-more d le a = record { journey = journey-more d le (a .journey); within = a .within }
+
+    pub journey-in-less : {Q : ℕ → Type 0} {c : ℕ} {h l t h′ l′ t′ : List ℕ} {w j w′ j′ : ℕ} → ((p : ℕ) → P p → Q p)
+        → JourneyIn P g m c h l t w j h′ l′ t′ w′ j′ → JourneyIn Q g m c h l t w j h′ l′ t′ w′ j′
+    journey-in-less f a = record { journey = a .journey; within = within-less f (a .within) }
+
+    pub journey-in-one : {h l t h′ l′ t′ : List ℕ} {w j w′ j′ : ℕ} (a b : ℕ) → row h a ≢ 0 → row h′ a ≡ 0 → row h b ≡ 0 → row h′ b ≢ 0 → P a → P b
+        → Journey g m 1 h l t w j h′ l′ t′ w′ j′ → JourneyIn P g m 1 h l t w j h′ l′ t′ w′ j′
+    journey-in-one a b held left vacant entered pa pb x =
+        record { journey = x; within = went-one a b held left vacant entered pa pb (x .trip .went) (x .trip .few) }
 
   -- a trip writes no more moves than it makes
   pub trip-written : {c : ℕ} {h t h′ t′ : List ℕ} {w w′ : ℕ} → Trip g m c h t w h′ t′ w′ → w′ ≤ w + c

@@ -5,6 +5,7 @@
 --     Same h k                 the tables h and k agree at every position
 --     Move E h a b k           the rack at a moves along an edge of E to b, which is vacant: that makes k of h
 --     Went E m h ms ws k       the moves ms, each legal at its turn, lead from h to k; ws are those of them that move a rack up to m
+--     Within P ms              each move of ms leaves a position of P and enters one
 --     Back E h ms k            the moves ms turned round, each skipped where nothing stands at the position to leave, lead from h to k
 -- Assumes nothing.
 use Prim.Native.Nat.{ℕ, _≤_, _<_}
@@ -29,6 +30,10 @@ pub data Went (E : ℕ → ℕ → Type 0) (m : ℕ) : (ℕ → ℕ) → List (�
   stay : {h k : ℕ → ℕ} → Same h k → Went E m h [] [] k
   real : {h i k : ℕ → ℕ} {a b : ℕ} {ms ws : List (ℕ × ℕ)} → Move E h a b i → h a ≤ m → Went E m i ms ws k → Went E m h ((a, b) ∷ ms) ((a, b) ∷ ws) k
   stand-in : {h i k : ℕ → ℕ} {a b : ℕ} {ms ws : List (ℕ × ℕ)} → Move E h a b i → m < h a → Went E m i ms ws k → Went E m h ((a, b) ∷ ms) ws k
+
+pub data Within (P : ℕ → Type 0) : List (ℕ × ℕ) → Type 0 where
+  none : Within P []
+  more : {a b : ℕ} {ms : List (ℕ × ℕ)} → P a → P b → Within P ms → Within P ((a, b) ∷ ms)
 
 pub data Back (E : ℕ → ℕ → Type 0) : (ℕ → ℕ) → List (ℕ × ℕ) → (ℕ → ℕ) → Type 0 where
   done : {h k : ℕ → ℕ} → Same h k → Back E h [] k

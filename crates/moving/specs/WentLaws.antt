@@ -6,16 +6,19 @@
 --     move-renamed            legality does not look at rack numbers: racks renamed by f, which leaves vacant what is vacant
 --     went-from, went-to      the same moves between tables that agree
 --     went-append             moves and then more of them
+--     within-less, within-append    moves within a set are within a larger one; moves within it and then more of them
+--     went-one                at most one move, after which a is vacant and was not, and b is not and was: just the move from a to b
 -- Assumes nothing.
 use Prim.Native.Nat.{ℕ, _≤_, _<_}
 use mathlib.Core.Path.{_≡_, refl, sym, ap, subst, _∙_}
 use mathlib.Core.List.{List, [], _∷_, _++_}
 use mathlib.Core.Logic.{_≢_, by-cases}
-use native.Mathlib.Decide.{decLe}
+use native.Mathlib.Decide.{ℕ-discrete, decLe}
 use native.Mathlib.Omega.{arith}
 use Rattle.graph.specs.Walk.{Symmetric}
-use Rattle.moving.specs.Went.{Same, Move, Went}
+use Rattle.moving.specs.Went.{Same, Move, Went, Within}
 use Rattle.moving.specs.Went.Went.{stay, real, stand-in}
+use lib.ListN.{length}
 
 pub same-refl : (h : ℕ → ℕ) → Same h h
 same-refl h p = refl
@@ -89,3 +92,38 @@ module _ {E : ℕ → ℕ → Type 0} {m : ℕ} where
   went-append (stay s) v = went-from s v
   went-append (real x l w) v = real x l (went-append w v)
   went-append (stand-in x l w) v = stand-in x l (went-append w v)
+
+module _ {P : ℕ → Type 0} where
+  pub within-less : {Q : ℕ → Type 0} {ms : List (ℕ × ℕ)} → ((p : ℕ) → P p → Q p) → Within P ms → Within Q ms
+  within-less f Within.none = Within.none
+  within-less f (Within.more a b u) = Within.more (f _ a) (f _ b) (within-less f u)
+
+  pub within-append : {ms ns : List (ℕ × ℕ)} → Within P ms → Within P ns → Within P (ms ++ ns)
+  within-append Within.none v = v
+  within-append (Within.more a b u) v = Within.more a b (within-append u v)
+
+  module _ {E : ℕ → ℕ → Type 0} {h k : ℕ → ℕ} (a b : ℕ) (held : h a ≢ 0) (left : k a ≡ 0) (vacant : h b ≡ 0) (entered : k b ≢ 0) (pa : P a) (pb : P b) where
+    -- the move leaves a, since no other way makes a vacant, and enters b
+    one-move : {i : ℕ → ℕ} {x y : ℕ} → Move E h x y i → Same i k → Within P ((x, y) ∷ [])
+    one-move {i} {x} {y} move same = Within.more (subst P leaves pa) (subst P enters pb) Within.none
+      where
+        leaves : a ≡ x
+        leaves =
+            by-cases (ℕ-discrete a x)
+            (λ e. e)
+            (λ e. absurd (held (sym (move .others a e (λ f. held (ap h f ∙ move .vacant))) ∙ same a ∙ left)))
+
+        enters : b ≡ y
+        enters =
+            by-cases (ℕ-discrete b y)
+            (λ e. e)
+            (λ e. absurd (entered (sym (same b) ∙ move .others b (λ f. move .held (sym (ap h f) ∙ vacant)) e ∙ vacant)))
+
+    pub went-one : {m : ℕ} {ms ws : List (ℕ × ℕ)} → Went E m h ms ws k → length ms ≤ 1 → Within P ms
+    went-one (stay s) few = Within.none
+    went-one (real x l (stay s)) few = one-move x s
+    went-one (real x l (real y r w)) few = absurd (omega arith)
+    went-one (real x l (stand-in y r w)) few = absurd (omega arith)
+    went-one (stand-in x l (stay s)) few = one-move x s
+    went-one (stand-in x l (real y r w)) few = absurd (omega arith)
+    went-one (stand-in x l (stand-in y r w)) few = absurd (omega arith)

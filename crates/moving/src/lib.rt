@@ -9,7 +9,7 @@ ghost use Rattle.sets.specs.Sets.{Has};
 ghost use Rattle.graph.specs.Connected.{Robust};
 ghost use Rattle.graph.specs.Rows.{Edge, Rows};
 ghost use Rattle.moving.specs.Went.{Same};
-ghost use Rattle.moving.specs.Journey.{row, Fits, Trip, Journey};
+ghost use Rattle.moving.specs.Journey.{row, Fits, Trip, Journey, JourneyIn};
 ghost use Rattle.moving.specs.Turned.{Turned, Shifted, Undoing};
 ghost use Rattle.moving.specs.Cleared.{Reaches, Cleared, Vacancy, Brought};
 
@@ -88,7 +88,7 @@ fn shift(
     tally: Tally,
 ) -> Tally
     requires { ⌜ (0 < size) × (size ≤ 64) × ((i : ℕ) → i < size → row (now at) i < 64) × ((i j : ℕ) → i < j → j < size → row (now at) i ≢ row (now at) j) × (row (now racks) (row (now at) (size - 1)) ≡ 0) × ((i : ℕ) → i + 1 < size → row (now racks) (row (now at) i) ≢ 0) ⌝ ∗ ⌜ Fits (now racks) (now log) (now tail) (tally .written) (tally .logged) (size - 1) ⌝ }
-    ensures { λ r. ⌜ ((g : List ℕ) → ((i : ℕ) → i + 1 < size → Edge g (row (now (at .entry)) i) (row (now (at .entry)) (i + 1))) → Journey g real (size - 1) (now (racks .entry)) (now (log .entry)) (now (tail .entry)) (tally .written) (tally .logged) (now (racks .exit)) (now (log .exit)) (now (tail .exit)) (r .written) (r .logged)) ⌝ ∗ ⌜ Shifted (row (now (at .entry))) size (row (now (racks .entry))) (row (now (racks .exit))) ⌝ }
+    ensures { λ r. ⌜ ((g : List ℕ) (free : ℕ) → ((i : ℕ) → i < size → Has free (row (now (at .entry)) i)) → ((i : ℕ) → i + 1 < size → Edge g (row (now (at .entry)) i) (row (now (at .entry)) (i + 1))) → JourneyIn (Has free) g real (size - 1) (now (racks .entry)) (now (log .entry)) (now (tail .entry)) (tally .written) (tally .logged) (now (racks .exit)) (now (log .exit)) (now (tail .exit)) (r .written) (r .logged)) ⌝ ∗ ⌜ Shifted (row (now (at .entry))) size (row (now (racks .entry))) (row (now (racks .exit))) ⌝ }
 {
     let mut tally = tally;
     let mut i = size - 1;
@@ -114,7 +114,7 @@ pub fn clear(
     tally: Tally,
 ) -> Tally
     requires { ⌜ Rows n (now rows) ⌝ ∗ ⌜ (p < n) × ((q : ℕ) → Has free q → q < n) × Reaches (Edge (now rows)) (Has free) (row (now racks)) p ⌝ ∗ ⌜ Fits (now racks) (now log) (now tail) (tally .written) (tally .logged) (n - 1) ⌝ }
-    ensures { λ r. ⌜ Journey (now (rows .entry)) real (n - 1) (now (racks .entry)) (now (log .entry)) (now (tail .entry)) (tally .written) (tally .logged) (now (racks .exit)) (now (log .exit)) (now (tail .exit)) (r .written) (r .logged) ⌝ ∗ ⌜ Cleared (Has free) p (row (now (racks .entry))) (row (now (racks .exit))) ⌝ }
+    ensures { λ r. ⌜ JourneyIn (Has free) (now (rows .entry)) real (n - 1) (now (racks .entry)) (now (log .entry)) (now (tail .entry)) (tally .written) (tally .logged) (now (racks .exit)) (now (log .exit)) (now (tail .exit)) (r .written) (r .logged) ⌝ ∗ ⌜ Cleared (Has free) p (row (now (racks .entry))) (row (now (racks .exit))) ⌝ }
 {
     let vacant = vacancies(racks, n);
     let route = graph::search(rows, free, vacant, p);

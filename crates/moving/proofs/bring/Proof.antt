@@ -168,7 +168,7 @@ make-move-requires c κs =
     let x = (bring-small (r .at) (a .region) _ (a .from) (a .to) (r .size) rows (p .0) (q .0) (p .1) (p .2) only near) (l .k - 1) (omega arith) in
     let y = (bring-small (r .at) (a .region) _ (a .from) (a .to) (r .size) rows (p .0) (q .0) (p .1) (p .2) only near) (l .k) more in
     let held = bring-held (r .at) (a .region) _ (a .from) (a .to) (r .size) rows (p .0) (q .0) (p .1) (p .2) only near (row (a .racks .now)) (row (l .racks)) (l .k) _ (p .3) more (l .inv .0) (c .before .before .before .before .before .before .before .before .before .without .ensures) _ (cl .ensures .1) in
-    ((omega arith, omega arith, λ z. p .3 (sym held ∙ z), cl .ensures .1 .vacant), fits-less 1 (omega arith) (fits-then (fits-less ((a .n - 1) + (1 + a .n * (a .n - (l .k + 1)))) (omega arith) (l .inv .2)) (cl .ensures .0)))
+    ((omega arith, omega arith, λ z. p .3 (sym held ∙ z), cl .ensures .1 .vacant), fits-less 1 (omega arith) (fits-then (fits-less ((a .n - 1) + (1 + a .n * (a .n - (l .k + 1)))) (omega arith) (l .inv .2)) (cl .ensures .0 .journey)))
 
 add-k : tie.Need-add-k Inv-loop μ-loop
 add-k c =
@@ -231,9 +231,9 @@ loop-again c =
     let far : a .n * (l .k + 1 - 1) ≡ a .n * l .k = ap (λ (x : ℕ). a .n * x) back in
     let bound = passed (a .n) (l .k) k0 (omega arith) in
     let go = m .ensures .0 (a .rows .now) (bring-joined (r .at) (a .region) _ (a .from) (a .to) (r .size) rows (p .0) (q .0) (p .1) (p .2) only near (row (a .racks .now)) (row (l .racks)) (l .k) _ (p .3) more (l .inv .0) (c .before .before .before .before .before .before .before .before .before .before .before .before .without .ensures)) in
-    let fits = fits-then (fits-less ((a .n - 1) + (1 + a .n * (a .n - (l .k + 1)))) (omega arith) (l .inv .2)) (cl .ensures .0) in (
+    let fits = fits-then (fits-less ((a .n - 1) + (1 + a .n * (a .n - (l .k + 1)))) (omega arith) (l .inv .2)) (cl .ensures .0 .journey) in (
       bringing-step (r .at) (a .region) _ (a .from) (a .to) (r .size) rows (p .0) (q .0) (p .1) (p .2) only near (row (a .racks .now)) (row (l .racks)) (l .k) _ (p .3) more (l .inv .0) (c .before .before .before .before .before .before .before .before .before .before .before .before .without .ensures) _ (cl .ensures .1) _ (m .ensures .1 .0) (m .ensures .1 .1) (m .ensures .1 .2),
-      journey-more (a .n * (l .k + 1 - 1)) (omega arith) (journey-append (journey-append (l .inv .1) (cl .ensures .0)) go),
+      journey-more (a .n * (l .k + 1 - 1)) (omega arith) (journey-append (journey-append (l .inv .1) (cl .ensures .0 .journey)) go),
       fits-then fits go,
     )
 

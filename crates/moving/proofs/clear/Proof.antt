@@ -2,8 +2,8 @@
 -- Assumes nothing.
 use Prim.Native.Nat.{_-_}
 use native.Mathlib.Omega.{arith}
-use Rattle.moving.specs.JourneyLaws.{journey-more, fits-less}
-use Rattle.moving.proofs.ClearLaws.{way-some, way-short, way-small, way-distinct, way-end, way-held, way-joined, cleared}
+use Rattle.moving.specs.JourneyLaws.{journey-in-more, fits-less}
+use Rattle.moving.proofs.ClearLaws.{way-some, way-short, way-inside, way-small, way-distinct, way-end, way-held, way-joined, cleared}
 use Rattle.moving.proofs.clear.Statement.{statement}
 use Rattle.moving.proofs.clear.Tie as tie
 
@@ -44,7 +44,7 @@ returns c =
     let reaches = s .pre .1 .0 .2 in
     let short = (way-short (a .racks .now) (r .at) (a .free) v (a .p) (r .size) rows below vs reaches near) in
     let e = c .before .before .shift .ensures in
-    (journey-more (a .n - 1) (omega arith) (e .0 (a .rows .now) (way-joined (a .racks .now) (r .at) (a .free) v (a .p) (r .size) rows below vs reaches near)), cleared (a .racks .now) (r .at) (a .free) v (a .p) (r .size) rows below vs reaches near (c .before .before .shift .last .1 .1 .1 .0) (e .1))
+    (journey-in-more (a .n - 1) (omega arith) (e .0 (a .rows .now) (a .free) (way-inside (a .racks .now) (r .at) (a .free) v (a .p) (r .size) rows below vs reaches near) (way-joined (a .racks .now) (r .at) (a .free) v (a .p) (r .size) rows below vs reaches near)), cleared (a .racks .now) (r .at) (a .free) v (a .p) (r .size) rows below vs reaches near (c .before .before .shift .last .1 .1 .1 .0) (e .1))
 
 pub clear-spec : {M : Type 1} → statement M
 clear-spec =

@@ -77,10 +77,12 @@ loop-again c =
     let place = v .place in
     let some = c .before .before .before .before .before .before .before .before .loop-test .taken in
     let m = c .before .before .make-move in
+    let held = shifting-held (row (a .at .now)) (a .size) (s .pre .0 .3) (row (a .racks .now)) (row (l .racks)) (l .i) some v (s .pre .0 .5) in
+    let vacant = shifting-vacant (row (a .at .now)) (a .size) (s .pre .0 .3) (row (a .racks .now)) (row (l .racks)) (l .i) some v in
     let up : l .i ≡ l .i - 1 + 1 = omega arith in (
       m .kept .1 .1 .1 .1 .1 .0 ∙ l .inv .0,
       shifting-step (row (a .at .now)) (a .size) (s .pre .0 .3) (row (a .racks .now)) (row (l .racks)) _ (l .i) (l .i - 1) up v (m .ensures .1 .0) (m .ensures .1 .1) (m .ensures .1 .2),
-      shifts-step (a .at .now) (a .size) (a .real) (a .racks .now) (a .log .now) (a .tail .now) (a .tally .written) (a .tally .logged) (l .i) (l .i - 1) _ _ _ _ _ _ _ _ _ _ up place (l .inv .2) (m .ensures .0),
+      shifts-step (a .at .now) (a .size) (a .real) (a .racks .now) (a .log .now) (a .tail .now) (a .tally .written) (a .tally .logged) (l .i) (l .i - 1) _ _ _ _ _ _ _ _ _ _ up place (l .inv .2) held vacant (m .ensures .1 .1) (m .ensures .1 .2) (m .ensures .0),
       fits-move (a .real) _ _ (l .i - 1) (s .pre .0 .2 (l .i - 1) (omega arith)) (fits-less (1 + (l .i - 1)) (omega arith) (l .inv .3)) (m .ensures .0),
     )
 
