@@ -1,11 +1,12 @@
 -- Laws of fetching the next rack for a handle into the stage.
 --
+--     fails                    a test that failed
 --     square-less, square-three, square-four, square-most    n * n against n * (n - 1), n * (n - 3), 4 * n and 4096
 --     fetch-bound              two clearings and a carrying are within the bound
 --     place-bound              opening, fetching, bringing, clearing and turning are
 --     region-in, region-out    the region as a set
 --     region-below             is on the floor
---     fetch-already            the rack is in the stage
+--     fetch-already, fetch-cleared    the rack is in the stage, with a vacancy, with v vacant
 --     fetch-reaches-beside     from y a walk inside the region leads to a vacancy
 --     fetch-reaches-end        from v one inside the region without y
 --     fetch-kept               clearing in the region keeps the state
@@ -15,6 +16,7 @@
 -- Assumes nothing.
 use Prim.Native.Nat.{ℕ, suc, _+_, _-_, _*_, _≤_, _<_}
 use mathlib.Core.Path.{_≡_, refl, sym, ap, subst, _∙_}
+use mathlib.Core.Bool.{Bool, true, false}
 use mathlib.Core.List.{List}
 use mathlib.Core.Logic.{_↔_, _≢_, by-cases, inl, inr, ⊎-elim}
 use native.Mathlib.Decide.{ℕ-discrete, decLt}
@@ -37,6 +39,10 @@ use Rattle.settling.specs.TableLaws.{table-other}
 use Rattle.settling.specs.Lane.{Lane, Placing, Fetched}
 use Rattle.handles.proofs.CycleLaws.{lane-stage, lane-apart, lane-new, stage-below, stage-in, stage-out}
 use Rattle.handles.proofs.PlaceLaws.{Region, placing-kept, placing-cleared, placing-vacant, rack-some, rack-other}
+
+-- a test that failed
+pub fails : {b : Bool} {P : Type 0} → (b ≡ true) ↔ P → b ≡ false → P → ⊥
+fails both f x = let t = both .1 x in let z : _≡_ {A = ℕ} 0 1 = cc in omega arith
 
 pub square-less : (n : ℕ) → 0 < n → n * n ≡ n * (n - 1) + n
 square-less n some =
@@ -125,6 +131,9 @@ module _ {n : ℕ} {g : List ℕ} {at : ℕ → ℕ} {s e u v : ℕ} (rows : Row
     pub fetch-already : (p : ℕ) → h p ≡ T (at (e - k - 1)) → Has stage p → Vacancy (Among at s) h → Fetched n at T s e k (T (at (e - k - 1))) h
     fetch-already p is there z = record { placing = placing; from = p; in-stage = stage-out rows lane stage has p there; there = is; vacancy = z }
 
+    pub fetch-cleared : (p : ℕ) → h p ≡ T (at (e - k - 1)) → Has stage p → h v ≡ 0 → Fetched n at T s e k (T (at (e - k - 1))) h
+    fetch-cleared p is there vacant = fetch-already p is there (record { at = v; there = lane .handle .right; vacant = vacant })
+
     pub fetch-place : (p : ℕ) → p < n → h p ≡ T (at (e - k - 1)) → (Has stage p → ⊥) → (i : ℕ) × (s ≤ i) × (i < e) × (at i ≡ p)
     fetch-place p l is away =
         let a = lane .every p l in
@@ -139,9 +148,9 @@ module _ {n : ℕ} {g : List ℕ} {at : ℕ → ℕ} {s e u v : ℕ} (rows : Row
     pub fetch-held : (p q : ℕ) → h p ≡ T (at (e - k - 1)) → at q ≡ p → h (at q) ≢ 0
     fetch-held p q is here zero = rack-some rows lane placing more (sym is ∙ ap h (sym here) ∙ zero)
 
-    pub fetch-carried : {h′ : ℕ → ℕ} (y q : ℕ) → Among at s y → v ≢ y → h (at q) ≡ T (at (e - k - 1)) → h v ≡ 0 → Same h′ (carried (h (at q)) y h) → Table n h′
+    pub fetch-carried : {h′ : ℕ → ℕ} (y p q : ℕ) → Among at s y → v ≢ y → h p ≡ T (at (e - k - 1)) → at q ≡ p → h v ≡ 0 → Same h′ (carried (h (at q)) y h) → Table n h′
         → Fetched n at T s e k (T (at (e - k - 1))) h′
-    fetch-carried {h′} y q there other is vacant same table =
+    fetch-carried {h′} y p q there other stands here vacant same table =
         let few = placing .few in
         let within = lane .within in
         let inner = lane .handle .inner in
@@ -162,5 +171,8 @@ module _ {n : ℕ} {g : List ℕ} {at : ℕ → ℕ} {s e u v : ℕ} (rows : Row
           };
         }
       where
+        is : h (at q) ≡ T (at (e - k - 1))
+        is = ap h here ∙ stands
+
         kept : (p : ℕ) → p ≢ y → h p ≢ T (at (e - k - 1)) → h′ p ≡ h p
         kept p away differ = same p ∙ carried-other (h (at q)) y h p away (λ z. differ (z ∙ is))

@@ -4,11 +4,14 @@
 --     placing-kept             racks moved where neither the stack nor what lies behind the handle stands
 --     placing-cleared          racks moved inside the region
 --     placing-vacant           a vacancy is in the region
---     rack-some, rack-there    the next rack is one, and stands on the floor
---     place-from               once fetched it stands in the stage
---     stage-robust             the stage as a set stays whole
---     place-reaches            from v a walk inside the stage without u leads to a vacancy
+--     rack-some, rack-there, rack-held    the next rack is one, and stands on the floor
+--     rack-other               no other place has it in the goal
 --     placing-turned           the cycle turned by one: one rack more is stacked
+--     stage-robust, stage-vacancy    the stage as a set stays whole, and has the vacancy
+--     place-from               once fetched the rack stands in the stage
+--     place-below, place-brought    it is brought to u
+--     place-below-rest, place-cleared, place-held, place-reaches    v is cleared with u held
+--     cycle-below, cycle-vacancy    the cycle is on the floor, and v on it is vacant
 -- Assumes nothing.
 use Prim.Native.Nat.{ℕ, _+_, _-_, _≤_, _<_}
 use mathlib.Core.Path.{_≡_, refl, sym, ap, subst, _∙_}
@@ -24,14 +27,18 @@ use Rattle.graph.specs.Rows.{Edge, Rows}
 use Rattle.breakdown.specs.Breakdown.{Among, Between}
 use Rattle.breakdown.specs.StageLaws.{Both}
 use Rattle.moving.specs.Turned.{Turned}
-use Rattle.moving.specs.Cleared.{Reaches, Vacancy, Brought}
+use Rattle.moving.specs.Cleared.{Reaches, Vacancy, Cleared, Brought}
 use Rattle.settling.specs.Table.{Table}
 use Rattle.settling.specs.TableLaws.{table-rack}
 use Rattle.settling.specs.Lane.{Lane, Closed, Placing, Fetched}
-use Rattle.handles.proofs.CycleLaws.{lane-apart, lane-new, stage-in, stage-out}
+use Rattle.handles.proofs.CycleLaws.{lane-apart, lane-new, stage-below, stage-in, stage-out}
 
 abbrev pub Region : (ℕ → ℕ) → ℕ → ℕ → ℕ → ℕ → Type 0
 Region at s e k = Both (Among at s) (Between at (s + k) e)
+
+-- the position that has the rack is not vacant
+pub rack-held : {r x : ℕ} → r ≢ 0 → x ≡ r → x ≢ 0
+rack-held some is zero = some (sym is ∙ zero)
 
 module _ {n : ℕ} {g : List ℕ} {at : ℕ → ℕ} {s e u v : ℕ} (rows : Rows n g) (lane : Lane n (Edge g) at s e u v) where
   module _ {T : ℕ → ℕ} {k : ℕ} {h : ℕ → ℕ} (placing : Placing n at T s e k h) where
@@ -161,12 +168,40 @@ module _ {n : ℕ} {g : List ℕ} {at : ℕ → ℕ} {s e u v : ℕ} (rows : Row
         let same : f .from ≡ p = f .placing .table .one (f .from) p (λ z. some (sym (f .there) ∙ z)) (f .there ∙ sym is) in
         stage-in rows lane stage has p (subst (Among at s) same (f .in-stage))
 
-    pub place-reaches : {h k : ℕ → ℕ} (from rest : ℕ) → ((p : ℕ) → Has rest p ↔ (Has stage p × (p ≢ u))) → Brought (Has stage) from u h k → h from ≢ 0
-        → Reaches (Edge g) (Has rest) k v
-    place-reaches {h} {k} from rest without b held =
-        let z = b .vacancy in
-        let away : z .at ≢ u = λ x. held (sym (b .there) ∙ ap k (sym x) ∙ z .vacant) in
-        let way = stage-robust .without u (stage-in rows lane stage has u (lane .handle .left)) v (z .at)
-        (record { there = stage-in rows lane stage has v (lane .handle .right); other = λ x. lane .handle .ends (sym x) })
-        (record { there = z .there; other = away }) in
-        record { to = z .at; size = way .size; walk = walk-inside (λ p x. without p .1 (x .there, x .other)) (way .walk); vacant = z .vacant }
+    pub place-below : (p : ℕ) → Has stage p → p < n
+    place-below p h = stage-below rows lane p (stage-out rows lane stage has p h)
+
+    pub place-brought : {T h h′ : ℕ → ℕ} {k from to : ℕ} → Placing n at T s e k h → Table n h′ → Brought (Has stage) from to h h′ → Placing n at T s e k h′
+    place-brought placing table b = placing-cleared placing (Has stage) (λ p x. inl (stage-out rows lane stage has p x)) table (b .outside)
+
+    -- v cleared with u held
+    module _ (rest : ℕ) (without : (p : ℕ) → Has rest p ↔ (Has stage p × (p ≢ u))) where
+      pub place-below-rest : (p : ℕ) → Has rest p → p < n
+      place-below-rest p h = place-below p (without p .0 h .0)
+
+      pub place-cleared : {T h h′ : ℕ → ℕ} {k : ℕ} → Placing n at T s e k h → Table n h′ → Cleared (Has rest) v h h′ → Placing n at T s e k h′
+      place-cleared placing table cl =
+          placing-cleared placing (Has rest) (λ p x. inl (stage-out rows lane stage has p (without p .0 x .0))) table (cl .outside)
+
+      pub place-held : {h h′ : ℕ → ℕ} → Cleared (Has rest) v h h′ → h′ u ≡ h u
+      place-held cl = cl .outside u (λ x. without u .0 x .1 refl)
+
+      pub place-reaches : {h k : ℕ → ℕ} (from : ℕ) → Brought (Has stage) from u h k → h from ≢ 0 → Reaches (Edge g) (Has rest) k v
+      place-reaches {h} {k} from b held =
+          let z = b .vacancy in
+          let away : z .at ≢ u = λ x. held (sym (b .there) ∙ ap k (sym x) ∙ z .vacant) in
+          let way = stage-robust .without u (stage-in rows lane stage has u (lane .handle .left)) v (z .at)
+          (record { there = stage-in rows lane stage has v (lane .handle .right); other = λ x. lane .handle .ends (sym x) })
+          (record { there = z .there; other = away }) in
+          record { to = z .at; size = way .size; walk = walk-inside (λ p x. without p .1 (x .there, x .other)) (way .walk); vacant = z .vacant }
+
+  module _ {cycle : ℕ → ℕ} {size : ℕ} (cl : Closed n (Edge g) at s e u v cycle size) where
+    pub cycle-below : (i : ℕ) → i < size → cycle i < n
+    cycle-below i l =
+        let within = lane .within in
+        by-cases (decLt i (e - s))
+        (λ x. subst (λ (p : ℕ). p < n) (sym (cl .inner i x)) (lane .below (s + i) (omega arith)))
+        (λ x. stage-below rows lane (cycle i) (cl .stage i (omega arith) l))
+
+    pub cycle-vacancy : {P : ℕ → Type 0} {h k : ℕ → ℕ} → Cleared P v h k → (i : ℕ) × (i < size) × (k (cycle i) ≡ 0)
+    cycle-vacancy {k = k} x = let long = cl .long in (e - s, omega arith, ap k (cl .turns) ∙ x .vacant)
