@@ -2,3 +2,4 @@ pub mod StageLaws
 pub mod CycleLaws
 pub mod PlaceLaws
 pub mod FetchLaws
+pub mod SettleLaws
