@@ -5,6 +5,7 @@
 --     Agreed, agreed-next    the state of `is_settled`: the places from s up to i hold what the goal has there
 --     among-between, between-among    the stage as the places from 0 on
 --     Region at s e k        the stage with what is not stacked of the handle: with the places from s + k up to e
+--     lane-fits, lane-small  a lane's places and positions are below 64
 --     apart                  two places of a lane hold different positions
 --     region-has, region-below, region-whole    that region as a set; on the floor; whole
 --     region-vacant          both vacancies are in it
@@ -15,7 +16,7 @@
 use Prim.Native.Nat.{ℕ, _+_, _-_, _≤_, _<_}
 use mathlib.Core.Path.{_≡_, refl, sym, ap, subst, _∙_}
 use mathlib.Core.List.{List}
-use mathlib.Core.Logic.{_↔_, _≢_, _⊎_, inl, inr, ⊎-elim, by-cases}
+use mathlib.Core.Logic.{_↔_, _≢_, inl, inr, ⊎-elim, by-cases}
 use native.Mathlib.Decide.{ℕ-discrete, decLt}
 use native.Mathlib.Omega.{arith}
 use lib.Bits.{bitAnd, bitOr}
@@ -83,6 +84,12 @@ abbrev pub Region : (ℕ → ℕ) → ℕ → ℕ → ℕ → ℕ → Type 0
 Region at s e k p = Both (Among at s) (Between at (s + k) e) p
 
 module _ {n : ℕ} {E : ℕ → ℕ → Type 0} {at : ℕ → ℕ} {s e u v : ℕ} (lane : Lane n E at s e u v) where
+  pub lane-fits : n ≤ 64 → e ≤ 64
+  lane-fits small = let within = lane .within in omega arith
+
+  pub lane-small : n ≤ 64 → (i : ℕ) → i < e → at i < 64
+  lane-small small i l = let within = lane .within in let b = lane .below i (omega arith) in omega arith
+
   pub apart : (i j : ℕ) → i < n → j < n → i ≢ j → at i ≢ at j
   apart i j hi hj other = by-cases (decLt i j) (λ l. lane .distinct i j l hj) (λ l z. lane .distinct j i (omega arith) hi (sym z))
 

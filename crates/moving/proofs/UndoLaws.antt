@@ -3,7 +3,6 @@
 --     first l i, second l i    the two positions of the log's entry i
 --     trail-long           a trail has as many moves as entries
 --     Top, trail-top       a trail's last entry, and the trail below it
---     trail-below          the trail below moves that were logged on top of it
 --     Left                 the moves that are left to take back, and the trip so far
 --     Undone               the loop's invariant
 --     undone-begin, undone-skip, undone-move, undone-end    where the loop begins; a move is skipped; a move is taken back; where the loop ends
@@ -19,9 +18,9 @@ use native.Mathlib.Omega.{arith}
 use lib.ListN.{length}
 use Rattle.graph.specs.Rows.{Edge}
 use Rattle.moving.specs.Went.{Same, Back}
-use Rattle.moving.specs.Journey.{row, onto, Trail, Fits, Trip, Journey}
+use Rattle.moving.specs.Journey.{row, Trail, Fits, Trip, Journey}
 use Rattle.moving.specs.Journey.Trail.{start, entry}
-use Rattle.moving.specs.JourneyLaws.{trip-none, trip-append, trip-more, trip-written}
+use Rattle.moving.specs.JourneyLaws.{trail-below, trip-none, trip-append, trip-more, trip-written}
 use Rattle.moving.specs.Turned.{Undoing}
 use Rattle.moving.specs.BackLaws.{Step, back-from, back-none, back-skipped, back-taken}
 
@@ -48,14 +47,6 @@ trail-top {l} {s} i e le (entry {j = j} {a} {b} {past} is x y t) =
     let f : a ≡ first l i = omega arith in
     let g : b ≡ second l i = omega arith in
     record { rest = past; is = cc; below = subst (λ (n : ℕ). Trail l s n past) q t }
-
-pub trail-below : {l : List ℕ} {s j : ℕ} (ms past : List (ℕ × ℕ)) (i : ℕ) → s ≤ i → j ≡ i + length ms → Trail l s j (onto ms past) → Trail l s i past
-unfolding onto
-trail-below {l} {s} [] past i le e t = subst (λ (n : ℕ). Trail l s n past) (omega arith) t
-trail-below {l} {s} (m ∷ ms) past i le e t =
-    let o = trail-top i refl le (trail-below ms (m ∷ past) (i + 1) (omega arith) (omega arith) t) in
-    let q : o .rest ≡ past = cc in
-    subst (Trail l s i) q (o .below)
 
 -- h, l, t and w are what the loop began with, h′, l′, t′ and w′ what it has now, with the entries from s up to i left.
 pub record Left (g : List ℕ) (m s j : ℕ) (h t : List ℕ) (w : ℕ) (h′ l′ t′ : List ℕ) (w′ i : ℕ) (k : ℕ → ℕ) : Type 0 where
@@ -139,7 +130,7 @@ module _ {m s j : ℕ} {h l t : List ℕ} {w : ℕ} {h′ l′ t′ : List ℕ} 
                 record {
                   rest = o .rest;
                   undoing = record {
-                    trail = trail-below (one .trip .moves) (o .rest) (i - 1) (omega arith) (one .logged)
+                    trail = trail-below (one .trip .moves) (o .rest) (i - 1) (one .logged)
                         (one .trail s (o .rest) (omega arith) (o .below));
                     back = back-from (agree (y .between) (y .move .others) (y .move .left) (y .move .entered)) (y .rest);
                   };

@@ -3,12 +3,14 @@
 --     packed-next          one move more in the plan
 --     trail-next           one move more in the log
 --     onto-append          the moves ms and then ns, turned round
+--     trail-below          the trail below moves that were logged on top of it
 --     went-written         no more moves are written than are made
 --     trip-none, journey-none      no move
 --     trip-append, journey-append  a trip or a journey, and then another
 --     trip-more, journey-more      a bound that is higher
 --     journey-in-none, journey-in-append, journey-in-more, journey-in-less    the same of journeys within a set, and within a larger one
 --     journey-in-one       a journey of one move, from a to b
+--     journey-trail        a journey leaves in the log what was there
 --     trip-written         a trip writes no more moves than its bound
 --     made, journey-stand-in, journey-real    one move: of a stand-in, which is logged; of a real rack, which is written too
 --     fits-then            where there is room for c and d moves, there is room for d after c of them
@@ -95,6 +97,14 @@ unfolding onto
 onto-append [] ns past = refl
 onto-append (m ∷ ms) ns past = onto-append ms ns (m ∷ past)
 
+trail-tail : {l : List ℕ} {s j : ℕ} {m : ℕ × ℕ} {past : List (ℕ × ℕ)} (i : ℕ) → j ≡ i + 1 → Trail l s j (m ∷ past) → Trail l s i past
+trail-tail {l} {s} i e (entry {past = past} is x y t) = subst (λ (n : ℕ). Trail l s n past) (omega arith) t
+
+pub trail-below : {l : List ℕ} {s j : ℕ} (ms past : List (ℕ × ℕ)) (i : ℕ) → j ≡ i + length ms → Trail l s j (onto ms past) → Trail l s i past
+unfolding onto
+trail-below {l} {s} [] past i e t = subst (λ (n : ℕ). Trail l s n past) (omega arith) t
+trail-below (m ∷ ms) past i e t = trail-tail i refl (trail-below ms (m ∷ past) (i + 1) (omega arith) t)
+
 pub went-written : {E : ℕ → ℕ → Type 0} {m : ℕ} {h k : ℕ → ℕ} {ms ws : List (ℕ × ℕ)} → Went E m h ms ws k → length ws ≤ length ms
 went-written (stay s) = omega arith
 went-written (real x l w) = let r = went-written w in omega arith
@@ -168,6 +178,10 @@ module _ {g : List ℕ} {m : ℕ} where
             subst (Trail l″ s j″) (sym (onto-append ms ns past))
             (b .trail s (onto ms past) (let y = a .logged in omega arith) (a .trail s past le x));
       }
+
+  pub journey-trail : {c : ℕ} {h l t h′ l′ t′ : List ℕ} {w j w′ j′ : ℕ} → Journey g m c h l t w j h′ l′ t′ w′ j′
+      → (s : ℕ) (past : List (ℕ × ℕ)) → s ≤ j → Trail l s j past → Trail l′ s j past
+  journey-trail {j = j} a s past le x = trail-below (a .trip .moves) past j (a .logged) (a .trail s past le x)
 
   module _ {P : ℕ → Type 0} where
     pub journey-in-none : (h l t : List ℕ) (w j : ℕ) → JourneyIn P g m 0 h l t w j h l t w j

@@ -6,17 +6,18 @@ use mathlib.Core.Logic.{inl}
 use native.Mathlib.Omega.{arith}
 use Rattle.moving.specs.JourneyLaws.{trip-none, trip-more, fits-anew}
 use Rattle.settling.specs.TableLaws.{table-went}
-use Rattle.handles.proofs.StageLaws.{region-has, region-below, region-reaches, placing-kept, stage-vacancy}
+use Rattle.handles.proofs.StageLaws.{lane-fits, lane-small, region-has, region-below, region-reaches, placing-kept, stage-vacancy}
 use Rattle.handles.proofs.open_stage.Statement.{statement}
 use Rattle.handles.proofs.open_stage.Tie as tie
 
 part-requires : tie.Need-part-requires
-part-requires c κs = let s = c .before .pre in
-    let n64 = s .0 .small in
+part-requires c κs =
+    let s = c .before .pre in
     let lane = s .1 .0 .2 in
+    let n64 = s .0 .small in
     let inner = lane .handle .inner in
-    let within = lane .within in
-    (omega arith, λ i l. let b = lane .below i (omega arith) in omega arith)
+    let fits = lane-fits lane n64 in
+    (omega arith, λ i l. lane-small lane n64 i (omega arith))
 
 vacancies-requires : tie.Need-vacancies-requires
 vacancies-requires c κs = let n64 = c .before .before .before .pre .0 .small in omega arith
@@ -37,11 +38,9 @@ add-part c = let s = c .before .before .before .before .before .pre in
     omega arith
 
 part-requires-2 : tie.Need-part-requires-2
-part-requires-2 c κs = let s = c .before .before .before .before .before .pre in
-    let n64 = s .0 .small in
-    let lane = s .1 .0 .2 in
-    let within = lane .within in
-    (omega arith, λ i l. let b = lane .below i (omega arith) in omega arith)
+part-requires-2 c κs =
+    let s = c .before .before .before .before .before .pre in
+    (lane-fits (s .1 .0 .2) (s .0 .small), lane-small (s .1 .0 .2) (s .0 .small))
 
 clear-requires : tie.Need-clear-requires
 clear-requires c κs = let st = c .before .before .before .before .before .before .before .before .before in
