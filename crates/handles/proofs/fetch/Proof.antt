@@ -99,9 +99,10 @@ returns c =
     let lane = s .pre .1 .0 .1 in
     let state = s .pre .1 .1 .1 .0 in
     let part = c .before .before .before .before .part .ensures in
-    let from = c .before .before .where-is in
-    (trip-more (2 * (a .n * a .n)) (omega arith) (trip-none _ _ _),
-      (fetch-already rows lane _ part (state .0) (state .1) (from .result) (from .ensures .1) (c .before .has .ensures .0 (c .if1 .taken)) (state .2), refl))
+    let from = c .before .before .where-is in (
+      trip-more (2 * (a .n * a .n)) (omega arith) (trip-none _ _ _),
+      (fetch-already rows lane _ part (state .0) (state .1) (from .result) (from .ensures .1) (c .before .has .ensures .0 (c .if1 .taken)) (state .2), refl),
+    )
 
 add-part : tie.Need-add-part
 add-part c =
@@ -144,10 +145,13 @@ clear-requires c κs =
     let four = lane-four rows lane in
     let part = c .before .before .before .before .before .before .before .before .part .ensures in
     let rest = c .before .before .before .part2 .ensures in
-    let bound = fetch-bound (a .n) four in
-    (rows,
-      ((stage-below rows lane (a .y) (near .0), region-below rows lane (a .k) _ _ part rest, fetch-reaches-beside rows lane (a .k) _ _ part rest (a .y) (near .0) (state .2)),
-      fits-anew (a .n - 1) (omega arith) (omega arith) room))
+    let bound = fetch-bound (a .n) four in (
+      rows,
+      (
+        (stage-below rows lane (a .y) (near .0), region-below rows lane (a .k) _ _ part rest, fetch-reaches-beside rows lane (a .k) _ _ part rest (a .y) (near .0) (state .2)),
+        fits-anew (a .n - 1) (omega arith) (omega arith) room,
+      ),
+    )
 
 without-requires : tie.Need-without-requires
 without-requires c κs =
@@ -177,12 +181,17 @@ clear-requires-2 c κs =
     let table = table-went (rows .inside) (one .0 .journey .trip .went) (state .0 .table) in
     let placing = fetch-kept rows lane (a .k) _ _ part rest (a .y) (state .0) table (one .1) in
     let without = c .before .before .before .without .ensures in
-    let bound = fetch-bound (a .n) four in
-    (rows,
-      ((right-below rows lane,
-        fetch-below rows lane (a .k) _ _ part rest (a .y) (near .0) (near .1) _ without,
-        fetch-reaches-end rows lane (a .k) _ _ part rest (a .y) (near .0) (near .1) _ without placing),
-      fits-then (fits-anew ((a .n - 1) + (a .n - 1)) (omega arith) (omega arith) room) (one .0 .journey)))
+    let bound = fetch-bound (a .n) four in (
+      rows,
+      (
+        (
+          right-below rows lane,
+          fetch-below rows lane (a .k) _ _ part rest (a .y) (near .0) (near .1) _ without,
+          fetch-reaches-end rows lane (a .k) _ _ part rest (a .y) (near .0) (near .1) _ without placing,
+        ),
+        fits-then (fits-anew ((a .n - 1) + (a .n - 1)) (omega arith) (omega arith) room) (one .0 .journey),
+      ),
+    )
 
 where-is-requires-2 : tie.Need-where-is-requires-2
 where-is-requires-2 c κs =
@@ -236,10 +245,13 @@ returns-2 c =
     let table2 = table-went (rows .inside) (two .0 .journey .trip .went) table in
     let placing2 = fetch-kept-end rows lane (a .k) _ _ part rest (a .y) (near .0) (near .1) _ without placing table2 (two .1) in
     let bound = fetch-bound (a .n) four in
-    let from = c .before .before .where-is2 in
-    (trip-more (2 * (a .n * a .n)) (omega arith) (trip-append (one .0 .journey .trip) (two .0 .journey .trip)),
-      (fetch-cleared rows lane _ part placing2 (state .1) (from .result) (from .ensures .1) (c .before .has2 .ensures .0 (c .if2 .taken)) (two .1 .vacant),
-      two .0 .journey .log ∙ one .0 .journey .log))
+    let from = c .before .before .where-is2 in (
+      trip-more (2 * (a .n * a .n)) (omega arith) (trip-append (one .0 .journey .trip) (two .0 .journey .trip)),
+      (
+        fetch-cleared rows lane _ part placing2 (state .1) (from .result) (from .ensures .1) (c .before .has2 .ensures .0 (c .if2 .taken)) (two .1 .vacant),
+        two .0 .journey .log ∙ one .0 .journey .log,
+      ),
+    )
 
 place-of-requires : tie.Need-place-of-requires
 place-of-requires c κs =
@@ -262,9 +274,10 @@ place-of-requires c κs =
     let two = c .before .before .before .before .before .before .clear2 .ensures in
     let table2 = table-went (rows .inside) (two .0 .journey .trip .went) table in
     let placing2 = fetch-kept-end rows lane (a .k) _ _ part rest (a .y) (near .0) (near .1) _ without placing table2 (two .1) in
-    let from = c .before .before .where-is2 in
-    (omega arith,
-      fetch-place rows lane _ part placing2 (state .1) (from .result) (from .ensures .0) (from .ensures .1) (fails (c .before .has2 .ensures) (c .if2 .left)))
+    let from = c .before .before .where-is2 in (
+      omega arith,
+      fetch-place rows lane _ part placing2 (state .1) (from .result) (from .ensures .0) (from .ensures .1) (fails (c .before .has2 .ensures) (c .if2 .left)),
+    )
 
 carry-requires : tie.Need-carry-requires
 carry-requires c κs =
@@ -290,16 +303,25 @@ carry-requires c κs =
     let placing2 = fetch-kept-end rows lane (a .k) _ _ part rest (a .y) (near .0) (near .1) _ without placing table2 (two .1) in
     let bound = fetch-bound (a .n) four in
     let from = c .before .before .before .before .before .before .where-is2 in
-    let q = c .before .before .before .place-of .ensures in
-    (rows,
-      (s .pre .1 .0,
-      ((q .0, q .1, near .0, near .1, near .2),
-      ((table2,
-        two .1 .vacant,
-        fetch-beside rows lane (a .k) _ _ part rest (a .y) (near .0) (near .1) _ without (two .1) (one .1 .vacant),
-        fetch-held rows lane _ part placing2 (state .1) (from .result) _ (from .ensures .1) (q .2)),
-      room-then (room-less ((a .n - 1) + (a .n - 1) + (2 * (a .n * (a .n - 3)) + 1)) (omega arith) room)
-      (two .0 .journey .log ∙ one .0 .journey .log) (trip-append (one .0 .journey .trip) (two .0 .journey .trip))))))
+    let q = c .before .before .before .place-of .ensures in (
+      rows,
+      (
+        s .pre .1 .0,
+        (
+          (q .0, q .1, near .0, near .1, near .2),
+          (
+            (
+              table2,
+              two .1 .vacant,
+              fetch-beside rows lane (a .k) _ _ part rest (a .y) (near .0) (near .1) _ without (two .1) (one .1 .vacant),
+              fetch-held rows lane _ part placing2 (state .1) (from .result) _ (from .ensures .1) (q .2),
+            ),
+            room-then (room-less ((a .n - 1) + (a .n - 1) + (2 * (a .n * (a .n - 3)) + 1)) (omega arith) room)
+                (two .0 .journey .log ∙ one .0 .journey .log) (trip-append (one .0 .journey .trip) (two .0 .journey .trip)),
+          ),
+        ),
+      ),
+    )
 
 same-length-2 : tie.Need-same-length-2
 same-length-2 c = c .before .before .carry .ensures .0 .tail ∙ c .before .before .before .before .before .before .before .before .before .before .before .before .before .clear2 .ensures .0 .journey .trip .tail ∙ c .before .before .before .before .before .before .before .before .before .before .before .before .before .before .before .before .before .before .before .before .clear .ensures .0 .journey .trip .tail
@@ -329,10 +351,13 @@ returns-3 c =
     let from = c .before .before .before .before .before .before .before .before .before .where-is2 in
     let q = c .before .before .before .before .before .before .place-of .ensures in
     let three = c .before .before .carry .ensures in
-    let table3 = table-went (rows .inside) (three .0 .went) table2 in
-    (trip-more (2 * (a .n * a .n)) (omega arith) (trip-append (trip-append (one .0 .journey .trip) (two .0 .journey .trip)) (three .0)),
-      (fetch-carried rows lane _ part placing2 (state .1) (a .y) (from .result) (c .before .before .before .before .before .before .place-of .result) (near .0) (near .1) (from .ensures .1) (q .2) (two .1 .vacant) (three .1 .0) table3,
-      three .1 .1 ∙ two .0 .journey .log ∙ one .0 .journey .log))
+    let table3 = table-went (rows .inside) (three .0 .went) table2 in (
+      trip-more (2 * (a .n * a .n)) (omega arith) (trip-append (trip-append (one .0 .journey .trip) (two .0 .journey .trip)) (three .0)),
+      (
+        fetch-carried rows lane _ part placing2 (state .1) (a .y) (from .result) (c .before .before .before .before .before .before .place-of .result) (near .0) (near .1) (from .ensures .1) (q .2) (two .1 .vacant) (three .1 .0) table3,
+        three .1 .1 ∙ two .0 .journey .log ∙ one .0 .journey .log,
+      ),
+    )
 
 pub fetch-spec : {M : Type 1} → statement M
 fetch-spec =

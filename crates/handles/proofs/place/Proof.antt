@@ -227,10 +227,13 @@ returns c =
     let turned = c .before .before .turn .ensures in
     let last = turned .0 (a .rows .now) (closed .joined) (closed .closed) in
     let table3 = table-went (rows .inside) (last .trip .went) table2 in
-    let short = closed .short in
-    (trip-more (4 * (a .n * a .n)) (omega arith) (trip-append (opened .0) (trip-append (fetched .0) (trip-append (brought .0 .trip) (trip-append (cleared .0 .journey .trip) (last .trip))))),
-    (placing-turned rows lane placing2 (state .1) closed (place-held rows lane _ part _ without (cleared .1) ∙ brought .1 .there ∙ from .ensures .1) (turned .1) table3,
-    last .log ∙ cleared .0 .journey .log ∙ brought .0 .log ∙ fetched .1 .1 ∙ opened .1 .1))
+    let short = closed .short in (
+      trip-more (4 * (a .n * a .n)) (omega arith) (trip-append (opened .0) (trip-append (fetched .0) (trip-append (brought .0 .trip) (trip-append (cleared .0 .journey .trip) (last .trip))))),
+      (
+        placing-turned rows lane placing2 (state .1) closed (place-held rows lane _ part _ without (cleared .1) ∙ brought .1 .there ∙ from .ensures .1) (turned .1) table3,
+        last .log ∙ cleared .0 .journey .log ∙ brought .0 .log ∙ fetched .1 .1 ∙ opened .1 .1,
+      ),
+    )
 
 pub place-spec : {M : Type 1} → statement M
 place-spec =
