@@ -6,6 +6,7 @@
 --     handle-robust            so does a stage with one handle more
 --     whole-left, whole-right  a whole set with part of a handle hanging on the left end, or on the right end, is whole. The set may be a stage, a
 --                              stage without a position that is not that end, or either of them with a part hanging on the other end
+--     stage-within             each stage ends within the floor
 --     stage-robust             each stage of a breakdown is whole, and stays so without any one position
 --     stage-right              stage i with the places from j on of handle i, which hang on its right end, is whole
 --     stage-right-without      and without a position y of the stage that is not that end
@@ -239,7 +240,7 @@ robust-neighbours {E} {P} a x y robust loopless pa px py ax ay xy =
         record { one = s; two = record { to = t .to; edge = t .edge; there = t .there .there }; differ = t .there .other }
 
 module _ {n : ℕ} {E : ℕ → ℕ → Type 0} {r c : ℕ} {at start left right : ℕ → ℕ} (sy : Symmetric E) (b : Breakdown n E r c at start left right) where
-  stage-within : (d i : ℕ) → i + d ≡ c → start i ≤ n
+  pub stage-within : (d i : ℕ) → i + d ≡ c → start i ≤ n
   stage-within zero i e = let same : start i ≡ start c = ap start (omega arith) in let stops = b .stops in omega arith
   stage-within (suc d) i e =
       let inner = b .handle i (omega arith) .inner in

@@ -1,2 +1,6 @@
 pub mod StageLaws
 pub mod CarryLaws
+pub mod CycleLaws
+pub mod PlaceLaws
+pub mod FetchLaws
+pub mod SettleLaws

@@ -1,0 +1,212 @@
+-- Laws of a handle settled, and of all handles settled, the last first.
+--
+--     times-next, times-less   one time more, and one of those to come
+--     Settling                 the state of `settle_handle`: k racks are stacked, with the trip so far, and room for those to come
+--     settling-begin, settling-room, settling-next    its first state, room for one rack, the next state
+--     settling-trip, settling-end    all racks of the handle are stacked: it is settled
+--     settled-already          nothing to do
+--     starts-from, starts-within, starts-few    where a handle's places begin; that there are few handles
+--     down-up                  one back and one on
+--     lane-of                  a handle of a breakdown
+--     Handling                 the state of `settle_handles`: the handles from i on are settled
+--     handling-begin           its first state
+--     handling-placing, handling-room    what settling the handle before needs
+--     handling-next            the next state
+--     handling-trip, handling-end    all handles are settled
+-- Assumes nothing.
+use Prim.Native.Nat.{ℕ, zero, suc, _+_, _-_, _*_, _≤_, _<_}
+use mathlib.Core.Path.{_≡_, refl, sym, ap, subst, _∙_}
+use mathlib.Core.List.{List}
+use mathlib.Core.Logic.{_≢_, by-cases}
+use native.Mathlib.Decide.{decLt}
+use native.Mathlib.Nat.{mul-suc, mul-comm, add-mul}
+use native.Mathlib.Numerals.{add-one}
+use native.Mathlib.Omega.{arith}
+use lib.ListN.{length}
+use Rattle.graph.specs.Walk.{Symmetric}
+use Rattle.breakdown.specs.Breakdown.{Breakdown}
+use Rattle.breakdown.specs.StageLaws.{stage-within, stage-robust}
+use Rattle.moving.specs.Journey.{row, Room, Trip}
+use Rattle.moving.specs.JourneyLaws.{trip-none, trip-more, trip-append, room-then, room-less}
+use Rattle.settling.specs.Table.{Table}
+use Rattle.settling.specs.Lane.{Lane, Placing}
+
+pub down-up : (i : ℕ) → 0 < i → i - 1 + 1 ≡ i
+down-up i some = omega arith
+
+pub times-next : (k c : ℕ) → (k + 1) * c ≡ k * c + c
+times-next k c =
+    let e : (k + 1) * c ≡ c * suc k = mul-comm (k + 1) c ∙ ap (λ (x : ℕ). c * x) (add-one k) in
+    let f = mul-suc c k in
+    let g = mul-comm c k in
+    omega arith
+
+pub times-less : (a k c : ℕ) → k < a → (a - k) * c ≡ c + (a - (k + 1)) * c
+times-less a k c l =
+    let same : a - k ≡ a - (k + 1) + 1 = omega arith in
+    let e : (a - k) * c ≡ (a - (k + 1) + 1) * c = ap (λ (x : ℕ). x * c) same in
+    let f = times-next (a - (k + 1)) c in
+    omega arith
+
+pub record Settling (g : List ℕ) (m n : ℕ) (at T : ℕ → ℕ) (s e k : ℕ) (h₀ l₀ t₀ : List ℕ) (w₀ : ℕ) (h l t : List ℕ) (w : ℕ) : Type 0 where
+  pub placing : Placing n at T s e k (row h)
+  pub trip : Trip g m (k * (4 * (n * n))) h₀ t₀ w₀ h t w
+  pub log : length l ≡ length l₀
+  pub room : Room h l t w ((e - s - k) * (4 * (n * n)))
+
+pub settling-begin : {g : List ℕ} {m n : ℕ} {at T : ℕ → ℕ} {s e : ℕ} {h l t : List ℕ} {w : ℕ} → Placing n at T s e 0 (row h)
+    → Room h l t w ((e - s) * (4 * (n * n))) → Settling g m n at T s e 0 h l t w h l t w
+settling-begin {n = n} {s = s} {e = e} {h = h} {t = t} {w = w} placing room =
+    record {
+      placing = placing;
+      trip = trip-more (0 * (4 * (n * n))) (omega arith) (trip-none h t w);
+      log = refl;
+      room = room-less ((e - s - 0) * (4 * (n * n))) (let same : (e - s - 0) * (4 * (n * n)) ≡ (e - s) * (4 * (n * n)) = ap (λ (x : ℕ). x * (4 * (n * n))) (let z : e - s - 0 ≡ e - s = omega arith in z) in omega arith) room;
+    }
+
+module _ {g : List ℕ} {m n : ℕ} {at T : ℕ → ℕ} {s e k : ℕ} {h₀ l₀ t₀ : List ℕ} {w₀ : ℕ} {h l t : List ℕ} {w : ℕ}
+    (z : Settling g m n at T s e k h₀ l₀ t₀ w₀ h l t w) where
+  pub settling-room : k < e - s → Room h l t w (4 * (n * n))
+  settling-room more = let x = times-less (e - s) k (4 * (n * n)) more in room-less (4 * (n * n)) (omega arith) (z .room)
+
+  pub settling-next : {h′ l′ t′ : List ℕ} {w′ : ℕ} → k < e - s → Trip g m (4 * (n * n)) h t w h′ t′ w′ → Placing n at T s e (k + 1) (row h′) → length l′ ≡ length l
+      → Settling g m n at T s e (k + 1) h₀ l₀ t₀ w₀ h′ l′ t′ w′
+  settling-next more trip placing log =
+      let x = times-less (e - s) k (4 * (n * n)) more in
+      let y = times-next k (4 * (n * n)) in
+      record {
+        placing = placing;
+        trip = trip-more ((k + 1) * (4 * (n * n))) (omega arith) (trip-append (z .trip) trip);
+        log = log ∙ z .log;
+        room = room-then (room-less (4 * (n * n) + (e - s - (k + 1)) * (4 * (n * n))) (omega arith) (z .room)) log trip;
+      }
+
+  all : e - s ≤ k → k ≡ e - s
+  all done = let few = z .placing .few in omega arith
+
+  pub settling-trip : e - s ≤ k → Trip g m ((e - s) * (4 * (n * n))) h₀ t₀ w₀ h t w
+  settling-trip done = subst (λ (x : ℕ). Trip g m (x * (4 * (n * n))) h₀ t₀ w₀ h t w) (all done) (z .trip)
+
+  pub settling-end : s ≤ e → e - s ≤ k → (j : ℕ) → s ≤ j → j < n → row h (at j) ≡ T (at j)
+  settling-end some done j le l =
+      let same = all done in
+      by-cases (decLt j e)
+      (λ x.
+      let here : s + (j - s) ≡ j = omega arith in
+      let there : e - k + (j - s) ≡ j = omega arith in
+      ap (λ (i : ℕ). row h (at i)) (sym here) ∙ z .placing .stacked (j - s) (omega arith) ∙ ap (λ (i : ℕ). T (at i)) there)
+      (λ x. z .placing .behind j (omega arith) l)
+
+pub settled-already : {n : ℕ} {at T : ℕ → ℕ} {s e : ℕ} {h : ℕ → ℕ} → Placing n at T s e 0 h → ((j : ℕ) → s ≤ j → j < e → h (at j) ≡ T (at j))
+    → (j : ℕ) → s ≤ j → j < n → h (at j) ≡ T (at j)
+settled-already {e = e} placing same j le l = by-cases (decLt j e) (λ x. same j le x) (λ x. placing .behind j (omega arith) l)
+
+module _ {n : ℕ} {E : ℕ → ℕ → Type 0} {ring c : ℕ} {at start left right : ℕ → ℕ} (sy : Symmetric E) (b : Breakdown n E ring c at start left right) where
+  pub starts-from : (i : ℕ) → i ≤ c → ring + i ≤ start i
+  starts-from zero l = let e = b .begins in omega arith
+  starts-from (suc i) l =
+      let before = starts-from i (omega arith) in
+      let inner = b .handle i l .inner in
+      let up : start (suc i) ≡ start (i + 1) = ap start (sym (add-one i)) in
+      omega arith
+
+  pub starts-within : (i : ℕ) → i ≤ c → start i ≤ n
+  starts-within i l = stage-within sy b (c - i) i (omega arith)
+
+  pub starts-few : n ≤ 64 → (i : ℕ) → i ≤ c → i < 64
+  starts-few small i l = let from = starts-from i l in let within = starts-within i l in let three = b .ring-three in omega arith
+
+  pub lane-of : (i : ℕ) → i < c → Lane n E at (start i) (start (i + 1)) (left i) (right i)
+  lane-of i l =
+      record {
+        robust = stage-robust sy b i (omega arith);
+        handle = b .handle i l;
+        three = (let three = b .ring-three in let from = starts-from i (omega arith) in omega arith);
+        within = starts-within (i + 1) (omega arith);
+        below = b .below;
+        distinct = b .distinct;
+        every = b .every;
+      }
+
+-- Handles from i on are settled.
+pub record Handling (g : List ℕ) (m n ring : ℕ) (at start T : ℕ → ℕ) (i : ℕ) (h₀ l₀ t₀ : List ℕ) (w₀ : ℕ) (h l t : List ℕ) (w : ℕ) : Type 0 where
+  pub table : Table n (row h)
+  pub settled : (j : ℕ) → start i ≤ j → j < n → row h (at j) ≡ T (at j)
+  pub trip : Trip g m ((n - start i) * (4 * (n * n))) h₀ t₀ w₀ h t w
+  pub log : length l ≡ length l₀
+  pub room : Room h l t w ((start i - ring) * (4 * (n * n)))
+
+pub handling-begin : {g : List ℕ} {m n ring : ℕ} {at start T : ℕ → ℕ} {i : ℕ} {h l t : List ℕ} {w : ℕ} → start i ≡ n → Table n (row h)
+    → Room h l t w ((n - ring) * (4 * (n * n))) → Handling g m n ring at start T i h l t w h l t w
+handling-begin {n = n} {ring = ring} {start = start} {i = i} {h = h} {l = l} {t = t} {w = w} stops table room =
+    record {
+      table = table;
+      settled = λ j le l. absurd (none j le l);
+      trip = trip-more ((n - start i) * (4 * (n * n))) (omega arith) (trip-none h t w);
+      log = refl;
+      room = subst (λ (x : ℕ). Room h l t w ((x - ring) * (4 * (n * n)))) (sym stops) room;
+    }
+  where
+    none : (j : ℕ) → start i ≤ j → j < n → ⊥
+    none j le l = omega arith
+
+module _ {g : List ℕ} {m n ring : ℕ} {at start T : ℕ → ℕ} {h₀ l₀ t₀ : List ℕ} {w₀ : ℕ} {h l t : List ℕ} {w : ℕ} (i k : ℕ) (next : i + 1 ≡ k)
+    (from : ring ≤ start i) (inner : start i < start (i + 1)) (within : start (i + 1) ≤ n) (z : Handling g m n ring at start T k h₀ l₀ t₀ w₀ h l t w) where
+  up : start (i + 1) ≡ start k
+  up = ap start next
+
+  pub handling-placing : Table n T → ((j : ℕ) → ring ≤ j → j < n → T (at j) ≢ 0) → Placing n at T (start i) (start (i + 1)) 0 (row h)
+  handling-placing goal filled =
+      let same = up in
+      record {
+        table = z .table;
+        goal = goal;
+        filled = λ j le l. filled j (omega arith) l;
+        few = omega arith;
+        stacked = λ j l. absurd (none j l);
+        behind = λ j le l. z .settled j (omega arith) l;
+      }
+    where
+      none : (j : ℕ) → j < 0 → ⊥
+      none j l = omega arith
+
+  -- the places to come are those of this handle and those before it
+  split : (start k - ring) * (4 * (n * n)) ≡ (start (i + 1) - start i) * (4 * (n * n)) + (start i - ring) * (4 * (n * n))
+  split =
+      let same = up in
+      let e : start k - ring ≡ start (i + 1) - start i + (start i - ring) = omega arith in
+      ap (λ (x : ℕ). x * (4 * (n * n))) e ∙ add-mul (start (i + 1) - start i) (start i - ring) (4 * (n * n))
+
+  joined : (n - start i) * (4 * (n * n)) ≡ (n - start k) * (4 * (n * n)) + (start (i + 1) - start i) * (4 * (n * n))
+  joined =
+      let same = up in
+      let e : n - start i ≡ n - start k + (start (i + 1) - start i) = omega arith in
+      ap (λ (x : ℕ). x * (4 * (n * n))) e ∙ add-mul (n - start k) (start (i + 1) - start i) (4 * (n * n))
+
+  pub handling-room : Room h l t w ((start (i + 1) - start i) * (4 * (n * n)))
+  handling-room = let x = split in room-less ((start (i + 1) - start i) * (4 * (n * n))) (omega arith) (z .room)
+
+  pub handling-next : {h′ l′ t′ : List ℕ} {w′ : ℕ} → Trip g m ((start (i + 1) - start i) * (4 * (n * n))) h t w h′ t′ w′ → Table n (row h′)
+      → ((j : ℕ) → start i ≤ j → j < n → row h′ (at j) ≡ T (at j)) → length l′ ≡ length l → Handling g m n ring at start T i h₀ l₀ t₀ w₀ h′ l′ t′ w′
+  handling-next trip table settled log =
+      let x = split in
+      let y = joined in
+      record {
+        table = table;
+        settled = settled;
+        trip = trip-more ((n - start i) * (4 * (n * n))) (omega arith) (trip-append (z .trip) trip);
+        log = log ∙ z .log;
+        room = room-then (room-less ((start (i + 1) - start i) * (4 * (n * n)) + (start i - ring) * (4 * (n * n))) (omega arith) (z .room)) log trip;
+      }
+
+-- all of them are
+module _ {g : List ℕ} {m n ring : ℕ} {at start T : ℕ → ℕ} {i : ℕ} {h₀ l₀ t₀ : List ℕ} {w₀ : ℕ} {h l t : List ℕ} {w : ℕ} (begins : start 0 ≡ ring) (none : i ≡ 0)
+    (z : Handling g m n ring at start T i h₀ l₀ t₀ w₀ h l t w) where
+  first : start i ≡ ring
+  first = ap start none ∙ begins
+
+  pub handling-trip : Trip g m ((n - ring) * (4 * (n * n))) h₀ t₀ w₀ h t w
+  handling-trip = subst (λ (x : ℕ). Trip g m ((n - x) * (4 * (n * n))) h₀ t₀ w₀ h t w) first (z .trip)
+
+  pub handling-end : (j : ℕ) → ring ≤ j → j < n → row h (at j) ≡ T (at j)
+  handling-end j le l = let same = first in z .settled j (omega arith) l
