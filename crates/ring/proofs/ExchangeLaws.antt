@@ -14,6 +14,7 @@
 --     swapped-first, swapped-second, swapped-other, swapped-zero, swapped-some    a for b; b for a; any other rack; no rack; a rack for a rack
 --     exchange-swapped       two racks swapped where they stand are swapped everywhere
 --     exchange-undoing       what taking back the moves before the swap leads to
+--     exchange-moves, exchange-most    the moves before the swap are at most 2 × n × n, and they fit the log
 -- Assumes nothing.
 use Prim.Native.Nat.{ℕ, zero, suc, _+_, _-_, _*_, _≤_, _<_}
 use mathlib.Core.Path.{_≡_, refl, sym, ap, subst, _∙_}
@@ -21,6 +22,7 @@ use mathlib.Core.Bool.{Bool, true, false, cond}
 use mathlib.Core.List.{List, []}
 use mathlib.Core.Logic.{_↔_, _≢_, by-cases, _⊎_, inl, inr, ⊎-elim}
 use native.Mathlib.Decide.{ℕ-discrete}
+use native.Mathlib.Nat.{mul-suc, mul-le-mul}
 use native.Mathlib.Omega.{arith}
 use lib.Dec.{eqb}
 use borrow.Author.Tests.{eq-eqb, ne-eqb}
@@ -177,3 +179,13 @@ module _ (a b : ℕ) where
           back = back-from same
               (back-renamed s (swapped a b) swapped-zero swapped-some (one .trip .went) (done (same-refl (λ x. swapped a b (row h x)))));
         }
+
+pub exchange-moves : (n : ℕ) → 0 < n → (1 + (n * (n - 1) + 1)) + (n * (n - 1) + ((n - 1) + (n - 1))) ≡ 2 * (n * n)
+exchange-moves n some =
+    let less : n ≡ suc (n - 1) = omega arith in
+    let e : n * n ≡ n * suc (n - 1) = ap (λ (x : ℕ). n * x) less in
+    let f = mul-suc n (n - 1) in
+    omega arith
+
+pub exchange-most : (n : ℕ) → n ≤ 64 → n * n ≤ 4096
+exchange-most n small = mul-le-mul small small
