@@ -1,41 +1,83 @@
+-- `ring::settle_place` meets its contract.
+-- Assumes nothing.
+use Prim.Native.Nat.{_+_, _*_}
+use mathlib.Core.Path.{refl}
+use native.Mathlib.Omega.{arith}
 use borrow.Author.Needs.{needs}
+use Rattle.moving.specs.Journey.{row}
+use Rattle.moving.specs.JourneyLaws.{trip-none, trip-more}
+use Rattle.settling.specs.TableLaws.{table-went}
+use Rattle.ring.proofs.RingLaws.{circle-on}
+use Rattle.ring.proofs.SettleLaws.{place-goal, place-held, place-on, place-same, place-done}
 use Rattle.ring.proofs.settle_place.Statement.{statement}
 use Rattle.ring.proofs.settle_place.Tie as tie
-use Rattle.ring.proofs.settle_place.Reads as reads
-use Rattle.ring.proofs.settle_place.Lts as lts
-use Rattle.ring.proofs.exchange.Reads as exchange-reads
 
--- src/lib.rt:155:13
 element-copy-out-p : tie.Need-element-copy-out-p
 element-copy-out-p c = search needs
 
--- src/lib.rt:155:13
 cast-p : tie.Need-cast-p
-cast-p c = ?
+cast-p c =
+    let s = c .before .before in
+    let small = s .pre .0 .small in
+    let x = s .pre .1 .0 .below (s .args .i) (s .pre .1 .1 .0 .2) in
+    omega arith
 
--- src/lib.rt:156:13
 element-copy-out-a : tie.Need-element-copy-out-a
-element-copy-out-a c = ?
+element-copy-out-a c =
+    let s = c .before .before in
+    let small = s .pre .0 .small in
+    let x = s .pre .1 .0 .below (s .args .i) (s .pre .1 .1 .0 .2) in
+    omega arith
 
--- src/lib.rt:157:13
 element-copy-out-b : tie.Need-element-copy-out-b
-element-copy-out-b c = ?
+element-copy-out-b c =
+    let s = c .before .before .before in
+    let small = s .pre .0 .small in
+    let x = s .pre .1 .0 .below (s .args .i) (s .pre .1 .1 .0 .2) in
+    omega arith
 
--- src/lib.rt:159:9
 returns : tie.Need-returns
-returns c = ?
+returns c =
+    let s = c .before .before .before .before .before in
+    let q = s .pre .1 .1 .0 in
+    (trip-more _ (omega arith) (trip-none _ _ _), (place-same (s .pre .1 .0) (q .0) (q .1) (q .2) (c .if1 .taken), refl))
 
--- src/lib.rt:161:5
 exchange-requires : tie.Need-exchange-requires
-exchange-requires c κs = ?
+exchange-requires c κs =
+    let s = c .before .before .before .before .before .before .before .before in
+    let circle = s .pre .1 .0 in
+    let q = s .pre .1 .1 .0 in
+    let state = q .0 in
+    (
+      s .pre .0,
+      (
+        circle,
+        (
+          (state .table, state .zero, state .one),
+          (
+            (
+              c .before .before .before .if1 .left,
+              place-goal circle state (q .1) (q .2),
+              place-held circle state (q .1) (q .2),
+              place-on circle state (q .1) (q .2),
+              (row (s .args .circle .now) (s .args .i), circle-on circle (s .args .i) (q .2), refl),
+            ),
+            s .pre .1 .1 .1,
+          ),
+        ),
+      ),
+    )
 
--- src/lib.rt:138:1
 same-length : tie.Need-same-length
 same-length c = search needs
 
--- src/lib.rt:138:1
 returns-2 : tie.Need-returns-2
-returns-2 c = ?
+returns-2 c =
+    let s = c .before .before .before .before .before .before .before .before .before .before .before in
+    let q = s .pre .1 .1 .0 in
+    let e = c .before .before .exchange .ensures in
+    let t = table-went (s .pre .0 .inside) (e .0 .went) (q .0 .table) in
+    (e .0, (place-done (s .pre .1 .0) (q .0) (q .1) (q .2) (c .before .before .before .before .before .before .if1 .left) t (e .1 .0), e .1 .1))
 
 pub settle-place-spec : {M : Type 1} → statement M
 settle-place-spec =
