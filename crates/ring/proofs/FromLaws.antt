@@ -88,15 +88,69 @@ module _ {n handles size z x : ℕ} {E : ℕ → ℕ → Type 0} {at start left 
   apart : (u v : ℕ) → u < n → v < n → u ≢ v → at u ≢ at v
   apart u v hu hv other = by-cases (decLt u v) (λ y. b .distinct u v y hv) (λ y e. b .distinct v u (omega arith) hu (sym e))
 
-  edge : (u : ℕ) → u < size → (v : ℕ) → (v ≡ u + 1) × (v < size) → E (at u) (at v)
-  edge u hu v y = let e = y .0 in let h = y .1 in subst (λ (k : ℕ). E (at u) (at k)) (sym e) (b .ring-joined u (omega arith))
-
   -- from each place to the next one, round the ring's last place too
-  step : (i : ℕ) → E (at ((z + i) % size)) (at ((z + (i + 1)) % size))
-  step i = ?
+  step : (i : ℕ) → i < size → E (at ((z + i) % size)) (at ((z + (i + 1)) % size))
+  step i h =
+      by-cases (decLt (z + (i + 1)) size)
+      (λ l. edge (z + i) (z + (i + 1)) (near (z + i) size (omega arith)) (near (z + (i + 1)) size l) (omega arith) l)
+      (λ l. by-cases (ℕ-discrete (z + (i + 1)) size)
+      (λ e. round (near (z + i) size (omega arith)) (far (z + (i + 1)) size (omega arith) (omega arith)) e)
+      (λ e. edge (z + i - size) (z + (i + 1) - size) (far (z + i) size (omega arith) (omega arith)) (far (z + (i + 1)) size (omega arith) (omega arith))
+      (omega arith) (omega arith)))
+    where
+      edge : (u v : ℕ) → (z + i) % size ≡ u → (z + (i + 1)) % size ≡ v → v ≡ u + 1 → v < size → E (at ((z + i) % size)) (at ((z + (i + 1)) % size))
+      edge u v p q next l =
+          let f : u + 1 ≡ (z + (i + 1)) % size = omega arith in
+          subst (λ (k : ℕ). E (at ((z + i) % size)) (at k)) f
+          (subst (λ (k : ℕ). E (at k) (at (u + 1))) (sym p) (b .ring-joined u (omega arith)))
+
+      round : (z + i) % size ≡ z + i → (z + (i + 1)) % size ≡ z + (i + 1) - size → z + (i + 1) ≡ size
+          → E (at ((z + i) % size)) (at ((z + (i + 1)) % size))
+      round p q e =
+          let f : size - 1 ≡ (z + i) % size = omega arith in
+          let g : 0 ≡ (z + (i + 1)) % size = omega arith in
+          subst (λ (k : ℕ). E (at ((z + i) % size)) (at k)) g (subst (λ (k : ℕ). E (at k) (at 0)) f (b .ring-closed))
+
+  starts : row l 0 ≡ x
+  starts = laid .laid 0 (omega arith) ∙ ap at (near (z + 0) size (omega arith) ∙ (let e : z + 0 ≡ z = omega arith in e)) ∙ first
+
+  -- a breakdown has a handle: its ring leaves out a position
+  handled : 0 < handles
+  handled =
+      by-cases (ℕ-discrete handles 0)
+      (λ e. let s = b .stops in let q = b .begins in let l = less in let f : start handles ≡ start 0 = ap start e in omega arith)
+      (λ e. omega arith)
 
   pub from-circle : Circle n E (row l) size (at size)
-  from-circle = ?
+  from-circle =
+      let l₁ = less in
+      let three = b .ring-three in
+      record {
+        three = b .ring-three;
+        less = b .ring-less;
+        below = λ i h.
+            let y = inside i in
+            subst (λ (p : ℕ). p < n) (sym (laid .laid i h)) (b .below ((z + i) % size) (omega arith));
+        distinct = λ i j h k e.
+            let u = inside i in
+            let v = inside j in
+            apart ((z + i) % size) ((z + j) % size) (omega arith) (omega arith) (places-apart z size hz i j h k)
+            (sym (laid .laid i (omega arith)) ∙ e ∙ laid .laid j k);
+        joined = λ i h.
+            subst (λ (p : ℕ). E p (row l (i + 1))) (sym (laid .laid i (omega arith)))
+            (subst (λ (p : ℕ). E (at ((z + i) % size)) p) (sym (laid .laid (i + 1) h)) (step i (omega arith)));
+        closed =
+            let end : at ((z + (size - 1 + 1)) % size) ≡ row l 0 =
+            ap at (far (z + (size - 1 + 1)) size (omega arith) (omega arith) ∙ (let e : z + (size - 1 + 1) - size ≡ z = omega arith in e)) ∙ first ∙ sym starts in
+            subst (λ (p : ℕ). E p (row l 0)) (sym (laid .laid (size - 1) (omega arith)))
+            (subst (λ (p : ℕ). E (at ((z + (size - 1)) % size)) p) end (step (size - 1) (omega arith)));
+        beside =
+            subst (λ (p : ℕ). E p (at size)) (some ∙ sym starts)
+            (subst (λ (k : ℕ). E (left 0) (at k)) (b .begins) (b .handle 0 handled .first));
+        off = λ i h e.
+            let y = inside i in
+            b .distinct ((z + i) % size) size y l₁ (sym (laid .laid i h) ∙ e);
+      }
 
   pub from-same : (p : ℕ) → Among at size p ↔ On (row l) size p
   from-same p = (

@@ -246,7 +246,7 @@ fn place_on(order: &[u8; 64], size: usize, x: usize) -> usize
 {
     let mut i: usize = 0;
     while i + 1 < size {
-        if order[i] as usize == x {
+        if field::wide(order[i]) == x {
             return i;
         }
         i += 1;
