@@ -2,6 +2,7 @@
 --
 --     Seeking, seeking-next, seeking-last    the state of `place_on`: x stands at no place before i
 --     Laid, laid-none, laid-next    the state of `ring_from`: the first j places are laid
+--     place-in              (z + i) % size is a place
 --     from-circle           the breakdown's ring from place z on is a ring
 --     from-same             with the same positions
 -- Assumes nothing.
@@ -57,7 +58,7 @@ far : (x size : ℕ) → size ≤ x → x < size + size → x % size ≡ x - siz
 far x size l h = mod-eq-sub-mod l ∙ mod-eq-of-lt (omega arith)
 
 module _ (z size : ℕ) (hz : z < size) where
-  place-in : (i : ℕ) → (z + i) % size < size
+  pub place-in : (i : ℕ) → (z + i) % size < size
   place-in i = mod-lt (z + i) (omega arith)
 
   places-apart : (i j : ℕ) → i < j → j < size → (z + i) % size ≢ (z + j) % size

@@ -1,54 +1,61 @@
+-- `ring::ring_from` meets its contract.
+-- Assumes nothing.
+use Prim.Native.Nat.{ℕ, _-_, _≤_}
+use mathlib.Core.Path.{_≡_, subst}
+use native.Mathlib.Omega.{arith}
+use Rattle.moving.specs.Journey.{row}
+use Rattle.ring.proofs.FromLaws.{Laid, laid-none, laid-next, place-in, from-circle, from-same}
 use Rattle.ring.proofs.ring_from.Statement.{statement}
 use Rattle.ring.proofs.ring_from.Tie as tie
-use Rattle.ring.proofs.ring_from.Reads as reads
-use Rattle.ring.proofs.ring_from.Lts as lts
-use Rattle.ring.proofs.place_on.Reads as place-on-reads
 
 abbrev Inv-loop : tie.InvT-loop
-Inv-loop order size x circle₀ z j₀ circle j = ?
+Inv-loop order size x circle₀ z j₀ circle j = (j ≤ size) × Laid (row order) z size j circle
 
 abbrev μ-loop : tie.MeasureT-loop
-μ-loop order size x circle₀ z j₀ circle j = ?
+μ-loop order size x circle₀ z j₀ circle j = size - j
 
--- src/lib.rt:262:9
 place-on-requires : tie.Need-place-on-requires Inv-loop μ-loop
-place-on-requires c κs = ?
+place-on-requires c κs = (c .pre .0, c .pre .1)
 
--- src/lib.rt:264:5
 loop-holds : tie.Need-loop-holds Inv-loop μ-loop
-loop-holds c = ?
+loop-holds c = (omega arith, laid-none _ _ _ _ (c .before .pre .2))
 
--- src/lib.rt:265:28
 add-circle : tie.Need-add-circle Inv-loop μ-loop
-add-circle c = ?
+add-circle c = let s = c .before .before .before .pre .0 in let z = c .before .before .place-on .ensures .0 in omega arith
 
--- src/lib.rt:265:27
 rem-circle : tie.Need-rem-circle Inv-loop μ-loop
-rem-circle c = ?
+rem-circle c = let z = c .before .before .place-on .ensures .0 in omega arith
 
--- src/lib.rt:265:21
 element-copy-out-circle : tie.Need-element-copy-out-circle Inv-loop μ-loop
-element-copy-out-circle c = ?
+element-copy-out-circle c =
+    let s = c .before .before .before .pre .0 in
+    let z = place-in (c .before .before .place-on .result) (c .before .before .before .args .size) (c .before .before .place-on .ensures .0) (c .before .loop .j) in
+    omega arith
 
--- src/lib.rt:265:9
 element-write-circle : tie.Need-element-write-circle Inv-loop μ-loop
-element-write-circle c = ?
+element-write-circle c = let s = c .before .before .before .before .pre .0 in let l = c .before .loop-test .taken in omega arith
 
--- src/lib.rt:266:9
 add-j : tie.Need-add-j Inv-loop μ-loop
-add-j c = ?
+add-j c = let s = c .before .before .before .before .pre .0 in let l = c .before .loop-test .taken in omega arith
 
--- src/lib.rt:264:5
 loop-less : tie.Need-loop-less Inv-loop μ-loop
-loop-less c = ?
+loop-less c = let l = c .before .loop-test .taken in omega arith
 
--- src/lib.rt:264:5
 loop-again : tie.Need-loop-again Inv-loop μ-loop
-loop-again c = ?
+loop-again c =
+    let s = c .before .before .before .before .pre .0 in
+    let l = c .before .loop-test .taken in
+    (omega arith, laid-next (row (c .before .before .before .before .args .order .now)) (c .before .before .before .place-on .result) (c .before .before .before .before .args .size) (c .before .before .loop .j) (c .before .before .loop .circle) (omega arith) (c .before .before .loop .inv .1))
 
--- src/lib.rt:258:1
 returns : tie.Need-returns Inv-loop μ-loop
-returns c = ?
+returns c =
+    let z = c .before .before .place-on in
+    let l = c .before .loop in
+    let low = l .inv .0 in
+    let high = c .loop-test .left in
+    let all : l .j ≡ c .before .before .before .args .size = omega arith in
+    let laid = subst (λ (j : ℕ). Laid (row (c .before .before .before .args .order .now)) (z .result) (c .before .before .before .args .size) j (l .circle)) all (l .inv .1) in
+    λ n handles g start left right rows b e. (from-circle b (z .ensures .0) (z .ensures .1) laid e, from-same b (z .ensures .0) (z .ensures .1) laid e)
 
 pub ring-from-spec : {M : Type 1} → statement M
 ring-from-spec =
