@@ -1,10 +1,9 @@
--- Laws of an exchange on the ring. A rack is brought aside: the rack at y, beside place 0, steps onto the ring, rack a is brought to place 0, and from
--- there to y. Then rack b is brought to place 1, and place 0 and the last place are cleared.
+-- Laws of an exchange on the ring. A rack is brought aside: the rack at y, beside place 0, steps onto the ring, rack a is brought to place 0, and
+-- from there to y. Then rack b is brought to place 1, and place 0 and the last place are cleared.
 --
 --     aside-held             y holds a rack
 --     aside-stands           a stands on the ring after the step
---     aside-at               so that where it stands is on the ring
---     aside-vacancy          place 1 is vacant still
+--     aside-vacant           place 1 is vacant still
 --     aside-brought          a is at place 0, and y vacant
 --     aside-done             a is at y, and what is off the ring and not y did not move
 --     rack-on                a rack that stood on the ring, and does not stand at y, stands on the ring
@@ -16,11 +15,11 @@
 --     exchange-undoing       what taking back the moves before the swap leads to
 --     exchange-moves, exchange-most    the moves before the swap are at most 2 × n × n, and they fit the log
 -- Assumes nothing.
-use Prim.Native.Nat.{ℕ, zero, suc, _+_, _-_, _*_, _≤_, _<_}
+use Prim.Native.Nat.{ℕ, suc, _+_, _-_, _*_, _≤_, _<_}
 use mathlib.Core.Path.{_≡_, refl, sym, ap, subst, _∙_}
-use mathlib.Core.Bool.{Bool, true, false, cond}
+use mathlib.Core.Bool.{Bool, cond}
 use mathlib.Core.List.{List, []}
-use mathlib.Core.Logic.{_↔_, _≢_, by-cases, _⊎_, inl, inr, ⊎-elim}
+use mathlib.Core.Logic.{_↔_, _≢_, by-cases}
 use native.Mathlib.Decide.{ℕ-discrete}
 use native.Mathlib.Nat.{mul-suc, mul-le-mul}
 use native.Mathlib.Omega.{arith}
@@ -30,20 +29,20 @@ use Rattle.sets.specs.Sets.{Has}
 use Rattle.graph.specs.Walk.{Symmetric}
 use Rattle.graph.specs.Rows.{Edge, Rows}
 use Rattle.breakdown.specs.Breakdown.{Between}
-use Rattle.moving.specs.Went.{Same, Went}
+use Rattle.moving.specs.Went.{Same}
 use Rattle.moving.specs.Went.Back.{done}
 use Rattle.moving.specs.WentLaws.{same-refl}
-use Rattle.moving.specs.Journey.{row, onto, Trail, Journey}
+use Rattle.moving.specs.Journey.{row, onto, Journey}
 use Rattle.moving.specs.Journey.Trail.{start}
 use Rattle.moving.specs.BackLaws.{back-from, back-renamed}
 use Rattle.moving.specs.Turned.{Undoing}
-use Rattle.moving.specs.Cleared.{Reaches, Vacancy, Cleared, Brought}
+use Rattle.moving.specs.Cleared.{Cleared, Brought}
 use Rattle.moving.proofs.UndoLaws.{trail-below}
 use Rattle.settling.specs.Table.{Table}
 use Rattle.settling.specs.TableLaws.{table-rack}
 use Rattle.settling.specs.Circle.{Circle, On, swapped}
 use Rattle.ring.proofs.MoveLaws.{Moved, Swapped}
-use Rattle.ring.proofs.RingLaws.{on-surely, circle-on, circle-below, circle-apart, circle-off, circle-beside, Filled, filled-two, filled-same, ring-has, ring-on}
+use Rattle.ring.proofs.RingLaws.{on-surely, circle-on, circle-apart, circle-off, circle-beside, Filled, filled-two, ring-on}
 
 -- a rack of a table that stands where one on the ring does
 pub rack-at : {n size : ℕ} {c h : ℕ → ℕ} → Table n h → (r : ℕ) → r ≢ 0 → (p : ℕ) × On c size p × (h p ≡ r) → (q : ℕ) → h q ≡ r → On c size q
@@ -73,7 +72,8 @@ module _ {n size y : ℕ} {g : List ℕ} {c : ℕ → ℕ} (rows : Rows n g) (ci
       pub aside-vacant : h₁ (c 1) ≡ 0
       aside-vacant =
           let l = three in
-          step .0 (c 1) (on-beside (c 1) (circle-on circle 1 (omega arith))) (circle-apart circle 1 0 (omega arith) (omega arith) (omega arith)) ∙ second
+          step .0 (c 1) (on-beside (c 1) (circle-on circle 1 (omega arith))) (circle-apart circle 1 0 (omega arith) (omega arith) (omega arith))
+          ∙ second
 
       module _ (ring : ℕ) (part : (p : ℕ) → Has ring p ↔ Between c 0 size p) (at : ℕ) (is : h₁ at ≡ a) {h₂ : ℕ → ℕ}
           (brought : Brought (Has ring) at (c 0) h₁ h₂) where
@@ -141,7 +141,10 @@ module _ (a b : ℕ) where
   swapped-first = ap (λ (t : Bool). cond t b (cond (eqb a b) a a)) (eq-eqb a a refl)
 
   pub swapped-second : swapped a b b ≡ a
-  swapped-second = by-cases (ℕ-discrete b a) (λ e. ap (swapped a b) e ∙ swapped-first ∙ e) (λ e. ap (λ (t : Bool). cond t b (cond (eqb b b) a b)) (ne-eqb b a e) ∙ ap (λ (t : Bool). cond t a b) (eq-eqb b b refl))
+  swapped-second =
+      by-cases (ℕ-discrete b a)
+      (λ e. ap (swapped a b) e ∙ swapped-first ∙ e)
+      (λ e. ap (λ (t : Bool). cond t b (cond (eqb b b) a b)) (ne-eqb b a e) ∙ ap (λ (t : Bool). cond t a b) (eq-eqb b b refl))
 
   pub swapped-other : (r : ℕ) → r ≢ a → r ≢ b → swapped a b r ≡ r
   swapped-other r x y = ap (λ (t : Bool). cond t b (cond (eqb r b) a r)) (ne-eqb r a x) ∙ ap (λ (t : Bool). cond t a r) (ne-eqb r b y)

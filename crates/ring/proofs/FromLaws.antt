@@ -6,8 +6,8 @@
 --     from-circle           the breakdown's ring from place z on is a ring
 --     from-same             with the same positions
 -- Assumes nothing.
-use Prim.Native.Nat.{ℕ, suc, _+_, _-_, _%_, _≤_, _<_}
-use mathlib.Core.Path.{_≡_, refl, sym, ap, subst, _∙_}
+use Prim.Native.Nat.{ℕ, _+_, _-_, _%_, _≤_, _<_}
+use mathlib.Core.Path.{_≡_, sym, ap, subst, _∙_}
 use mathlib.Core.List.{List}
 use mathlib.Core.Logic.{_↔_, _≢_, by-cases}
 use native.Mathlib.Decide.{ℕ-discrete, decLt}
@@ -96,8 +96,8 @@ module _ {n handles size z x : ℕ} {E : ℕ → ℕ → Type 0} {at start left 
       (λ l. edge (z + i) (z + (i + 1)) (near (z + i) size (omega arith)) (near (z + (i + 1)) size l) (omega arith) l)
       (λ l. by-cases (ℕ-discrete (z + (i + 1)) size)
       (λ e. round (near (z + i) size (omega arith)) (far (z + (i + 1)) size (omega arith) (omega arith)) e)
-      (λ e. edge (z + i - size) (z + (i + 1) - size) (far (z + i) size (omega arith) (omega arith)) (far (z + (i + 1)) size (omega arith) (omega arith))
-      (omega arith) (omega arith)))
+      (λ e. edge (z + i - size) (z + (i + 1) - size) (far (z + i) size (omega arith) (omega arith))
+      (far (z + (i + 1)) size (omega arith) (omega arith)) (omega arith) (omega arith)))
     where
       edge : (u v : ℕ) → (z + i) % size ≡ u → (z + (i + 1)) % size ≡ v → v ≡ u + 1 → v < size → E (at ((z + i) % size)) (at ((z + (i + 1)) % size))
       edge u v p q next l =
@@ -142,7 +142,8 @@ module _ {n handles size z x : ℕ} {E : ℕ → ℕ → Type 0} {at start left 
             (subst (λ (p : ℕ). E (at ((z + i) % size)) p) (sym (laid .laid (i + 1) h)) (step i (omega arith)));
         closed =
             let end : at ((z + (size - 1 + 1)) % size) ≡ row l 0 =
-            ap at (far (z + (size - 1 + 1)) size (omega arith) (omega arith) ∙ (let e : z + (size - 1 + 1) - size ≡ z = omega arith in e)) ∙ first ∙ sym starts in
+            ap at (far (z + (size - 1 + 1)) size (omega arith) (omega arith) ∙ (let e : z + (size - 1 + 1) - size ≡ z = omega arith in e))
+            ∙ first ∙ sym starts in
             subst (λ (p : ℕ). E p (row l 0)) (sym (laid .laid (size - 1) (omega arith)))
             (subst (λ (p : ℕ). E (at ((z + (size - 1)) % size)) p) end (step (size - 1) (omega arith)));
         beside =

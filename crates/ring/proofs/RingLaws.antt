@@ -12,7 +12,7 @@
 --     filled-on            then a vacancy is on the ring
 --     filled-two           so it is where places 0 and 1 are vacant
 --     filled-same          and where the same stands off the ring
---     ring-has, ring-below, ring-off, ring-robust    the ring as a set
+--     ring-has, ring-on, ring-below, ring-robust    the ring as a set
 --     ring-vacancy         the set has a vacancy
 --     ring-reaches         a walk leads from each place to a vacancy, where every position off the ring holds a rack
 --     ring-reaches-without    and to one that is not at place i, without it
@@ -27,10 +27,10 @@ use native.Mathlib.Omega.{arith}
 use Rattle.sets.specs.Sets.{Has}
 use Rattle.graph.specs.Walk.{Way, Symmetric}
 use Rattle.graph.specs.WalkLaws.{walk-segment, walk-inside, way-reverse}
-use Rattle.graph.specs.Connected.{Whole, Except, Robust}
+use Rattle.graph.specs.Connected.{Robust}
 use Rattle.graph.specs.ConnectedLaws.{whole-same}
 use Rattle.graph.specs.Rows.{Edge, Rows}
-use Rattle.breakdown.specs.Breakdown.{Among, Between}
+use Rattle.breakdown.specs.Breakdown.{Between}
 use Rattle.breakdown.specs.StageLaws as stage
 use Rattle.moving.specs.Cleared.{Reaches, Vacancy}
 use Rattle.settling.specs.Table.{Table}
@@ -166,8 +166,9 @@ module _ {n size y : ℕ} {g : List ℕ} {c : ℕ → ℕ} (rows : Rows n g) (ci
         inner : (i : ℕ) → 2 ≤ i → i < size → Has more (c i)
         inner i le l =
             has-more (c i) .1 (
-            has (c i) .1 (ring-has (c i) (circle-on circle i l), circle-apart circle i 1 l (omega arith) (omega arith)),
-            circle-apart circle i 0 l (omega arith) (omega arith))
+              has (c i) .1 (ring-has (c i) (circle-on circle i l), circle-apart circle i 1 l (omega arith) (omega arith)),
+              circle-apart circle i 0 l (omega arith) (omega arith),
+            )
 
         -- down the row from the last place
         down : (i : ℕ) → 2 ≤ i → i < size → Way (Edge g) (Has more) (c (size - 1)) (c i)

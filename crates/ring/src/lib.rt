@@ -101,7 +101,17 @@ fn bring_next(
     let brought = moving::bring(rows, n, ring, at, next, real, racks, log, tail, tally);
     let free = sets::without(ring, next);
     let cleared = moving::clear(rows, n, free, x, real, racks, log, tail, brought);
-    moving::clear(rows, n, sets::without(free, x), last, real, racks, log, tail, cleared)
+    moving::clear(
+        rows,
+        n,
+        sets::without(free, x),
+        last,
+        real,
+        racks,
+        log,
+        tail,
+        cleared,
+    )
 }
 
 // Exchanges the racks a and b, which stand on the ring, while its places 0 and 1 are vacant. The rack at y, beside place 0, steps onto the ring, a is

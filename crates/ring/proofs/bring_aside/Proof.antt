@@ -1,6 +1,5 @@
 -- `ring::bring_aside` meets its contract.
 -- Assumes nothing.
-use Prim.Native.Nat.{_+_, _-_, _*_}
 use mathlib.Core.Path.{sym, _∙_}
 use native.Mathlib.Omega.{arith}
 use borrow.Author.Needs.{needs}
@@ -67,8 +66,7 @@ bring-requires c κs =
     let w = c .before .before .before .where-is in
     let go = m .0 (s .args .rows .now) (rows .symmetric _ _ (circle .beside)) in
     let x = aside-stands rows circle (t .0) (t .1) (t .2) (s .args .a) (a .0) (a .1) (m .1) in
-    let on = rack-at (table-went (rows .inside) (go .trip .went) (t .0)) (s .args .a) (a .0) x (w .result) (w .ensures .1) in
-    (
+    let on = rack-at (table-went (rows .inside) (go .trip .went) (t .0)) (s .args .a) (a .0) x (w .result) (w .ensures .1) in (
       rows,
       (
         (
@@ -93,21 +91,23 @@ bring-requires c κs =
 
 make-move-requires-2 : tie.Need-make-move-requires-2
 make-move-requires-2 c κs =
-    let s = c .before .before .before .before .before .before .before .before .before .before .before .before .before .before .before .before .before .before .before .before in
+    let d = c .before .before .before .before .before .before .before .before .before .before .before .before in
+    let s = d .before .before .before .before .before .before .before .before in
     let rows = s .pre .0 in
     let circle = s .pre .1 .0 in
     let t = s .pre .1 .1 .0 in
     let a = s .pre .1 .1 .1 .0 in
     let small = rows .small in
     let three = circle .three in
-    let part = c .before .before .before .before .before .before .before .before .before .before .before .before .before .before .before .before .before .part in
-    let m = c .before .before .before .before .before .before .before .before .before .before .before .before .before .make-move .ensures in
+    let part = d .before .before .before .before .before .part in
+    let m = d .before .make-move .ensures in
     let w = c .before .before .before .before .before .before .before .before .before .where-is in
     let b = c .before .before .before .before .before .bring .ensures in
     let go = m .0 (s .args .rows .now) (rows .symmetric _ _ (circle .beside)) in
     let x = circle .below 0 (omega arith) in
     let y = circle-beside rows circle in
-    let v = aside-brought rows circle (t .0) (t .1) (t .2) (s .args .a) (a .0) (a .1) (m .1) (part .result) (part .ensures) (w .result) (w .ensures .1) (b .1) in
+    let v = aside-brought rows circle (t .0) (t .1) (t .2) (s .args .a) (a .0) (a .1) (m .1) (part .result) (part .ensures) (w .result)
+    (w .ensures .1) (b .1) in
     ((omega arith, omega arith, v .0, v .1), fits-then (fits-then (s .pre .1 .1 .1 .1) go) (b .0))
 
 same-length : tie.Need-same-length
@@ -115,20 +115,21 @@ same-length c = search needs
 
 returns : tie.Need-returns
 returns c =
-    let s = c .before .before .before .before .before .before .before .before .before .before .before .before .before .before .before .before .before .before .before .before .before .before .before in
+    let d = c .before .before .before .before .before .before .before .before .before .before .before .before in
+    let s = d .before .before .before .before .before .before .before .before .before .before .before in
     let rows = s .pre .0 in
     let circle = s .pre .1 .0 in
     let t = s .pre .1 .1 .0 in
     let a = s .pre .1 .1 .1 .0 in
-    let part = c .before .before .before .before .before .before .before .before .before .before .before .before .before .before .before .before .before .before .before .before .part in
-    let m = c .before .before .before .before .before .before .before .before .before .before .before .before .before .before .before .before .make-move .ensures in
-    let w = c .before .before .before .before .before .before .before .before .before .before .before .before .where-is in
+    let part = d .before .before .before .before .before .before .before .before .part in
+    let m = d .before .before .before .before .make-move .ensures in
+    let w = d .where-is in
     let b = c .before .before .before .before .before .before .before .before .bring .ensures in
     let o = c .before .before .make-move2 .ensures in
-    let go = m .0 (s .args .rows .now) (rows .symmetric _ _ (circle .beside)) in
-    (
+    let go = m .0 (s .args .rows .now) (rows .symmetric _ _ (circle .beside)) in (
       journey-append go (journey-append (b .0) (o .0 (s .args .rows .now) (circle .beside))),
-      aside-done rows circle (t .0) (t .1) (t .2) (s .args .a) (a .0) (a .1) (m .1) (part .result) (part .ensures) (w .result) (w .ensures .1) (b .1) (o .1),
+      aside-done rows circle (t .0) (t .1) (t .2) (s .args .a) (a .0) (a .1) (m .1) (part .result) (part .ensures) (w .result)
+          (w .ensures .1) (b .1) (o .1),
     )
 
 pub bring-aside-spec : {M : Type 1} → statement M

@@ -1,12 +1,13 @@
 -- `ring::bring_next` meets its contract.
 -- Assumes nothing.
-use Prim.Native.Nat.{_+_, _-_, _*_}
+use Prim.Native.Nat.{_-_}
 use mathlib.Core.Path.{sym, _∙_}
 use native.Mathlib.Omega.{arith}
 use borrow.Author.Needs.{needs}
 use Rattle.moving.specs.JourneyLaws.{journey-append, fits-less, fits-then}
 use Rattle.settling.specs.TableLaws.{table-went}
-use Rattle.ring.proofs.RingLaws.{circle-on, circle-below, filled-same, ring-has, ring-below, ring-robust, ring-vacancy, ring-reaches-without, ring-reaches-last}
+use Rattle.ring.proofs.RingLaws.{circle-on, circle-below, filled-same, ring-has, ring-below, ring-robust, ring-vacancy}
+use Rattle.ring.proofs.RingLaws.{ring-reaches-without, ring-reaches-last}
 use Rattle.ring.proofs.ExchangeLaws.{rack-at, next-brought, next-cleared, next-done}
 use Rattle.ring.proofs.bring_next.Statement.{statement}
 use Rattle.ring.proofs.bring_next.Tie as tie
@@ -70,8 +71,7 @@ bring-requires c κs =
     let b = s .pre .1 .1 .1 .0 in
     let ring = c .before .before .before .before .before .part .result in
     let part = c .before .before .before .before .before .part .ensures in
-    let w = c .before .before .before .where-is in
-    (
+    let w = c .before .before .before .where-is in (
       rows,
       (
         (
@@ -94,20 +94,20 @@ without-requires c κs =
 
 clear-requires : tie.Need-clear-requires
 clear-requires c κs =
-    let s = c .before .before .before .before .before .before .before .before .before .before .before .before .before .before .before .before .before in
+    let d = c .before .before .before .before .before .before .before .before .before .before .before .before in
+    let s = d .before .before .before .before .before in
     let rows = s .pre .0 in
     let circle = s .pre .1 .0 .1 in
     let three = circle .three in
     let t = s .pre .1 .1 .0 in
     let b = s .pre .1 .1 .1 .0 in
-    let ring = c .before .before .before .before .before .before .before .before .before .before .before .before .part .result in
-    let part = c .before .before .before .before .before .before .before .before .before .before .before .before .part .ensures in
+    let ring = d .part .result in
+    let part = d .part .ensures in
     let w = c .before .before .before .before .before .before .before .before .before .before .where-is in
     let m = c .before .before .before .before .before .before .bring .ensures in
     let has = c .before .before .before .without .ensures in
     let x = next-brought rows circle (s .args .b) (b .0) ring (w .result) part (w .ensures .1) (m .1) in
-    let t₁ = table-went (rows .inside) (m .0 .trip .went) (t .0) in
-    (
+    let t₁ = table-went (rows .inside) (m .0 .trip .went) (t .0) in (
       rows,
       (
         (
@@ -121,7 +121,8 @@ clear-requires c κs =
 
 without-requires-2 : tie.Need-without-requires-2
 without-requires-2 c κs =
-    let s = c .before .before .before .before .before .before .before .before .before .before .before .before .before .before .before .before .before .before .before .before in
+    let d = c .before .before .before .before .before .before .before .before .before .before .before .before in
+    let s = d .before .before .before .before .before .before .before .before in
     let small = s .pre .0 .small in
     let three = s .pre .1 .0 .1 .three in
     let x = s .pre .1 .0 .1 .below 0 (omega arith) in
@@ -129,23 +130,23 @@ without-requires-2 c κs =
 
 clear-requires-2 : tie.Need-clear-requires-2
 clear-requires-2 c κs =
-    let s = c .before .before .before .before .before .before .before .before .before .before .before .before .before .before .before .before .before .before .before .before .before .before .before .before in
+    let d = c .before .before .before .before .before .before .before .before .before .before .before .before in
+    let s = d .before .before .before .before .before .before .before .before .before .before .before .before in
     let rows = s .pre .0 in
     let circle = s .pre .1 .0 .1 in
     let three = circle .three in
     let t = s .pre .1 .1 .0 in
     let b = s .pre .1 .1 .1 .0 in
-    let ring = c .before .before .before .before .before .before .before .before .before .before .before .before .before .before .before .before .before .before .before .part .result in
-    let part = c .before .before .before .before .before .before .before .before .before .before .before .before .before .before .before .before .before .before .before .part .ensures in
-    let w = c .before .before .before .before .before .before .before .before .before .before .before .before .before .before .before .before .before .where-is in
-    let m = c .before .before .before .before .before .before .before .before .before .before .before .before .before .bring .ensures in
+    let ring = d .before .before .before .before .before .before .before .part .result in
+    let part = d .before .before .before .before .before .before .before .part .ensures in
+    let w = d .before .before .before .before .before .where-is in
+    let m = d .before .bring .ensures in
     let has = c .before .before .before .before .before .before .before .before .before .before .without .ensures in
     let o = c .before .before .before .before .before .before .clear .ensures in
     let more = c .before .before .before .without2 .ensures in
     let x = next-cleared rows circle (s .args .b) (b .0) ring (w .result) part (w .ensures .1) (m .1) _ has (o .1) in
     let t₁ = table-went (rows .inside) (m .0 .trip .went) (t .0) in
-    let t₂ = table-went (rows .inside) (o .0 .trip .went) t₁ in
-    (
+    let t₂ = table-went (rows .inside) (o .0 .trip .went) t₁ in (
       rows,
       (
         (
@@ -162,19 +163,19 @@ same-length c = search needs
 
 returns : tie.Need-returns
 returns c =
-    let s = c .before .before .before .before .before .before .before .before .before .before .before .before .before .before .before .before .before .before .before .before .before .before .before .before .before .before .before in
+    let d = c .before .before .before .before .before .before .before .before .before .before .before .before in
+    let s = d .before .before .before .before .before .before .before .before .before .before .before .before .before .before .before in
     let rows = s .pre .0 in
     let circle = s .pre .1 .0 .1 in
     let b = s .pre .1 .1 .1 .0 in
-    let ring = c .before .before .before .before .before .before .before .before .before .before .before .before .before .before .before .before .before .before .before .before .before .before .part .result in
-    let part = c .before .before .before .before .before .before .before .before .before .before .before .before .before .before .before .before .before .before .before .before .before .before .part .ensures in
-    let w = c .before .before .before .before .before .before .before .before .before .before .before .before .before .before .before .before .before .before .before .before .where-is in
-    let m = c .before .before .before .before .before .before .before .before .before .before .before .before .before .before .before .before .bring .ensures in
-    let has = c .before .before .before .before .before .before .before .before .before .before .before .before .before .without .ensures in
+    let ring = d .before .before .before .before .before .before .before .before .before .before .part .result in
+    let part = d .before .before .before .before .before .before .before .before .before .before .part .ensures in
+    let w = d .before .before .before .before .before .before .before .before .where-is in
+    let m = d .before .before .before .before .bring .ensures in
+    let has = d .before .without .ensures in
     let o = c .before .before .before .before .before .before .before .before .before .clear .ensures in
     let more = c .before .before .before .before .before .before .without2 .ensures in
-    let u = c .before .before .clear2 .ensures in
-    (
+    let u = c .before .before .clear2 .ensures in (
       journey-append (m .0) (journey-append (o .0) (u .0)),
       next-done rows circle (s .args .b) (b .0) ring (w .result) part (w .ensures .1) (m .1) _ has (o .1) _ more (u .1),
     )

@@ -4,7 +4,7 @@ use Prim.Native.Nat.{_+_, _-_, _*_}
 use mathlib.Core.Path.{sym, _∙_}
 use native.Mathlib.Omega.{arith}
 use borrow.Author.Needs.{needs}
-use Rattle.moving.specs.JourneyLaws.{journey-append, trip-append, trip-more, fits-less, fits-then, fits-anew, room-then, room-less}
+use Rattle.moving.specs.JourneyLaws.{journey-append, trip-append, trip-more, fits-then, fits-anew, room-then, room-less}
 use Rattle.settling.specs.TableLaws.{table-went}
 use Rattle.ring.proofs.RingLaws.{circle-off, circle-beside, circle-apart}
 use Rattle.ring.proofs.ExchangeLaws.{aside-filled, rack-on, exchange-swapped, exchange-undoing, exchange-moves, exchange-most}
@@ -70,8 +70,7 @@ bring-next-requires c κs =
     let less = circle .less in
     let n = s .args .n in
     let e = exchange-moves n (omega arith) in
-    let f = exchange-most n small in
-    (
+    let f = exchange-most n small in (
       rows,
       (
         (s .args .y, circle),
@@ -79,7 +78,8 @@ bring-next-requires c κs =
           (t₁, aside-filled rows circle (t .0) (t .1) (t .2) (r .1) (m .1)),
           (
             (r .2, rack-on rows circle (t .0) (t .1) (t .2) (r .1) (m .1) t₁ (s .args .b) (r .0) (r .2) (r .4)),
-            fits-then (fits-anew ((1 + (n * (n - 1) + 1)) + (n * (n - 1) + ((n - 1) + (n - 1)))) (omega arith) (omega arith) (s .pre .1 .1 .1 .1)) (m .0),
+            fits-then (fits-anew ((1 + (n * (n - 1) + 1)) + (n * (n - 1) + ((n - 1) + (n - 1)))) (omega arith) (omega arith) (s .pre .1 .1 .1 .1))
+                (m .0),
           ),
         ),
       ),
@@ -87,7 +87,8 @@ bring-next-requires c κs =
 
 swap-requires : tie.Need-swap-requires
 swap-requires c κs =
-    let s = c .before .before .before .before .before .before .before .before .before .before .before .before .before .before .before .before .before .before .before in
+    let d = c .before .before .before .before .before .before .before .before .before .before .before .before in
+    let s = d .before .before .before .before .before .before .before in
     let rows = s .pre .0 in
     let circle = s .pre .1 .0 in
     let r = s .pre .1 .1 .1 .0 in
@@ -103,17 +104,20 @@ swap-requires c κs =
     let x = circle .below 0 (omega arith) in
     let next = circle .below 1 (omega arith) in
     let last = circle .below (size - 1) (omega arith) in
-    let y = circle-beside rows circle in
-    (
+    let y = circle-beside rows circle in (
       (
-        omega arith, omega arith, omega arith, omega arith,
+        omega arith,
+        omega arith,
+        omega arith,
+        omega arith,
         circle-apart circle 1 (size - 1) (omega arith) (omega arith) (omega arith),
         circle .off 1 (omega arith),
         circle .off (size - 1) (omega arith),
       ),
       (
         (
-          o .1 .0, o .1 .1,
+          o .1 .0,
+          o .1 .1,
           λ z. r .2 (sym (o .1 .2) ∙ z),
           λ z. r .1 (sym (o .1 .3 (s .args .y) (circle-off circle) ∙ m .1 .0) ∙ z),
           circle-apart circle 0 (size - 1) (omega arith) (omega arith) (omega arith),
@@ -125,12 +129,13 @@ swap-requires c κs =
 
 undo-requires : tie.Need-undo-requires
 undo-requires c κs =
-    let s = c .before .before .before .before .before .before .before .before .before .before .before .before .before .before .before .before .before .before .before .before .before .before .before .before .before in
+    let d = c .before .before .before .before .before .before .before .before .before .before .before .before in
+    let s = d .before .before .before .before .before .before .before .before .before .before .before .before .before in
     let rows = s .pre .0 in
     let circle = s .pre .1 .0 in
     let t = s .pre .1 .1 .0 in
     let r = s .pre .1 .1 .1 .0 in
-    let m = c .before .before .before .before .before .before .before .before .before .before .before .before .before .before .before .before .before .bring-aside .ensures in
+    let m = d .before .before .before .before .before .bring-aside .ensures in
     let o = c .before .before .before .before .before .before .before .before .before .before .before .bring-next .ensures in
     let u = c .before .before .before .before .before .swap .ensures in
     let small = rows .small in
@@ -144,8 +149,7 @@ undo-requires c κs =
     let t₁ = table-went (rows .inside) (one .trip .went) (t .0) in
     let few = one .trip .few in
     let logged = one .logged in
-    let same = exchange-swapped (s .args .a) (s .args .b) (r .1) (r .2) t₁ _ _ (o .1 .2) (o .1 .3 (s .args .y) (circle-off circle) ∙ m .1 .0) (u .1) in
-    (
+    let same = exchange-swapped (s .args .a) (s .args .b) (r .1) (r .2) t₁ _ _ (o .1 .2) (o .1 .3 (s .args .y) (circle-off circle) ∙ m .1 .0) (u .1) in (
       (s .args .rows .now, _, _, exchange-undoing (s .args .a) (s .args .b) (r .1) (r .2) (rows .symmetric) one two same),
       (
         omega arith,
@@ -159,13 +163,14 @@ same-length c = search needs
 
 returns : tie.Need-returns
 returns c =
-    let s = c .before .before .before .before .before .before .before .before .before .before .before .before .before .before .before .before .before .before .before .before .before .before .before .before .before .before .before .before in
+    let d = c .before .before .before .before .before .before .before .before .before .before .before .before in
+    let s = d .before .before .before .before .before .before .before .before .before .before .before .before .before .before .before .before in
     let rows = s .pre .0 in
     let circle = s .pre .1 .0 in
     let t = s .pre .1 .1 .0 in
     let r = s .pre .1 .1 .1 .0 in
-    let m = c .before .before .before .before .before .before .before .before .before .before .before .before .before .before .before .before .before .before .before .before .bring-aside .ensures in
-    let o = c .before .before .before .before .before .before .before .before .before .before .before .before .before .before .bring-next .ensures in
+    let m = d .before .before .before .before .before .before .before .before .bring-aside .ensures in
+    let o = d .before .before .bring-next .ensures in
     let u = c .before .before .before .before .before .before .before .before .swap .ensures in
     let v = c .before .before .undo .ensures in
     let small = rows .small in
@@ -178,7 +183,8 @@ returns c =
     let t₁ = table-went (rows .inside) (one .trip .went) (t .0) in
     let few = one .trip .few in
     let logged = one .logged in
-    let same = exchange-swapped (s .args .a) (s .args .b) (r .1) (r .2) t₁ _ _ (o .1 .2) (o .1 .3 (s .args .y) (circle-off circle) ∙ m .1 .0) (u .1) in
+    let same = exchange-swapped (s .args .a) (s .args .b) (r .1) (r .2) t₁ _ _ (o .1 .2)
+    (o .1 .3 (s .args .y) (circle-off circle) ∙ m .1 .0) (u .1) in
     let back = v .0 (s .args .rows .now) _ _ (exchange-undoing (s .args .a) (s .args .b) (r .1) (r .2) (rows .symmetric) one two same) in
     (trip-more _ (omega arith) (trip-append (trip-append (one .trip) (two .trip)) (back .0)), (back .1, v .1 ∙ two .log ∙ one .log))
 

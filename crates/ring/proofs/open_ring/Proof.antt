@@ -4,7 +4,7 @@ use Prim.Native.Nat.{_+_, _-_}
 use mathlib.Core.Path.{_∙_}
 use native.Mathlib.Omega.{arith}
 use borrow.Author.Needs.{needs}
-use Rattle.moving.specs.JourneyLaws.{trip-append, fits-less, fits-then, fits-anew}
+use Rattle.moving.specs.JourneyLaws.{trip-append, fits-then, fits-anew}
 use Rattle.settling.specs.TableLaws.{table-went}
 use Rattle.ring.proofs.RingLaws.{ring-below, ring-reaches, ring-reaches-without}
 use Rattle.ring.proofs.SettleLaws.{open-filled, open-first, open-done}
@@ -49,8 +49,7 @@ clear-requires c κs =
     let three = circle .three in
     let small = rows .small in
     let ring = c .before .before .before .part .result in
-    let part = c .before .before .before .part .ensures in
-    (
+    let part = c .before .before .before .part .ensures in (
       rows,
       (
         (
@@ -83,14 +82,14 @@ clear-requires-2 c κs =
     let part = c .before .before .before .before .before .before .before .before .before .before .part .ensures in
     let m = c .before .before .before .before .before .before .clear .ensures in
     let has = c .before .before .before .without .ensures in
-    let t₁ = table-went (rows .inside) (m .0 .trip .went) (t .0) in
-    (
+    let t₁ = table-went (rows .inside) (m .0 .trip .went) (t .0) in (
       rows,
       (
         (
           circle .below 1 (omega arith),
           λ q h. ring-below rows circle ring part q (has q .0 h .0),
-          ring-reaches-without rows circle ring part t₁ (open-first rows circle (t .1) (t .2) (t .3) (t .4) ring part (m .1)) 0 1 (omega arith) (omega arith) (omega arith) _ has,
+          ring-reaches-without rows circle ring part t₁ (open-first rows circle (t .1) (t .2) (t .3) (t .4) ring part (m .1)) 0 1
+              (omega arith) (omega arith) (omega arith) _ has,
         ),
         fits-then (fits-anew ((n - 1) + (n - 1)) (omega arith) (omega arith) (s .pre .1 .1 .1)) (m .0),
       ),
@@ -101,18 +100,18 @@ same-length c = search needs
 
 returns : tie.Need-returns
 returns c =
-    let s = c .before .before .before .before .before .before .before .before .before .before .before .before .before .before .before .before .before in
+    let d = c .before .before .before .before .before .before .before .before .before .before .before .before in
+    let s = d .before .before .before .before .before in
     let rows = s .pre .0 in
     let circle = s .pre .1 .0 .1 in
     let t = s .pre .1 .1 .0 in
-    let ring = c .before .before .before .before .before .before .before .before .before .before .before .before .before .part .result in
-    let part = c .before .before .before .before .before .before .before .before .before .before .before .before .before .part .ensures in
+    let ring = d .before .part .result in
+    let part = d .before .part .ensures in
     let m = c .before .before .before .before .before .before .before .before .before .clear .ensures in
     let has = c .before .before .before .before .before .before .without .ensures in
     let o = c .before .before .clear2 .ensures in
     let t₁ = table-went (rows .inside) (m .0 .trip .went) (t .0) in
-    let t₂ = table-went (rows .inside) (o .0 .trip .went) t₁ in
-    (
+    let t₂ = table-went (rows .inside) (o .0 .trip .went) t₁ in (
       trip-append (m .0 .trip) (o .0 .trip),
       (open-done rows circle (t .1) (t .2) (t .3) (t .4) ring part (m .1) _ has (o .1) t₂, o .0 .log ∙ m .0 .log),
     )

@@ -1,6 +1,5 @@
 -- `ring::pass_by` meets its contract.
 -- Assumes nothing.
-use Prim.Native.Nat.{ℕ}
 use mathlib.Core.Path.{sym, _∙_}
 use borrow.Author.Needs.{needs}
 use Rattle.moving.specs.JourneyLaws.{journey-append, fits-move}
@@ -17,8 +16,7 @@ make-move-requires-2 c κs =
     let s = c .before .before .before .before .before .before .before .before .before .before in
     let p = s .pre .0 in
     let q = s .pre .1 .0 in
-    let m = c .before .before .before .before .before .make-move .ensures in
-    (
+    let m = c .before .before .before .before .before .make-move .ensures in (
       (p .1, p .2, λ e. q .0 (sym (m .1 .2) ∙ e), m .1 .0 (s .args .to) (λ e. p .3 (sym e)) (λ e. p .4 (sym e)) ∙ q .2),
       fits-move (s .args .real) (s .args .from) (s .args .x) 1 (p .0) (s .pre .1 .1) (m .0),
     )
@@ -32,8 +30,10 @@ returns c =
     let p = s .pre .0 in
     let q = s .pre .1 .0 in
     let m = c .before .before .before .before .before .before .before .before .make-move .ensures in
-    let o = c .before .before .make-move2 .ensures in
-    (λ g e f. journey-append (m .0 g e) (o .0 g f), moved-by (row (s .args .racks .now)) _ _ (s .args .from) (s .args .x) (s .args .to) (p .3) (p .4) (q .0) (q .1) (m .1) (o .1))
+    let o = c .before .before .make-move2 .ensures in (
+      λ g e f. journey-append (m .0 g e) (o .0 g f),
+      moved-by (row (s .args .racks .now)) _ _ (s .args .from) (s .args .x) (s .args .to) (p .3) (p .4) (q .0) (q .1) (m .1) (o .1),
+    )
 
 pub pass-by-spec : {M : Type 1} → statement M
 pass-by-spec = tie.close (tie.spec make-move-requires make-move-requires-2 same-length returns)

@@ -28,8 +28,10 @@ rem-circle c = let z = c .before .before .place-on .ensures .0 in omega arith
 
 element-copy-out-circle : tie.Need-element-copy-out-circle Inv-loop μ-loop
 element-copy-out-circle c =
-    let s = c .before .before .before .pre .0 in
-    let z = place-in (c .before .before .place-on .result) (c .before .before .before .args .size) (c .before .before .place-on .ensures .0) (c .before .loop .j) in
+    let s = c .before .before .before in
+    let small = s .pre .0 in
+    let z = c .before .before .place-on in
+    let in-row = place-in (z .result) (s .args .size) (z .ensures .0) (c .before .loop .j) in
     omega arith
 
 element-write-circle : tie.Need-element-write-circle Inv-loop μ-loop
@@ -43,19 +45,26 @@ loop-less c = let l = c .before .loop-test .taken in omega arith
 
 loop-again : tie.Need-loop-again Inv-loop μ-loop
 loop-again c =
-    let s = c .before .before .before .before .pre .0 in
-    let l = c .before .loop-test .taken in
-    (omega arith, laid-next (row (c .before .before .before .before .args .order .now)) (c .before .before .before .place-on .result) (c .before .before .before .before .args .size) (c .before .before .loop .j) (c .before .before .loop .circle) (omega arith) (c .before .before .loop .inv .1))
+    let s = c .before .before .before .before in
+    let small = s .pre .0 in
+    let z = c .before .before .before .place-on .result in
+    let l = c .before .before .loop in
+    let less = c .before .loop-test .taken in
+    (omega arith, laid-next (row (s .args .order .now)) z (s .args .size) (l .j) (l .circle) (omega arith) (l .inv .1))
 
 returns : tie.Need-returns Inv-loop μ-loop
 returns c =
+    let s = c .before .before .before in
     let z = c .before .before .place-on in
     let l = c .before .loop in
     let low = l .inv .0 in
     let high = c .loop-test .left in
-    let all : l .j ≡ c .before .before .before .args .size = omega arith in
-    let laid = subst (λ (j : ℕ). Laid (row (c .before .before .before .args .order .now)) (z .result) (c .before .before .before .args .size) j (l .circle)) all (l .inv .1) in
-    λ n handles g start left right rows b e. (from-circle b (z .ensures .0) (z .ensures .1) laid e, from-same b (z .ensures .0) (z .ensures .1) laid e)
+    let all : l .j ≡ s .args .size = omega arith in
+    let laid = subst (λ (j : ℕ). Laid (row (s .args .order .now)) (z .result) (s .args .size) j (l .circle)) all (l .inv .1) in
+    λ n handles g start left right rows b e. (
+      from-circle b (z .ensures .0) (z .ensures .1) laid e,
+      from-same b (z .ensures .0) (z .ensures .1) laid e,
+    )
 
 pub ring-from-spec : {M : Type 1} → statement M
 ring-from-spec =

@@ -1,6 +1,5 @@
 -- `ring::settle_place` meets its contract.
 -- Assumes nothing.
-use Prim.Native.Nat.{_+_, _*_}
 use mathlib.Core.Path.{refl}
 use native.Mathlib.Omega.{arith}
 use borrow.Author.Needs.{needs}
@@ -47,8 +46,7 @@ exchange-requires c κs =
     let s = c .before .before .before .before .before .before .before .before in
     let circle = s .pre .1 .0 in
     let q = s .pre .1 .1 .0 in
-    let state = q .0 in
-    (
+    let state = q .0 in (
       s .pre .0,
       (
         circle,
