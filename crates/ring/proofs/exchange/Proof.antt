@@ -149,7 +149,8 @@ undo-requires c κs =
     let t₁ = table-went (rows .inside) (one .trip .went) (t .0) in
     let few = one .trip .few in
     let logged = one .logged in
-    let same = exchange-swapped (s .args .a) (s .args .b) (r .1) (r .2) t₁ _ _ (o .1 .2) (o .1 .3 (s .args .y) (circle-off circle) ∙ m .1 .0) (u .1) in (
+    let same = exchange-swapped (s .args .a) (s .args .b) (r .1) (r .2) t₁ _ _ (o .1 .2)
+    (o .1 .3 (s .args .y) (circle-off circle) ∙ m .1 .0) (u .1) in (
       (s .args .rows .now, _, _, exchange-undoing (s .args .a) (s .args .b) (r .1) (r .2) (rows .symmetric) one two same),
       (
         omega arith,

@@ -48,7 +48,8 @@ loop-less c = fewer (c .before .before .before .before .before .before .loop-tes
 loop-again : tie.Need-loop-again Inv-loop μ-loop
 loop-again c =
     let e = c .before .before .settle-place .ensures in
-    settling-next _ (c .before .before .before .before .before .before .before .loop .inv) (c .before .before .before .before .before .before .loop-test .taken) (e .0) (e .1 .0) (e .1 .1)
+    let d = c .before .before .before .before .before .before in
+    settling-next _ (d .before .loop .inv) (d .loop-test .taken) (e .0) (e .1 .0) (e .1 .1)
 
 same-length : tie.Need-same-length Inv-loop μ-loop
 same-length c = c .before .loop .inv .trip .tail ∙ c .before .before .before .before .open-ring .ensures .0 .tail

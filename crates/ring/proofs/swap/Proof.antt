@@ -32,7 +32,8 @@ pass-by-requires-3 c κs =
     let q = s .pre .1 .0 in
     let m = c .before .before .before .before .before .before .before .before .before .before .before .pass-by .ensures in
     let o = c .before .before .before .before .before .pass-by2 .ensures in
-    let v = swap-filled (row (a .racks .now)) _ (a .x) (a .next) (a .last) (a .y) (p .4) (p .5) (p .6) (q .4) (q .0) (q .1) (q .2) (q .3) (m .1) _ (o .1) in (
+    let v = swap-filled (row (a .racks .now)) _ (a .x) (a .next) (a .last) (a .y) (p .4) (p .5) (p .6) (q .4) (q .0)
+    (q .1) (q .2) (q .3) (m .1) _ (o .1) in (
       (p .2, p .0, p .3, p .6, v .0),
       (
         (v .1, v .2, v .3),
@@ -55,7 +56,8 @@ returns c =
     let o = c .before .before .before .before .before .before .before .before .pass-by2 .ensures in
     let u = c .before .before .pass-by3 .ensures in (
       λ g sy e f h. journey-append (journey-append (m .0 g (sy _ _ e) f) (o .0 g (sy _ _ h) e)) (u .0 g (sy _ _ f) h),
-      moved-thrice (row (a .racks .now)) _ (a .x) (a .next) (a .last) (a .y) (p .4) (p .5) (p .6) (q .4) (q .0) (q .1) (q .2) (q .3) (m .1) _ (o .1) _ (u .1),
+      moved-thrice (row (a .racks .now)) _ (a .x) (a .next) (a .last) (a .y) (p .4) (p .5) (p .6) (q .4) (q .0)
+          (q .1) (q .2) (q .3) (m .1) _ (o .1) _ (u .1),
     )
 
 pub swap-spec : {M : Type 1} → statement M
