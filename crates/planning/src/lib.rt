@@ -1,5 +1,6 @@
 // From one arrangement of a floor to another: the heart of the planner. Whatever the two are, a floor with a breakdown leads from the one to the other in at
 // most 8 × n × n × n moves.
+use breakdown::Breakdown;
 use moving::Tally;
 ghost use mathlib.Core.Logic.{_≢_};
 ghost use mathlib.Core.Path.{_≡_};
@@ -47,4 +48,35 @@ pub fn fill(n: usize, m: usize, racks: &mut [u8; 64])
         racks[p] = r as u8;
         vacant = sets::without(vacant, p);
     }
+}
+
+// Moves the racks from where they stand to where the goal has them. The goal is shifted first, so that two neighbours on the base ring are vacant in it;
+// the handles are settled, then the ring; and the shift is taken back.
+pub fn solve(
+    rows: &[u64; 64],
+    n: usize,
+    b: Breakdown,
+    goal: &[u8; 64],
+    real: usize,
+    racks: &mut [u8; 64],
+    log: &mut [u16; 8256],
+    tail: &mut [u8],
+) -> usize
+    requires { ⌜ Rows n (now rows) ⌝ ∗ ⌜ Breakdown n (Edge (now rows)) (b .ring) (b .handles) (row (b .order)) (row (b .start)) (row (b .left)) (row (b .right)) ⌝ ∗ ⌜ Table n (row (now racks)) × Table n (row (now goal)) × (length (now goal) ≡ 64) ⌝ ∗ ⌜ Room (now racks) (now log) (now tail) 0 (8 * (n * (n * n))) ⌝ }
+    ensures { λ r. ⌜ Trip (now (rows .entry)) real (8 * (n * (n * n))) (now (racks .entry)) (now (tail .entry)) 0 (now (racks .exit)) (now (tail .exit)) r ⌝ ∗ ⌜ Same (row (now (racks .exit))) (row (now (goal .entry))) ⌝ }
+{
+    let ring = b.ring;
+    let order = b.order;
+    let start = b.start;
+    let left = b.left;
+    let right = b.right;
+    let mut circle = [0u8; 64];
+    ring::ring_from(&order, ring, left[0] as usize, &mut circle);
+    let mut shifted = *goal;
+    let mut back = [0u16; 8256];
+    let logged = shift_goal(rows, n, circle[0] as usize, circle[1] as usize, &mut shifted, &mut back, tail);
+    let y = order[ring] as usize;
+    let handled = handles::settle_handles(rows, n, ring, b.handles, &order, &start, &left, &right, &shifted, real, racks, log, tail, 0);
+    let ringed = ring::settle_ring(rows, n, &circle, ring, y, &shifted, real, racks, log, tail, handled);
+    moving::undo(0, logged, real, racks, &mut back, tail, ringed)
 }

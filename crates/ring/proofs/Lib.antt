@@ -1,0 +1,5 @@
+pub mod MoveLaws
+pub mod RingLaws
+pub mod ExchangeLaws
+pub mod SettleLaws
+pub mod FromLaws
