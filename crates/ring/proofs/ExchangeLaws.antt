@@ -34,10 +34,10 @@ use Rattle.moving.specs.Went.Back.{done}
 use Rattle.moving.specs.WentLaws.{same-refl}
 use Rattle.moving.specs.Journey.{row, onto, Journey}
 use Rattle.moving.specs.Journey.Trail.{start}
+use Rattle.moving.specs.JourneyLaws.{trail-below}
 use Rattle.moving.specs.BackLaws.{back-from, back-renamed}
 use Rattle.moving.specs.Turned.{Undoing}
 use Rattle.moving.specs.Cleared.{Cleared, Brought}
-use Rattle.moving.proofs.UndoLaws.{trail-below}
 use Rattle.settling.specs.Table.{Table}
 use Rattle.settling.specs.TableLaws.{table-rack}
 use Rattle.settling.specs.Circle.{Circle, On, swapped}
@@ -178,7 +178,7 @@ module _ (a b : ℕ) where
     exchange-undoing {h = h} {j′ = j′} s one two same =
         let trail = two .trail 0 (onto (one .trip .moves) []) (omega arith) (one .trail 0 [] (omega arith) start) in
         record {
-          trail = trail-below (two .trip .moves) (onto (one .trip .moves) []) j′ (omega arith) (two .logged) trail;
+          trail = trail-below (two .trip .moves) (onto (one .trip .moves) []) j′ (two .logged) trail;
           back = back-from same
               (back-renamed s (swapped a b) swapped-zero swapped-some (one .trip .went) (done (same-refl (λ x. swapped a b (row h x)))));
         }

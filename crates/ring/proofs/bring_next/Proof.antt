@@ -146,7 +146,7 @@ clear-requires-2 c κs =
     let more = c .before .before .before .without2 .ensures in
     let x = next-cleared rows circle (s .args .b) (b .0) ring (w .result) part (w .ensures .1) (m .1) _ has (o .1) in
     let t₁ = table-went (rows .inside) (m .0 .trip .went) (t .0) in
-    let t₂ = table-went (rows .inside) (o .0 .trip .went) t₁ in (
+    let t₂ = table-went (rows .inside) (o .0 .journey .trip .went) t₁ in (
       rows,
       (
         (
@@ -154,7 +154,7 @@ clear-requires-2 c κs =
           λ q h. ring-below rows circle ring part q (has q .0 (more q .0 h .0) .0),
           ring-reaches-last rows circle ring part t₂ (filled-same (x .1) (t .1)) (x .0) _ _ has more,
         ),
-        fits-then (fits-then (s .pre .1 .1 .1 .1) (m .0)) (o .0),
+        fits-then (fits-then (s .pre .1 .1 .1 .1) (m .0)) (o .0 .journey),
       ),
     )
 
@@ -176,7 +176,7 @@ returns c =
     let o = c .before .before .before .before .before .before .before .before .before .clear .ensures in
     let more = c .before .before .before .before .before .before .without2 .ensures in
     let u = c .before .before .clear2 .ensures in (
-      journey-append (m .0) (journey-append (o .0) (u .0)),
+      journey-append (m .0) (journey-append (o .0 .journey) (u .0 .journey)),
       next-done rows circle (s .args .b) (b .0) ring (w .result) part (w .ensures .1) (m .1) _ has (o .1) _ more (u .1),
     )
 

@@ -82,7 +82,7 @@ clear-requires-2 c κs =
     let part = c .before .before .before .before .before .before .before .before .before .before .part .ensures in
     let m = c .before .before .before .before .before .before .clear .ensures in
     let has = c .before .before .before .without .ensures in
-    let t₁ = table-went (rows .inside) (m .0 .trip .went) (t .0) in (
+    let t₁ = table-went (rows .inside) (m .0 .journey .trip .went) (t .0) in (
       rows,
       (
         (
@@ -91,7 +91,7 @@ clear-requires-2 c κs =
           ring-reaches-without rows circle ring part t₁ (open-first rows circle (t .1) (t .2) (t .3) (t .4) ring part (m .1)) 0 1
               (omega arith) (omega arith) (omega arith) _ has,
         ),
-        fits-then (fits-anew ((n - 1) + (n - 1)) (omega arith) (omega arith) (s .pre .1 .1 .1)) (m .0),
+        fits-then (fits-anew ((n - 1) + (n - 1)) (omega arith) (omega arith) (s .pre .1 .1 .1)) (m .0 .journey),
       ),
     )
 
@@ -110,10 +110,10 @@ returns c =
     let m = c .before .before .before .before .before .before .before .before .before .clear .ensures in
     let has = c .before .before .before .before .before .before .without .ensures in
     let o = c .before .before .clear2 .ensures in
-    let t₁ = table-went (rows .inside) (m .0 .trip .went) (t .0) in
-    let t₂ = table-went (rows .inside) (o .0 .trip .went) t₁ in (
-      trip-append (m .0 .trip) (o .0 .trip),
-      (open-done rows circle (t .1) (t .2) (t .3) (t .4) ring part (m .1) _ has (o .1) t₂, o .0 .log ∙ m .0 .log),
+    let t₁ = table-went (rows .inside) (m .0 .journey .trip .went) (t .0) in
+    let t₂ = table-went (rows .inside) (o .0 .journey .trip .went) t₁ in (
+      trip-append (m .0 .journey .trip) (o .0 .journey .trip),
+      (open-done rows circle (t .1) (t .2) (t .3) (t .4) ring part (m .1) _ has (o .1) t₂, o .0 .journey .log ∙ m .0 .journey .log),
     )
 
 pub open-ring-spec : {M : Type 1} → statement M
