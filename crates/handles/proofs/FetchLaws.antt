@@ -19,8 +19,8 @@ use mathlib.Core.Path.{_≡_, refl, sym, ap, subst, _∙_}
 use mathlib.Core.Bool.{Bool, true, false}
 use mathlib.Core.List.{List}
 use mathlib.Core.Logic.{_↔_, _≢_, by-cases, inl, inr, ⊎-elim}
-use native.Mathlib.Decide.{ℕ-discrete, decLt}
-use native.Mathlib.Nat.{mul-suc, mul-comm, mul-le-mul}
+use native.Mathlib.Decide.{decLt}
+use native.Mathlib.Nat.{mul-suc, mul-le-mul}
 use native.Mathlib.Omega.{arith}
 use lib.Bits.{bitOr}
 use Rattle.sets.specs.Sets.{Has}
@@ -37,7 +37,7 @@ use Rattle.moving.specs.Cleared.{Reaches, Vacancy, Cleared}
 use Rattle.settling.specs.Table.{Table}
 use Rattle.settling.specs.TableLaws.{table-other}
 use Rattle.settling.specs.Lane.{Lane, Placing, Fetched}
-use Rattle.handles.proofs.CycleLaws.{lane-stage, lane-apart, lane-new, stage-below, stage-in, stage-out}
+use Rattle.handles.proofs.CycleLaws.{lane-stage, lane-new, stage-below, stage-in, stage-out}
 use Rattle.handles.proofs.PlaceLaws.{Region, placing-kept, placing-cleared, placing-vacant, rack-some, rack-other}
 
 -- a test that failed
@@ -119,15 +119,18 @@ module _ {n : ℕ} {g : List ℕ} {at : ℕ → ℕ} {s e u v : ℕ} (rows : Row
       fetch-below p x = region-below p (without p .0 x .0)
 
       pub fetch-kept-end : {T h h′ : ℕ → ℕ} → Placing n at T s e k h → Table n h′ → Cleared (Has free) v h h′ → Placing n at T s e k h′
-      fetch-kept-end placing table cleared = placing-cleared rows lane placing (Has free) (λ p x. region-out p (without p .0 x .0)) table (cleared .outside)
+      fetch-kept-end placing table cleared =
+          placing-cleared rows lane placing (Has free) (λ p x. region-out p (without p .0 x .0)) table (cleared .outside)
 
       pub fetch-beside : {h h′ : ℕ → ℕ} → Cleared (Has free) v h h′ → h y ≡ 0 → h′ y ≡ 0
       fetch-beside cleared vacant = cleared .outside y (λ x. without y .0 x .1 refl) ∙ vacant
 
-    pub fetch-kept : {T h h′ : ℕ → ℕ} (p : ℕ) → Placing n at T s e k h → Table n h′ → Cleared (Has (bitOr stage rest)) p h h′ → Placing n at T s e k h′
+    pub fetch-kept : {T h h′ : ℕ → ℕ} (p : ℕ) → Placing n at T s e k h → Table n h′ → Cleared (Has (bitOr stage rest)) p h h′
+        → Placing n at T s e k h′
     fetch-kept p placing table cleared = placing-cleared rows lane placing (Has (bitOr stage rest)) region-out table (cleared .outside)
 
-  module _ {T : ℕ → ℕ} {k : ℕ} {h : ℕ → ℕ} (stage : ℕ) (has : (p : ℕ) → Has stage p ↔ Between at 0 s p) (placing : Placing n at T s e k h) (more : k < e - s) where
+  module _ {T : ℕ → ℕ} {k : ℕ} {h : ℕ → ℕ} (stage : ℕ) (has : (p : ℕ) → Has stage p ↔ Between at 0 s p)
+      (placing : Placing n at T s e k h) (more : k < e - s) where
     pub fetch-already : (p : ℕ) → h p ≡ T (at (e - k - 1)) → Has stage p → Vacancy (Among at s) h → Fetched n at T s e k (T (at (e - k - 1))) h
     fetch-already p is there z = record { placing = placing; from = p; in-stage = stage-out rows lane stage has p there; there = is; vacancy = z }
 
@@ -148,8 +151,8 @@ module _ {n : ℕ} {g : List ℕ} {at : ℕ → ℕ} {s e u v : ℕ} (rows : Row
     pub fetch-held : (p q : ℕ) → h p ≡ T (at (e - k - 1)) → at q ≡ p → h (at q) ≢ 0
     fetch-held p q is here zero = rack-some rows lane placing more (sym is ∙ ap h (sym here) ∙ zero)
 
-    pub fetch-carried : {h′ : ℕ → ℕ} (y p q : ℕ) → Among at s y → v ≢ y → h p ≡ T (at (e - k - 1)) → at q ≡ p → h v ≡ 0 → Same h′ (carried (h (at q)) y h) → Table n h′
-        → Fetched n at T s e k (T (at (e - k - 1))) h′
+    pub fetch-carried : {h′ : ℕ → ℕ} (y p q : ℕ) → Among at s y → v ≢ y → h p ≡ T (at (e - k - 1)) → at q ≡ p → h v ≡ 0
+        → Same h′ (carried (h (at q)) y h) → Table n h′ → Fetched n at T s e k (T (at (e - k - 1))) h′
     fetch-carried {h′} y p q there other stands here vacant same table =
         let few = placing .few in
         let within = lane .within in

@@ -20,7 +20,7 @@ use mathlib.Core.Logic.{_↔_, _≢_, by-cases, inl, inr, ⊎-elim}
 use native.Mathlib.Decide.{ℕ-discrete, decLt}
 use native.Mathlib.Omega.{arith}
 use Rattle.sets.specs.Sets.{Has}
-use Rattle.graph.specs.Connected.{Except, Robust}
+use Rattle.graph.specs.Connected.{Robust}
 use Rattle.graph.specs.ConnectedLaws.{whole-same}
 use Rattle.graph.specs.WalkLaws.{walk-inside}
 use Rattle.graph.specs.Rows.{Edge, Rows}
@@ -42,7 +42,8 @@ rack-held some is zero = some (sym is ∙ zero)
 
 module _ {n : ℕ} {g : List ℕ} {at : ℕ → ℕ} {s e u v : ℕ} (rows : Rows n g) (lane : Lane n (Edge g) at s e u v) where
   module _ {T : ℕ → ℕ} {k : ℕ} {h : ℕ → ℕ} (placing : Placing n at T s e k h) where
-    pub placing-kept : {h′ : ℕ → ℕ} → Table n h′ → ((j : ℕ) → j < k → h′ (at (s + j)) ≡ h (at (s + j))) → ((j : ℕ) → e ≤ j → j < n → h′ (at j) ≡ h (at j))
+    pub placing-kept : {h′ : ℕ → ℕ} → Table n h′ → ((j : ℕ) → j < k → h′ (at (s + j)) ≡ h (at (s + j)))
+        → ((j : ℕ) → e ≤ j → j < n → h′ (at j) ≡ h (at j))
         → Placing n at T s e k h′
     placing-kept table stack behind =
         record {
@@ -105,7 +106,8 @@ module _ {n : ℕ} {g : List ℕ} {at : ℕ → ℕ} {s e u v : ℕ} (rows : Row
       rack-there =
           let some = rack-some in
           let most = placing .goal .most (at (e - k - 1)) in
-          table-rack (placing .table) (T (at (e - k - 1))) (by-cases (ℕ-discrete (T (at (e - k - 1))) 0) (λ z. absurd (some z)) (λ z. omega arith)) most
+          table-rack (placing .table) (T (at (e - k - 1)))
+          (by-cases (ℕ-discrete (T (at (e - k - 1))) 0) (λ z. absurd (some z)) (λ z. omega arith)) most
 
       -- no other place of the handle or behind it has that rack in the goal
       pub rack-other : (i : ℕ) → i < n → i ≢ e - k - 1 → T (at i) ≢ T (at (e - k - 1))
@@ -114,7 +116,8 @@ module _ {n : ℕ} {g : List ℕ} {at : ℕ → ℕ} {s e u v : ℕ} (rows : Row
           lane-apart rows lane (e - k - 1) i (omega arith) l (λ z. other (sym z))
           (placing .goal .one (at (e - k - 1)) (at i) rack-some (sym same))
 
-      pub placing-turned : {cycle h′ : ℕ → ℕ} {size : ℕ} → Closed n (Edge g) at s e u v cycle size → h u ≡ T (at (e - k - 1)) → Turned cycle size h h′ → Table n h′
+      pub placing-turned : {cycle h′ : ℕ → ℕ} {size : ℕ} → Closed n (Edge g) at s e u v cycle size → h u ≡ T (at (e - k - 1))
+          → Turned cycle size h h′ → Table n h′
           → Placing n at T s e (k + 1) h′
       placing-turned {cycle} {h′} {size} cl there turned table =
           let within = lane .within in
@@ -129,7 +132,8 @@ module _ {n : ℕ} {g : List ℕ} {at : ℕ → ℕ} {s e u v : ℕ} (rows : Row
                 (λ z.
                 let here : s + j ≡ s + 0 = omega arith in
                 let rack : e - k - 1 ≡ e - (k + 1) + j = omega arith in
-                ap (λ (i : ℕ). h′ (at i)) here ∙ ap h′ (sym (cl .inner 0 (omega arith))) ∙ turned .closed ∙ ap h (cl .ends) ∙ there ∙ ap (λ (i : ℕ). T (at i)) rack)
+                ap (λ (i : ℕ). h′ (at i)) here ∙ ap h′ (sym (cl .inner 0 (omega arith))) ∙ turned .closed
+                ∙ ap h (cl .ends) ∙ there ∙ ap (λ (i : ℕ). T (at i)) rack)
                 (λ z.
                 let up : j - 1 + 1 ≡ j = omega arith in
                 let rack : e - k + (j - 1) ≡ e - (k + 1) + j = omega arith in
@@ -171,7 +175,8 @@ module _ {n : ℕ} {g : List ℕ} {at : ℕ → ℕ} {s e u v : ℕ} (rows : Row
     pub place-below : (p : ℕ) → Has stage p → p < n
     place-below p h = stage-below rows lane p (stage-out rows lane stage has p h)
 
-    pub place-brought : {T h h′ : ℕ → ℕ} {k from to : ℕ} → Placing n at T s e k h → Table n h′ → Brought (Has stage) from to h h′ → Placing n at T s e k h′
+    pub place-brought : {T h h′ : ℕ → ℕ} {k from to : ℕ} → Placing n at T s e k h → Table n h′ → Brought (Has stage) from to h h′
+        → Placing n at T s e k h′
     place-brought placing table b = placing-cleared placing (Has stage) (λ p x. inl (stage-out rows lane stage has p x)) table (b .outside)
 
     -- v cleared with u held

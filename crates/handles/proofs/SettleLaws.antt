@@ -56,12 +56,12 @@ pub record Settling (g : List ℕ) (m n : ℕ) (at T : ℕ → ℕ) (s e k : ℕ
 
 pub settling-begin : {g : List ℕ} {m n : ℕ} {at T : ℕ → ℕ} {s e : ℕ} {h l t : List ℕ} {w : ℕ} → Placing n at T s e 0 (row h)
     → Room h l t w ((e - s) * (4 * (n * n))) → Settling g m n at T s e 0 h l t w h l t w
-settling-begin {n = n} {s = s} {e = e} {h = h} {t = t} {w = w} placing room =
+settling-begin {n = n} {s = s} {e = e} {h = h} {l = l} {t = t} {w = w} placing room =
     record {
       placing = placing;
       trip = trip-more (0 * (4 * (n * n))) (omega arith) (trip-none h t w);
       log = refl;
-      room = room-less ((e - s - 0) * (4 * (n * n))) (let same : (e - s - 0) * (4 * (n * n)) ≡ (e - s) * (4 * (n * n)) = ap (λ (x : ℕ). x * (4 * (n * n))) (let z : e - s - 0 ≡ e - s = omega arith in z) in omega arith) room;
+      room = subst (λ (x : ℕ). Room h l t w (x * (4 * (n * n)))) (let none : e - s ≡ e - s - 0 = omega arith in none) room;
     }
 
 module _ {g : List ℕ} {m n : ℕ} {at T : ℕ → ℕ} {s e k : ℕ} {h₀ l₀ t₀ : List ℕ} {w₀ : ℕ} {h l t : List ℕ} {w : ℕ}
@@ -69,8 +69,8 @@ module _ {g : List ℕ} {m n : ℕ} {at T : ℕ → ℕ} {s e k : ℕ} {h₀ l�
   pub settling-room : k < e - s → Room h l t w (4 * (n * n))
   settling-room more = let x = times-less (e - s) k (4 * (n * n)) more in room-less (4 * (n * n)) (omega arith) (z .room)
 
-  pub settling-next : {h′ l′ t′ : List ℕ} {w′ : ℕ} → k < e - s → Trip g m (4 * (n * n)) h t w h′ t′ w′ → Placing n at T s e (k + 1) (row h′) → length l′ ≡ length l
-      → Settling g m n at T s e (k + 1) h₀ l₀ t₀ w₀ h′ l′ t′ w′
+  pub settling-next : {h′ l′ t′ : List ℕ} {w′ : ℕ} → k < e - s → Trip g m (4 * (n * n)) h t w h′ t′ w′ → Placing n at T s e (k + 1) (row h′)
+      → length l′ ≡ length l → Settling g m n at T s e (k + 1) h₀ l₀ t₀ w₀ h′ l′ t′ w′
   settling-next more trip placing log =
       let x = times-less (e - s) k (4 * (n * n)) more in
       let y = times-next k (4 * (n * n)) in
@@ -101,7 +101,8 @@ pub settled-already : {n : ℕ} {at T : ℕ → ℕ} {s e : ℕ} {h : ℕ → �
     → (j : ℕ) → s ≤ j → j < n → h (at j) ≡ T (at j)
 settled-already {e = e} placing same j le l = by-cases (decLt j e) (λ x. same j le x) (λ x. placing .behind j (omega arith) l)
 
-module _ {n : ℕ} {E : ℕ → ℕ → Type 0} {ring c : ℕ} {at start left right : ℕ → ℕ} (sy : Symmetric E) (b : Breakdown n E ring c at start left right) where
+module _ {n : ℕ} {E : ℕ → ℕ → Type 0} {ring c : ℕ} {at start left right : ℕ → ℕ} (sy : Symmetric E)
+    (b : Breakdown n E ring c at start left right) where
   pub starts-from : (i : ℕ) → i ≤ c → ring + i ≤ start i
   starts-from zero l = let e = b .begins in omega arith
   starts-from (suc i) l =
@@ -151,7 +152,8 @@ handling-begin {n = n} {ring = ring} {start = start} {i = i} {h = h} {l = l} {t 
     none j le l = omega arith
 
 module _ {g : List ℕ} {m n ring : ℕ} {at start T : ℕ → ℕ} {h₀ l₀ t₀ : List ℕ} {w₀ : ℕ} {h l t : List ℕ} {w : ℕ} (i k : ℕ) (next : i + 1 ≡ k)
-    (from : ring ≤ start i) (inner : start i < start (i + 1)) (within : start (i + 1) ≤ n) (z : Handling g m n ring at start T k h₀ l₀ t₀ w₀ h l t w) where
+    (from : ring ≤ start i) (inner : start i < start (i + 1)) (within : start (i + 1) ≤ n)
+    (z : Handling g m n ring at start T k h₀ l₀ t₀ w₀ h l t w) where
   up : start (i + 1) ≡ start k
   up = ap start next
 
@@ -200,7 +202,8 @@ module _ {g : List ℕ} {m n ring : ℕ} {at start T : ℕ → ℕ} {h₀ l₀ t
       }
 
 -- all of them are
-module _ {g : List ℕ} {m n ring : ℕ} {at start T : ℕ → ℕ} {i : ℕ} {h₀ l₀ t₀ : List ℕ} {w₀ : ℕ} {h l t : List ℕ} {w : ℕ} (begins : start 0 ≡ ring) (none : i ≡ 0)
+module _ {g : List ℕ} {m n ring : ℕ} {at start T : ℕ → ℕ} {i : ℕ} {h₀ l₀ t₀ : List ℕ} {w₀ : ℕ} {h l t : List ℕ} {w : ℕ}
+    (begins : start 0 ≡ ring) (none : i ≡ 0)
     (z : Handling g m n ring at start T i h₀ l₀ t₀ w₀ h l t w) where
   first : start i ≡ ring
   first = ap start none ∙ begins

@@ -46,8 +46,9 @@ copy-places-requires-2 c κs =
     let inner = lane .handle .inner in
     let within = lane .within in
     let small = rows .small in
-    let route = c .before .before .before .before .before .search in
-    let short = route-short rows lane _ (c .before .before .before .before .before .before .before .part .ensures) _ (route .result .size) (row (route .result .at)) (c .before .before .before .before .before .before .only .ensures) (route .ensures) in
+    let at = c .before .before .before .before .before in
+    let r = at .search .result in
+    let short = route-short rows lane _ (at .before .before .part .ensures) _ (r .size) (row (r .at)) (at .before .only .ensures) (at .search .ensures) in
     (omega arith, omega arith, c .before .before .copy-places .ensures .2)
 
 add-result : tie.Need-add-result
@@ -57,18 +58,20 @@ add-result c =
     let inner = lane .handle .inner in
     let within = lane .within in
     let small = rows .small in
-    let route = c .before .before .before .before .before .before .search in
-    let short = route-short rows lane _ (c .before .before .before .before .before .before .before .before .part .ensures) _ (route .result .size) (row (route .result .at)) (c .before .before .before .before .before .before .before .only .ensures) (route .ensures) in
+    let at = c .before .before .before .before .before .before in
+    let r = at .search .result in
+    let short = route-short rows lane _ (at .before .before .part .ensures) _ (r .size) (row (r .at)) (at .before .only .ensures) (at .search .ensures) in
     omega arith
 
 returns : tie.Need-returns
 returns c =
     let rows = c .before .before .before .before .before .before .before .before .before .pre .0 in
     let lane = c .before .before .before .before .before .before .before .before .before .pre .1 .0 in
-    let route = c .before .before .before .before .before .before .search in
+    let at = c .before .before .before .before .before .before in
+    let r = at .search .result in
     let first = c .before .before .before .copy-places .ensures in
     let second = c .copy-places2 .ensures in
-    closed rows lane _ (c .before .before .before .before .before .before .before .before .part .ensures) _ (route .result .size) (row (route .result .at)) (c .before .before .before .before .before .before .before .only .ensures) (route .ensures)
+    closed rows lane _ (at .before .before .part .ensures) _ (r .size) (row (r .at)) (at .before .only .ensures) (at .search .ensures)
     _ _ (first .0) (second .0) (second .1)
 
 pub close-cycle-spec : {M : Type 1} → statement M

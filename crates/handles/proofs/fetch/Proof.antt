@@ -3,11 +3,11 @@
 use Prim.Native.Nat.{_+_, _-_, _*_}
 use mathlib.Core.Path.{refl, _∙_}
 use native.Mathlib.Omega.{arith}
-use Rattle.moving.specs.JourneyLaws.{trip-none, trip-more, trip-append, fits-anew, fits-less, fits-then, room-less, room-then}
+use Rattle.moving.specs.JourneyLaws.{trip-none, trip-more, trip-append, fits-anew, fits-then, room-less, room-then}
 use Rattle.settling.specs.TableLaws.{table-went}
-use Rattle.handles.proofs.CycleLaws.{lane-stage, lane-floor, lane-order, stage-below, right-below}
+use Rattle.handles.proofs.CycleLaws.{lane-floor, lane-order, stage-below, right-below}
 use Rattle.handles.proofs.PlaceLaws.{rack-there}
-use Rattle.handles.proofs.FetchLaws.{fails, square-four, fetch-bound, lane-four, region-below, fetch-reaches-beside, fetch-reaches-end, fetch-below, fetch-kept, fetch-kept-end, fetch-beside, fetch-already, fetch-cleared, fetch-place, fetch-held, fetch-carried}
+use Rattle.handles.proofs.FetchLaws.{fails, fetch-bound, lane-four, region-below, fetch-reaches-beside, fetch-reaches-end, fetch-below, fetch-kept, fetch-kept-end, fetch-beside, fetch-already, fetch-cleared, fetch-place, fetch-held, fetch-carried}
 use Rattle.handles.proofs.fetch.Statement.{statement}
 use Rattle.handles.proofs.fetch.Tie as tie
 
@@ -93,15 +93,17 @@ has-requires c κs =
 
 returns : tie.Need-returns
 returns c =
-    let s = c .before .before .before .before .before .before .before .before in
+    let part-at = c .before .before .before .before in
+    let s = part-at .before .before .before .before in
     let a = s .args in
     let rows = s .pre .0 in
     let lane = s .pre .1 .0 .1 in
     let state = s .pre .1 .1 .1 .0 in
-    let part = c .before .before .before .before .part .ensures in
-    let from = c .before .before .where-is in (
+    let part = part-at .part .ensures in
+    let from = c .before .before .where-is in
+    let there = c .before .has .ensures .0 (c .if1 .taken) in (
       trip-more (2 * (a .n * a .n)) (omega arith) (trip-none _ _ _),
-      (fetch-already rows lane _ part (state .0) (state .1) (from .result) (from .ensures .1) (c .before .has .ensures .0 (c .if1 .taken)) (state .2), refl),
+      (fetch-already rows lane _ part (state .0) (state .1) (from .result) (from .ensures .1) there (state .2), refl),
     )
 
 add-part : tie.Need-add-part
@@ -132,7 +134,9 @@ part-requires-2 c κs =
 
 clear-requires : tie.Need-clear-requires
 clear-requires c κs =
-    let s = c .before .before .before .before .before .before .before .before .before .before .before .before in
+    let rest-at = c .before .before .before in
+    let part-at = rest-at .before .before .before .before .before in
+    let s = part-at .before .before .before .before in
     let a = s .args in
     let rows = s .pre .0 in
     let lane = s .pre .1 .0 .1 in
@@ -143,12 +147,16 @@ clear-requires c κs =
     let small = rows .small in
     let inner = lane .handle .inner in
     let four = lane-four rows lane in
-    let part = c .before .before .before .before .before .before .before .before .part .ensures in
-    let rest = c .before .before .before .part2 .ensures in
+    let part = part-at .part .ensures in
+    let rest = rest-at .part2 .ensures in
     let bound = fetch-bound (a .n) four in (
       rows,
       (
-        (stage-below rows lane (a .y) (near .0), region-below rows lane (a .k) _ _ part rest, fetch-reaches-beside rows lane (a .k) _ _ part rest (a .y) (near .0) (state .2)),
+        (
+          stage-below rows lane (a .y) (near .0),
+          region-below rows lane (a .k) _ _ part rest,
+          fetch-reaches-beside rows lane (a .k) _ _ part rest (a .y) (near .0) (state .2),
+        ),
         fits-anew (a .n - 1) (omega arith) (omega arith) room,
       ),
     )
@@ -164,7 +172,11 @@ without-requires c κs =
 
 clear-requires-2 : tie.Need-clear-requires-2
 clear-requires-2 c κs =
-    let s = c .before .before .before .before .before .before .before .before .before .before .before .before .before .before .before .before .before .before .before in
+    let without-at = c .before .before .before in
+    let one-at = without-at .before .before .before in
+    let rest-at = one-at .before .before .before .before in
+    let part-at = rest-at .before .before .before .before .before in
+    let s = part-at .before .before .before .before in
     let a = s .args in
     let rows = s .pre .0 in
     let lane = s .pre .1 .0 .1 in
@@ -175,12 +187,12 @@ clear-requires-2 c κs =
     let small = rows .small in
     let inner = lane .handle .inner in
     let four = lane-four rows lane in
-    let part = c .before .before .before .before .before .before .before .before .before .before .before .before .before .before .before .part .ensures in
-    let rest = c .before .before .before .before .before .before .before .before .before .before .part2 .ensures in
-    let one = c .before .before .before .before .before .before .clear .ensures in
+    let part = part-at .part .ensures in
+    let rest = rest-at .part2 .ensures in
+    let one = one-at .clear .ensures in
     let table = table-went (rows .inside) (one .0 .journey .trip .went) (state .0 .table) in
     let placing = fetch-kept rows lane (a .k) _ _ part rest (a .y) (state .0) table (one .1) in
-    let without = c .before .before .before .without .ensures in
+    let without = without-at .without .ensures in
     let bound = fetch-bound (a .n) four in (
       rows,
       (
@@ -195,19 +207,24 @@ clear-requires-2 c κs =
 
 where-is-requires-2 : tie.Need-where-is-requires-2
 where-is-requires-2 c κs =
-    let s = c .before .before .before .before .before .before .before .before .before .before .before .before .before .before .before .before .before .before .before .before .before .before .before in
+    let two-at = c .before .before .before in
+    let without-at = two-at .before .before .before .before in
+    let one-at = without-at .before .before .before in
+    let rest-at = one-at .before .before .before .before in
+    let part-at = rest-at .before .before .before .before .before in
+    let s = part-at .before .before .before .before in
     let a = s .args in
     let rows = s .pre .0 in
     let lane = s .pre .1 .0 .1 in
     let near = s .pre .1 .1 .0 in
     let state = s .pre .1 .1 .1 .0 in
-    let part = c .before .before .before .before .before .before .before .before .before .before .before .before .before .before .before .before .before .before .before .part .ensures in
-    let rest = c .before .before .before .before .before .before .before .before .before .before .before .before .before .before .part2 .ensures in
-    let one = c .before .before .before .before .before .before .before .before .before .before .clear .ensures in
+    let part = part-at .part .ensures in
+    let rest = rest-at .part2 .ensures in
+    let one = one-at .clear .ensures in
     let table = table-went (rows .inside) (one .0 .journey .trip .went) (state .0 .table) in
     let placing = fetch-kept rows lane (a .k) _ _ part rest (a .y) (state .0) table (one .1) in
-    let without = c .before .before .before .before .before .before .before .without .ensures in
-    let two = c .before .before .before .clear2 .ensures in
+    let without = without-at .without .ensures in
+    let two = two-at .clear2 .ensures in
     let table2 = table-went (rows .inside) (two .0 .journey .trip .went) table in
     let placing2 = fetch-kept-end rows lane (a .k) _ _ part rest (a .y) (near .0) (near .1) _ without placing table2 (two .1) in
     (rows .small, rack-there rows lane placing2 (state .1))
@@ -221,11 +238,21 @@ has-requires-2 c κs =
     lane-floor rows lane (c .where-is2 .result) (c .where-is2 .ensures .0)
 
 same-length : tie.Need-same-length
-same-length c = c .before .before .before .before .before .before .clear2 .ensures .0 .journey .trip .tail ∙ c .before .before .before .before .before .before .before .before .before .before .before .before .before .clear .ensures .0 .journey .trip .tail
+same-length c =
+    let two-at = c .before .before .before .before .before .before in
+    let one-at = two-at .before .before .before .before .before .before .before in
+    let one = one-at .clear .ensures in
+    let two = two-at .clear2 .ensures in
+    two .0 .journey .trip .tail ∙ one .0 .journey .trip .tail
 
 returns-2 : tie.Need-returns-2
 returns-2 c =
-    let s = c .before .before .before .before .before .before .before .before .before .before .before .before .before .before .before .before .before .before .before .before .before .before .before .before .before .before in
+    let two-at = c .before .before .before .before .before .before in
+    let without-at = two-at .before .before .before .before in
+    let one-at = without-at .before .before .before in
+    let rest-at = one-at .before .before .before .before in
+    let part-at = rest-at .before .before .before .before .before in
+    let s = part-at .before .before .before .before in
     let a = s .args in
     let rows = s .pre .0 in
     let lane = s .pre .1 .0 .1 in
@@ -235,27 +262,33 @@ returns-2 c =
     let small = rows .small in
     let inner = lane .handle .inner in
     let four = lane-four rows lane in
-    let part = c .before .before .before .before .before .before .before .before .before .before .before .before .before .before .before .before .before .before .before .before .before .before .part .ensures in
-    let rest = c .before .before .before .before .before .before .before .before .before .before .before .before .before .before .before .before .before .part2 .ensures in
-    let one = c .before .before .before .before .before .before .before .before .before .before .before .before .before .clear .ensures in
+    let part = part-at .part .ensures in
+    let rest = rest-at .part2 .ensures in
+    let one = one-at .clear .ensures in
     let table = table-went (rows .inside) (one .0 .journey .trip .went) (state .0 .table) in
     let placing = fetch-kept rows lane (a .k) _ _ part rest (a .y) (state .0) table (one .1) in
-    let without = c .before .before .before .before .before .before .before .before .before .before .without .ensures in
-    let two = c .before .before .before .before .before .before .clear2 .ensures in
+    let without = without-at .without .ensures in
+    let two = two-at .clear2 .ensures in
     let table2 = table-went (rows .inside) (two .0 .journey .trip .went) table in
     let placing2 = fetch-kept-end rows lane (a .k) _ _ part rest (a .y) (near .0) (near .1) _ without placing table2 (two .1) in
     let bound = fetch-bound (a .n) four in
-    let from = c .before .before .where-is2 in (
+    let from = c .before .before .where-is2 in
+    let there = c .before .has2 .ensures .0 (c .if2 .taken) in (
       trip-more (2 * (a .n * a .n)) (omega arith) (trip-append (one .0 .journey .trip) (two .0 .journey .trip)),
       (
-        fetch-cleared rows lane _ part placing2 (state .1) (from .result) (from .ensures .1) (c .before .has2 .ensures .0 (c .if2 .taken)) (two .1 .vacant),
+        fetch-cleared rows lane _ part placing2 (state .1) (from .result) (from .ensures .1) there (two .1 .vacant),
         two .0 .journey .log ∙ one .0 .journey .log,
       ),
     )
 
 place-of-requires : tie.Need-place-of-requires
 place-of-requires c κs =
-    let s = c .before .before .before .before .before .before .before .before .before .before .before .before .before .before .before .before .before .before .before .before .before .before .before .before .before .before in
+    let two-at = c .before .before .before .before .before .before in
+    let without-at = two-at .before .before .before .before in
+    let one-at = without-at .before .before .before in
+    let rest-at = one-at .before .before .before .before in
+    let part-at = rest-at .before .before .before .before .before in
+    let s = part-at .before .before .before .before in
     let a = s .args in
     let rows = s .pre .0 in
     let lane = s .pre .1 .0 .1 in
@@ -265,23 +298,29 @@ place-of-requires c κs =
     let small = rows .small in
     let inner = lane .handle .inner in
     let four = lane-four rows lane in
-    let part = c .before .before .before .before .before .before .before .before .before .before .before .before .before .before .before .before .before .before .before .before .before .before .part .ensures in
-    let rest = c .before .before .before .before .before .before .before .before .before .before .before .before .before .before .before .before .before .part2 .ensures in
-    let one = c .before .before .before .before .before .before .before .before .before .before .before .before .before .clear .ensures in
+    let part = part-at .part .ensures in
+    let rest = rest-at .part2 .ensures in
+    let one = one-at .clear .ensures in
     let table = table-went (rows .inside) (one .0 .journey .trip .went) (state .0 .table) in
     let placing = fetch-kept rows lane (a .k) _ _ part rest (a .y) (state .0) table (one .1) in
-    let without = c .before .before .before .before .before .before .before .before .before .before .without .ensures in
-    let two = c .before .before .before .before .before .before .clear2 .ensures in
+    let without = without-at .without .ensures in
+    let two = two-at .clear2 .ensures in
     let table2 = table-went (rows .inside) (two .0 .journey .trip .went) table in
     let placing2 = fetch-kept-end rows lane (a .k) _ _ part rest (a .y) (near .0) (near .1) _ without placing table2 (two .1) in
-    let from = c .before .before .where-is2 in (
+    let from = c .before .before .where-is2 in
+    let away = fails (c .before .has2 .ensures) (c .if2 .left) in (
       omega arith,
-      fetch-place rows lane _ part placing2 (state .1) (from .result) (from .ensures .0) (from .ensures .1) (fails (c .before .has2 .ensures) (c .if2 .left)),
+      fetch-place rows lane _ part placing2 (state .1) (from .result) (from .ensures .0) (from .ensures .1) away,
     )
 
 carry-requires : tie.Need-carry-requires
 carry-requires c κs =
-    let s = c .before .before .before .before .before .before .before .before .before .before .before .before .before .before .before .before .before .before .before .before .before .before .before .before .before .before .before .before .before .before in
+    let two-at = c .before .before .before .before .before .before .before .before .before .before in
+    let without-at = two-at .before .before .before .before in
+    let one-at = without-at .before .before .before in
+    let rest-at = one-at .before .before .before .before in
+    let part-at = rest-at .before .before .before .before .before in
+    let s = part-at .before .before .before .before in
     let a = s .args in
     let rows = s .pre .0 in
     let lane = s .pre .1 .0 .1 in
@@ -292,13 +331,13 @@ carry-requires c κs =
     let small = rows .small in
     let inner = lane .handle .inner in
     let four = lane-four rows lane in
-    let part = c .before .before .before .before .before .before .before .before .before .before .before .before .before .before .before .before .before .before .before .before .before .before .before .before .before .before .part .ensures in
-    let rest = c .before .before .before .before .before .before .before .before .before .before .before .before .before .before .before .before .before .before .before .before .before .part2 .ensures in
-    let one = c .before .before .before .before .before .before .before .before .before .before .before .before .before .before .before .before .before .clear .ensures in
+    let part = part-at .part .ensures in
+    let rest = rest-at .part2 .ensures in
+    let one = one-at .clear .ensures in
     let table = table-went (rows .inside) (one .0 .journey .trip .went) (state .0 .table) in
     let placing = fetch-kept rows lane (a .k) _ _ part rest (a .y) (state .0) table (one .1) in
-    let without = c .before .before .before .before .before .before .before .before .before .before .before .before .before .before .without .ensures in
-    let two = c .before .before .before .before .before .before .before .before .before .before .clear2 .ensures in
+    let without = without-at .without .ensures in
+    let two = two-at .clear2 .ensures in
     let table2 = table-went (rows .inside) (two .0 .journey .trip .went) table in
     let placing2 = fetch-kept-end rows lane (a .k) _ _ part rest (a .y) (near .0) (near .1) _ without placing table2 (two .1) in
     let bound = fetch-bound (a .n) four in
@@ -324,11 +363,21 @@ carry-requires c κs =
     )
 
 same-length-2 : tie.Need-same-length-2
-same-length-2 c = c .before .before .carry .ensures .0 .tail ∙ c .before .before .before .before .before .before .before .before .before .before .before .before .before .clear2 .ensures .0 .journey .trip .tail ∙ c .before .before .before .before .before .before .before .before .before .before .before .before .before .before .before .before .before .before .before .before .clear .ensures .0 .journey .trip .tail
+same-length-2 c =
+    let two-at = c .before .before .before .before .before .before .before .before .before .before .before .before .before in
+    let one-at = two-at .before .before .before .before .before .before .before in
+    let one = one-at .clear .ensures in
+    let two = two-at .clear2 .ensures in
+    c .before .before .carry .ensures .0 .tail ∙ two .0 .journey .trip .tail ∙ one .0 .journey .trip .tail
 
 returns-3 : tie.Need-returns-3
 returns-3 c =
-    let s = c .before .before .before .before .before .before .before .before .before .before .before .before .before .before .before .before .before .before .before .before .before .before .before .before .before .before .before .before .before .before .before .before .before in
+    let two-at = c .before .before .before .before .before .before .before .before .before .before .before .before .before in
+    let without-at = two-at .before .before .before .before in
+    let one-at = without-at .before .before .before in
+    let rest-at = one-at .before .before .before .before in
+    let part-at = rest-at .before .before .before .before .before in
+    let s = part-at .before .before .before .before in
     let a = s .args in
     let rows = s .pre .0 in
     let lane = s .pre .1 .0 .1 in
@@ -338,23 +387,23 @@ returns-3 c =
     let small = rows .small in
     let inner = lane .handle .inner in
     let four = lane-four rows lane in
-    let part = c .before .before .before .before .before .before .before .before .before .before .before .before .before .before .before .before .before .before .before .before .before .before .before .before .before .before .before .before .before .part .ensures in
-    let rest = c .before .before .before .before .before .before .before .before .before .before .before .before .before .before .before .before .before .before .before .before .before .before .before .before .part2 .ensures in
-    let one = c .before .before .before .before .before .before .before .before .before .before .before .before .before .before .before .before .before .before .before .before .clear .ensures in
+    let part = part-at .part .ensures in
+    let rest = rest-at .part2 .ensures in
+    let one = one-at .clear .ensures in
     let table = table-went (rows .inside) (one .0 .journey .trip .went) (state .0 .table) in
     let placing = fetch-kept rows lane (a .k) _ _ part rest (a .y) (state .0) table (one .1) in
-    let without = c .before .before .before .before .before .before .before .before .before .before .before .before .before .before .before .before .before .without .ensures in
-    let two = c .before .before .before .before .before .before .before .before .before .before .before .before .before .clear2 .ensures in
+    let without = without-at .without .ensures in
+    let two = two-at .clear2 .ensures in
     let table2 = table-went (rows .inside) (two .0 .journey .trip .went) table in
     let placing2 = fetch-kept-end rows lane (a .k) _ _ part rest (a .y) (near .0) (near .1) _ without placing table2 (two .1) in
     let bound = fetch-bound (a .n) four in
     let from = c .before .before .before .before .before .before .before .before .before .where-is2 in
-    let q = c .before .before .before .before .before .before .place-of .ensures in
+    let q = c .before .before .before .before .before .before .place-of in
     let three = c .before .before .carry .ensures in
     let table3 = table-went (rows .inside) (three .0 .went) table2 in (
       trip-more (2 * (a .n * a .n)) (omega arith) (trip-append (trip-append (one .0 .journey .trip) (two .0 .journey .trip)) (three .0)),
       (
-        fetch-carried rows lane _ part placing2 (state .1) (a .y) (from .result) (c .before .before .before .before .before .before .place-of .result) (near .0) (near .1) (from .ensures .1) (q .2) (two .1 .vacant) (three .1 .0) table3,
+        fetch-carried rows lane _ part placing2 (state .1) (a .y) (from .result) (q .result) (near .0) (near .1) (from .ensures .1) (q .ensures .2) (two .1 .vacant) (three .1 .0) table3,
         three .1 .1 ∙ two .0 .journey .log ∙ one .0 .journey .log,
       ),
     )

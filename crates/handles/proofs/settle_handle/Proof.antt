@@ -34,17 +34,19 @@ returns c =
     let a = s .args in
     let rows = s .pre .0 in
     let lane = s .pre .1 .0 in
-    let placing = s .pre .1 .1 .0 in
-    (trip-more ((a .e - a .s) * (4 * (a .n * a .n))) (omega arith) (trip-none _ _ _), ((placing .table, settled-already placing (c .before .is-settled .ensures (c .if1 .taken))), refl))
+    let placing = s .pre .1 .1 .0 in (
+      trip-more ((a .e - a .s) * (4 * (a .n * a .n))) (omega arith) (trip-none _ _ _),
+      ((placing .table, settled-already placing (c .before .is-settled .ensures (c .if1 .taken))), refl),
+    )
 
 beside-end-requires : tie.Need-beside-end-requires Inv-loop μ-loop
 beside-end-requires c κs = (c .before .before .before .before .pre .0, c .before .before .before .before .pre .1 .0)
 
 close-cycle-requires : tie.Need-close-cycle-requires Inv-loop μ-loop
-close-cycle-requires c κs = (c .before .before .before .before .before .before .pre .0, (c .before .before .before .before .before .before .pre .1 .0, refl))
+close-cycle-requires c κs = let s = c .before .before .before .before .before .before in (s .pre .0, (s .pre .1 .0, refl))
 
 loop-holds : tie.Need-loop-holds Inv-loop μ-loop
-loop-holds c = settling-begin (c .before .before .before .before .before .before .before .pre .1 .1 .0) (c .before .before .before .before .before .before .before .pre .1 .1 .1)
+loop-holds c = let s = c .before .before .before .before .before .before .before in settling-begin (s .pre .1 .1 .0) (s .pre .1 .1 .1)
 
 sub-loop : tie.Need-sub-loop Inv-loop μ-loop
 sub-loop c =

@@ -150,8 +150,16 @@ settle-handle-requires c κs =
     let lane = lane-of (rows .symmetric) b (l .i - 1) (omega arith) in
     let before = starts-from (rows .symmetric) b (l .i - 1) (omega arith) in
     let next = down-up (l .i) some in
-    let goal = s .pre .1 .1 .0 in
-    (rows, (lane, (handling-placing (l .i - 1) (l .i) next (omega arith) (lane .handle .inner) (lane .within) (l .inv .1) (goal .1) (goal .2), handling-room (l .i - 1) (l .i) next (omega arith) (lane .handle .inner) (lane .within) (l .inv .1))))
+    let goal = s .pre .1 .1 .0 in (
+      rows,
+      (
+        lane,
+        (
+          handling-placing (l .i - 1) (l .i) next (omega arith) (lane .handle .inner) (lane .within) (l .inv .1) (goal .1) (goal .2),
+          handling-room (l .i - 1) (l .i) next (omega arith) (lane .handle .inner) (lane .within) (l .inv .1),
+        ),
+      ),
+    )
 
 loop-less : tie.Need-loop-less Inv-loop μ-loop
 loop-less c = let some = c .before .before .before .before .before .before .before .before .before .before .loop-test .taken in omega arith
@@ -169,8 +177,11 @@ loop-again c =
     let lane = lane-of (rows .symmetric) b (l .i - 1) (omega arith) in
     let before = starts-from (rows .symmetric) b (l .i - 1) (omega arith) in
     let next = down-up (l .i) some in
-    let settled = c .before .before .settle-handle .ensures in
-    (omega arith, handling-next (l .i - 1) (l .i) next (omega arith) (lane .handle .inner) (lane .within) (l .inv .1) (settled .0) (settled .1 .0 .0) (settled .1 .0 .1) (settled .1 .1))
+    let settled = c .before .before .settle-handle .ensures in (
+      omega arith,
+      handling-next (l .i - 1) (l .i) next (omega arith) (lane .handle .inner) (lane .within) (l .inv .1)
+          (settled .0) (settled .1 .0 .0) (settled .1 .0 .1) (settled .1 .1),
+    )
 
 same-length : tie.Need-same-length Inv-loop μ-loop
 same-length c = c .before .loop .inv .1 .trip .tail
