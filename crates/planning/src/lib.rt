@@ -8,7 +8,7 @@ ghost use Prim.Native.Nat.{ℕ, _+_, _-_, _*_, _≤_, _<_};
 ghost use lib.ListN.{length};
 ghost use Rattle.graph.specs.Connected.{BiConnected};
 ghost use Rattle.graph.specs.Rows.{Edge, Rows};
-ghost use Rattle.breakdown.specs.Breakdown.{Breakdown};
+ghost use Rattle.breakdown.specs.Breakdown.{Breakdown as Broken};
 ghost use Rattle.moving.specs.Went.{Same};
 ghost use Rattle.moving.specs.Journey.{row, Room, Trip};
 ghost use Rattle.settling.specs.Table.{Table};
@@ -62,7 +62,7 @@ pub fn solve(
     log: &mut [u16; 8256],
     tail: &mut [u8],
 ) -> usize
-    requires { ⌜ Rows n (now rows) ⌝ ∗ ⌜ Breakdown n (Edge (now rows)) (b .ring) (b .handles) (row (b .order)) (row (b .start)) (row (b .left)) (row (b .right)) ⌝ ∗ ⌜ Table n (row (now racks)) × Table n (row (now goal)) × (length (now goal) ≡ 64) ⌝ ∗ ⌜ Room (now racks) (now log) (now tail) 0 (8 * (n * (n * n))) ⌝ }
+    requires { ⌜ Rows n (now rows) ⌝ ∗ ⌜ Broken n (Edge (now rows)) (b .ring) (b .handles) (row (b .order)) (row (b .start)) (row (b .left)) (row (b .right)) ⌝ ∗ ⌜ Table n (row (now racks)) × Table n (row (now goal)) × (length (now goal) ≡ 64) ⌝ ∗ ⌜ Room (now racks) (now log) (now tail) 0 (8 * (n * (n * n))) ⌝ }
     ensures { λ r. ⌜ Trip (now (rows .entry)) real (8 * (n * (n * n))) (now (racks .entry)) (now (tail .entry)) 0 (now (racks .exit)) (now (tail .exit)) r ⌝ ∗ ⌜ Same (row (now (racks .exit))) (row (now (goal .entry))) ⌝ }
 {
     let ring = b.ring;
