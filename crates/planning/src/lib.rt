@@ -2,16 +2,17 @@
 // most 8 × n × n × n moves.
 use breakdown::Breakdown;
 use moving::Tally;
-ghost use mathlib.Core.Logic.{_≢_};
+ghost use mathlib.Core.Logic.{_↔_, _≢_};
 ghost use mathlib.Core.Path.{_≡_};
 ghost use Prim.Native.Nat.{ℕ, _+_, _-_, _*_, _≤_, _<_};
 ghost use lib.ListN.{length};
 ghost use Rattle.graph.specs.Connected.{BiConnected};
 ghost use Rattle.graph.specs.Rows.{Edge, Rows};
-ghost use Rattle.breakdown.specs.Breakdown.{Breakdown as Broken};
+ghost use Rattle.breakdown.specs.Breakdown.{Among, Breakdown as Broken};
 ghost use Rattle.moving.specs.Went.{Same};
 ghost use Rattle.moving.specs.Journey.{row, Room, Trip};
 ghost use Rattle.settling.specs.Table.{Table};
+ghost use Rattle.settling.specs.Circle.{Circle, On};
 ghost use Rattle.planning.specs.Shift.{Shift};
 ghost use Rattle.planning.specs.Placed.{Placed, Filled};
 
@@ -50,6 +51,31 @@ pub fn fill(n: usize, m: usize, racks: &mut [u8; 64])
     }
 }
 
+// Settles the handles, then the ring, where the goal has the ring's first two places vacant.
+fn settle(
+    rows: &[u64; 64],
+    n: usize,
+    ring: usize,
+    handles: usize,
+    order: &[u8; 64],
+    start: &[u8; 64],
+    left: &[u8; 64],
+    right: &[u8; 64],
+    circle: &[u8; 64],
+    goal: &[u8; 64],
+    real: usize,
+    racks: &mut [u8; 64],
+    log: &mut [u16; 8256],
+    tail: &mut [u8],
+) -> usize
+    requires { ⌜ Rows n (now rows) ⌝ ∗ ⌜ Broken n (Edge (now rows)) ring handles (row (now order)) (row (now start)) (row (now left)) (row (now right)) ⌝ ∗ ⌜ Circle n (Edge (now rows)) (row (now circle)) ring (row (now order) ring) × ((p : ℕ) → Among (row (now order)) ring p ↔ On (row (now circle)) ring p) ⌝ ∗ ⌜ Table n (row (now racks)) × Table n (row (now goal)) × (row (now goal) (row (now circle) 0) ≡ 0) × (row (now goal) (row (now circle) 1) ≡ 0) ⌝ ∗ ⌜ Room (now racks) (now log) (now tail) 0 ((n - ring) * (4 * (n * n)) + (2 * (n - 1) + ring * (4 * (n * n) + 6))) ⌝ }
+    ensures { λ r. ⌜ Trip (now (rows .entry)) real ((n - ring) * (4 * (n * n)) + (2 * (n - 1) + ring * (4 * (n * n) + 6))) (now (racks .entry)) (now (tail .entry)) 0 (now (racks .exit)) (now (tail .exit)) r ⌝ ∗ ⌜ Same (row (now (racks .exit))) (row (now (goal .entry))) ⌝ }
+{
+    let handled = handles::settle_handles(rows, n, ring, handles, order, start, left, right, goal, real, racks, log, tail, 0);
+    let y = order[ring] as usize;
+    ring::settle_ring(rows, n, circle, ring, y, goal, real, racks, log, tail, handled)
+}
+
 // Moves the racks from where they stand to where the goal has them. The goal is shifted first, so that two neighbours on the base ring are vacant in it;
 // the handles are settled, then the ring; and the shift is taken back.
 pub fn solve(
@@ -75,8 +101,6 @@ pub fn solve(
     let mut shifted = *goal;
     let mut back = [0u16; 8256];
     let logged = shift_goal(rows, n, circle[0] as usize, circle[1] as usize, &mut shifted, &mut back, tail);
-    let y = order[ring] as usize;
-    let handled = handles::settle_handles(rows, n, ring, b.handles, &order, &start, &left, &right, &shifted, real, racks, log, tail, 0);
-    let ringed = ring::settle_ring(rows, n, &circle, ring, y, &shifted, real, racks, log, tail, handled);
-    moving::undo(0, logged, real, racks, &mut back, tail, ringed)
+    let settled = settle(rows, n, ring, b.handles, &order, &start, &left, &right, &circle, &shifted, real, racks, log, tail);
+    moving::undo(0, logged, real, racks, &mut back, tail, settled)
 }

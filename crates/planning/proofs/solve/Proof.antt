@@ -3,69 +3,56 @@ use Rattle.planning.proofs.solve.Statement.{statement}
 use Rattle.planning.proofs.solve.Tie as tie
 use Rattle.planning.proofs.solve.Reads as reads
 use Rattle.planning.proofs.solve.Lts as lts
-use Rattle.handles.proofs.settle_handles.Reads as settle-handles-reads
 use Rattle.moving.proofs.undo.Reads as undo-reads
+use Rattle.planning.proofs.settle.Reads as settle-reads
 use Rattle.planning.proofs.shift_goal.Reads as shift-goal-reads
 use Rattle.ring.proofs.ring_from.Reads as ring-from-reads
-use Rattle.ring.proofs.settle_ring.Reads as settle-ring-reads
 
--- src/lib.rt:74:35
+-- src/lib.rt:100:35
 array-read-ring-from : tie.Need-array-read-ring-from
 array-read-ring-from c = search needs
 
--- src/lib.rt:74:35
+-- src/lib.rt:100:35
 cast-ring-from : tie.Need-cast-ring-from
 cast-ring-from c = search needs
 
--- src/lib.rt:74:5
+-- src/lib.rt:100:5
 ring-from-requires : tie.Need-ring-from-requires
 ring-from-requires c κs = ?
 
--- src/lib.rt:77:38
+-- src/lib.rt:103:38
 array-read-shift-goal : tie.Need-array-read-shift-goal
 array-read-shift-goal c = search needs
 
--- src/lib.rt:77:38
+-- src/lib.rt:103:38
 cast-shift-goal : tie.Need-cast-shift-goal
 cast-shift-goal c = ?
 
--- src/lib.rt:77:58
+-- src/lib.rt:103:58
 array-read-shift-goal-2 : tie.Need-array-read-shift-goal-2
 array-read-shift-goal-2 c = search needs
 
--- src/lib.rt:77:58
+-- src/lib.rt:103:58
 cast-shift-goal-2 : tie.Need-cast-shift-goal-2
 cast-shift-goal-2 c = ?
 
--- src/lib.rt:77:9
+-- src/lib.rt:103:9
 shift-goal-requires : tie.Need-shift-goal-requires
 shift-goal-requires c κs = ?
 
--- src/lib.rt:78:13
-array-read-y : tie.Need-array-read-y
-array-read-y c = search needs
+-- src/lib.rt:104:9
+settle-requires : tie.Need-settle-requires
+settle-requires c κs = ?
 
--- src/lib.rt:78:13
-cast-y : tie.Need-cast-y
-cast-y c = ?
-
--- src/lib.rt:79:9
-settle-handles-requires : tie.Need-settle-handles-requires
-settle-handles-requires c κs = ?
-
--- src/lib.rt:80:9
-settle-ring-requires : tie.Need-settle-ring-requires
-settle-ring-requires c κs = ?
-
--- src/lib.rt:81:5
+-- src/lib.rt:105:5
 undo-requires : tie.Need-undo-requires
 undo-requires c κs = ?
 
--- src/lib.rt:55:1
+-- src/lib.rt:81:1
 same-length : tie.Need-same-length
-same-length c = ?
+same-length c = search needs
 
--- src/lib.rt:55:1
+-- src/lib.rt:81:1
 returns : tie.Need-returns
 returns c = ?
 
@@ -81,10 +68,7 @@ solve-spec =
     array-read-shift-goal-2
     cast-shift-goal-2
     shift-goal-requires
-    array-read-y
-    cast-y
-    settle-handles-requires
-    settle-ring-requires
+    settle-requires
     undo-requires
     same-length
     returns)
