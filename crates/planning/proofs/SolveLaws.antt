@@ -5,7 +5,8 @@
 --     first-handle, first-end  there is a handle, and its left end is on the base ring
 --     filled                   with the goal shifted, every position off the base ring has a rack
 --     off-ring                 with the handles settled, everything off the ring is settled
---     taken-back               the shift, taken back from the shifted goal
+--     room-shift, room-settle, fits-back, trip-all    room for the parts, and the parts together
+--     taken-back, undoing      the shift, taken back from the shifted goal
 -- Assumes nothing.
 use Prim.Native.Nat.{ℕ, _+_, _-_, _*_, _≤_, _<_}
 use mathlib.Core.Path.{_≡_, refl, sym, ap, subst, _∙_}
@@ -14,6 +15,7 @@ use mathlib.Core.Logic.{_↔_, _≢_, _⊎_, inl, inr, ⊎-elim, by-cases}
 use native.Mathlib.Decide.{ℕ-discrete, decLt}
 use native.Mathlib.Nat.{add-mul, mul-add, mul-left-comm, mul-le-mul-right, mul-comm}
 use native.Mathlib.Omega.{arith}
+use lib.ListN.{length}
 use Rattle.graph.specs.Walk.{Symmetric}
 use Rattle.graph.specs.Rows.{Edge, Rows}
 use Rattle.breakdown.specs.Breakdown.{Among, Breakdown}
@@ -21,7 +23,9 @@ use Rattle.moving.specs.Went.{Same, Back}
 use Rattle.moving.specs.Went.Back.{done}
 use Rattle.moving.specs.WentLaws.{same-refl}
 use Rattle.moving.specs.BackLaws.{back-went, back-from}
-use Rattle.moving.specs.Journey.{row, onto}
+use Rattle.moving.specs.Turned.{Undoing}
+use Rattle.moving.specs.Journey.{row, onto, Fits, Room, Trip}
+use Rattle.moving.specs.JourneyLaws.{trip-append, trip-more, trip-written}
 use Rattle.settling.specs.Table.{Table}
 use Rattle.settling.specs.Circle.{Circle, On}
 use Rattle.planning.specs.Shift.{Shift}
@@ -101,3 +105,40 @@ module _ {n r c : ℕ} {E : ℕ → ℕ → Type 0} {at start left right : ℕ �
 pub taken-back : {n : ℕ} {g : List ℕ} {x y : ℕ} {t k l : List ℕ} {j : ℕ} (h : List ℕ) → Symmetric (Edge g) → (s : Shift n g x y t k l j) → Same (row h) (row k)
     → Back (Edge g) (row h) (onto (s .moves) []) (row t)
 taken-back {t = t} h symmetric s same = back-from same (back-went symmetric (s .went) (done (same-refl (row t))))
+
+pub undoing : {n : ℕ} {g : List ℕ} {x y : ℕ} {t k l : List ℕ} {j : ℕ} (h : List ℕ) → Symmetric (Edge g) → (s : Shift n g x y t k l j) → Same (row h) (row k)
+    → Undoing g h l 0 j (onto (s .moves) []) (row t)
+undoing h symmetric s same = record { trail = s .trail; back = taken-back h symmetric s same }
+
+-- Room for the shift, which writes nothing, for what settles, and for taking the shift back.
+module _ {n r : ℕ} (three : 3 ≤ r) (less : r < n) where
+  pub room-shift : {h l t : List ℕ} (h′ l′ : List ℕ) → length h′ ≡ 64 → length l′ ≡ 8256 → Room h l t 0 (8 * (n * (n * n))) → Room h′ l′ t 0 (2 * (n - 1))
+  room-shift h′ l′ racks log f =
+      let all = bound n r three less in
+      let room = f .room in
+      record { racks = racks; log = log; room = omega arith }
+
+  pub room-settle : {h l t t′ : List ℕ} → t′ ≡ t → Room h l t 0 (8 * (n * (n * n)))
+      → Room h l t′ 0 ((n - r) * (4 * (n * n)) + (2 * (n - 1) + r * (4 * (n * n) + 6)))
+  room-settle {t = t} {t′ = t′} same f =
+      let all = bound n r three less in
+      let room = f .room in
+      let long : length t′ ≡ length t = ap length same in
+      record { racks = f .racks; log = f .log; room = omega arith }
+
+  pub fits-back : {g : List ℕ} {m : ℕ} {h l t t₁ h₂ t₂ : List ℕ} {w : ℕ} (back : List ℕ) (j : ℕ) → t₁ ≡ t → length back ≡ 8256 → n ≤ 64 → j ≤ 2 * (n - 1)
+      → Room h l t 0 (8 * (n * (n * n))) → Trip g m ((n - r) * (4 * (n * n)) + (2 * (n - 1) + r * (4 * (n * n) + 6))) h t₁ 0 h₂ t₂ w → Fits h₂ back t₂ w 0 (j - 0)
+  fits-back {t = t} {t₁ = t₁} back j same log small few f trip =
+      let all = bound n r three less in
+      let room = f .room in
+      let long : length t₁ ≡ length t = ap length same in
+      let tail = trip .tail in
+      let written = trip-written trip in
+      record { racks = trip .racks ∙ f .racks; log = log; logged = omega arith; room = omega arith }
+
+  pub trip-all : {g : List ℕ} {m : ℕ} {h t t₁ h₂ t₂ h₃ t₃ : List ℕ} {w₂ w₃ : ℕ} (j : ℕ) → t₁ ≡ t → j ≤ 2 * (n - 1)
+      → Trip g m ((n - r) * (4 * (n * n)) + (2 * (n - 1) + r * (4 * (n * n) + 6))) h t₁ 0 h₂ t₂ w₂ → Trip g m (j - 0) h₂ t₂ w₂ h₃ t₃ w₃
+      → Trip g m (8 * (n * (n * n))) h t 0 h₃ t₃ w₃
+  trip-all {g} {m} {h} {h₃ = h₃} {t₃ = t₃} {w₃ = w₃} j same few a b =
+      let all = bound n r three less in
+      subst (λ (x : List ℕ). Trip g m (8 * (n * (n * n))) h x 0 h₃ t₃ w₃) same (trip-more (8 * (n * (n * n))) (omega arith) (trip-append a b))

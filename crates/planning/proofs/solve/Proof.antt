@@ -1,60 +1,136 @@
+-- `planning::solve` meets its contract.
+-- Assumes nothing.
+use Prim.Native.Nat.{ℕ, _-_, _*_}
+use mathlib.Core.Path.{refl}
+use native.Mathlib.Omega.{arith}
 use borrow.Author.Needs.{needs}
+use lib.ListN.{length-replicate}
+use Rattle.breakdown.specs.StageLaws.{breakdown-biConnected}
+use Rattle.moving.specs.Journey.{row}
+use Rattle.planning.proofs.SolveLaws.{first-end, apart, undoing, room-shift, room-settle, fits-back, trip-all}
 use Rattle.planning.proofs.solve.Statement.{statement}
 use Rattle.planning.proofs.solve.Tie as tie
-use Rattle.planning.proofs.solve.Reads as reads
-use Rattle.planning.proofs.solve.Lts as lts
-use Rattle.moving.proofs.undo.Reads as undo-reads
-use Rattle.planning.proofs.settle.Reads as settle-reads
-use Rattle.planning.proofs.shift_goal.Reads as shift-goal-reads
-use Rattle.ring.proofs.ring_from.Reads as ring-from-reads
 
--- src/lib.rt:100:35
 array-read-ring-from : tie.Need-array-read-ring-from
 array-read-ring-from c = search needs
 
--- src/lib.rt:100:35
 cast-ring-from : tie.Need-cast-ring-from
 cast-ring-from c = search needs
 
--- src/lib.rt:100:5
 ring-from-requires : tie.Need-ring-from-requires
-ring-from-requires c κs = ?
+ring-from-requires c κs = 
+    let s = c .before .before .before .before .before .before .before in
+    let a = s .args in
+    let rows = s .pre .0 in
+    let b = s .pre .1 .0 in
+    let t = s .pre .1 .1 .0 in
+    let room = s .pre .1 .1 .1 in
+    let three = b .ring-three in
+    let less = b .ring-less in
+    let small = rows .small in
+    (omega arith, first-end b, length-replicate {A = ℕ} 64 0)
 
--- src/lib.rt:103:38
 array-read-shift-goal : tie.Need-array-read-shift-goal
 array-read-shift-goal c = search needs
 
--- src/lib.rt:103:38
 cast-shift-goal : tie.Need-cast-shift-goal
-cast-shift-goal c = ?
+cast-shift-goal c = 
+    let s = c .before .before .before .before .before .before .before .before .before in
+    let a = s .args in
+    let rows = s .pre .0 in
+    let b = s .pre .1 .0 in
+    let t = s .pre .1 .1 .0 in
+    let room = s .pre .1 .1 .1 in
+    let three = b .ring-three in
+    let less = b .ring-less in
+    let small = rows .small in
+    let circle = c .before .ring-from .ensures (a .n) (a .b .handles) (a .rows .now) (row (a .b .start)) (row (a .b .left)) (row (a .b .right)) rows b refl in
+    let x = circle .0 .below 0 (omega arith) in
+    omega arith
 
--- src/lib.rt:103:58
 array-read-shift-goal-2 : tie.Need-array-read-shift-goal-2
 array-read-shift-goal-2 c = search needs
 
--- src/lib.rt:103:58
 cast-shift-goal-2 : tie.Need-cast-shift-goal-2
-cast-shift-goal-2 c = ?
+cast-shift-goal-2 c = 
+    let s = c .before .before .before .before .before .before .before .before .before in
+    let a = s .args in
+    let rows = s .pre .0 in
+    let b = s .pre .1 .0 in
+    let t = s .pre .1 .1 .0 in
+    let room = s .pre .1 .1 .1 in
+    let three = b .ring-three in
+    let less = b .ring-less in
+    let small = rows .small in
+    let circle = c .before .ring-from .ensures (a .n) (a .b .handles) (a .rows .now) (row (a .b .start)) (row (a .b .left)) (row (a .b .right)) rows b refl in
+    let x = circle .0 .below 1 (omega arith) in
+    omega arith
 
--- src/lib.rt:103:9
 shift-goal-requires : tie.Need-shift-goal-requires
-shift-goal-requires c κs = ?
+shift-goal-requires c κs = 
+    let s = c .before .before .before .before .before .before .before .before .before .before .before .before in
+    let a = s .args in
+    let rows = s .pre .0 in
+    let b = s .pre .1 .0 in
+    let t = s .pre .1 .1 .0 in
+    let room = s .pre .1 .1 .1 in
+    let three = b .ring-three in
+    let less = b .ring-less in
+    let small = rows .small in
+    let circle = c .before .before .before .before .ring-from .ensures (a .n) (a .b .handles) (a .rows .now) (row (a .b .start)) (row (a .b .left)) (row (a .b .right)) rows b refl in
+    (rows, ((breakdown-biConnected (rows .symmetric) b, circle .0 .below 0 (omega arith), circle .0 .below 1 (omega arith), apart b _ _ (circle .0) (circle .1)),
+    (t .1, room-shift three less _ _ (t .2) (length-replicate {A = ℕ} 8256 0) room)))
 
--- src/lib.rt:104:9
 settle-requires : tie.Need-settle-requires
-settle-requires c κs = ?
+settle-requires c κs = 
+    let s = c .before .before .before .before .before .before .before .before .before .before .before .before .before .before .before .before .before .before .before .before .before .before .before .before in
+    let a = s .args in
+    let rows = s .pre .0 in
+    let b = s .pre .1 .0 in
+    let t = s .pre .1 .1 .0 in
+    let room = s .pre .1 .1 .1 in
+    let three = b .ring-three in
+    let less = b .ring-less in
+    let small = rows .small in
+    let circle = c .before .before .before .before .before .before .before .before .before .before .before .before .before .before .before .before .ring-from .ensures (a .n) (a .b .handles) (a .rows .now) (row (a .b .start)) (row (a .b .left)) (row (a .b .right)) rows b refl in
+    let shift = c .before .before .before .before .before .before .before .before .before .before .before .shift-goal .ensures in
+    (rows, (b, (circle, ((t .0, shift .0 .table, shift .0 .first, shift .0 .second), room-settle three less (shift .1) room))))
 
--- src/lib.rt:105:5
 undo-requires : tie.Need-undo-requires
-undo-requires c κs = ?
+undo-requires c κs = 
+    let s = c .before .before .before .before .before .before .before .before .before .before .before .before .before .before .before .before .before .before .before .before .before .before .before .before .before .before .before .before .before .before in
+    let a = s .args in
+    let rows = s .pre .0 in
+    let b = s .pre .1 .0 in
+    let t = s .pre .1 .1 .0 in
+    let room = s .pre .1 .1 .1 in
+    let three = b .ring-three in
+    let less = b .ring-less in
+    let small = rows .small in
+    let shift = c .before .before .before .before .before .before .before .before .before .before .before .before .before .before .before .before .before .shift-goal .ensures in
+    let settled = c .before .before .before .before .before .settle .ensures in
+    let back = undoing _ (rows .symmetric) (shift .0) (settled .1) in
+    ((a .rows .now, _, row (a .goal .now), back), (omega arith, fits-back three less _ _ (shift .1) (shift .0 .long) small (shift .0 .few) room (settled .0)))
 
--- src/lib.rt:81:1
 same-length : tie.Need-same-length
 same-length c = search needs
 
--- src/lib.rt:81:1
 returns : tie.Need-returns
-returns c = ?
+returns c = 
+    let s = c .before .before .before .before .before .before .before .before .before .before .before .before .before .before .before .before .before .before .before .before .before .before .before .before .before .before .before .before .before .before .before .before .before in
+    let a = s .args in
+    let rows = s .pre .0 in
+    let b = s .pre .1 .0 in
+    let t = s .pre .1 .1 .0 in
+    let room = s .pre .1 .1 .1 in
+    let three = b .ring-three in
+    let less = b .ring-less in
+    let small = rows .small in
+    let shift = c .before .before .before .before .before .before .before .before .before .before .before .before .before .before .before .before .before .before .before .before .shift-goal .ensures in
+    let settled = c .before .before .before .before .before .before .before .before .settle .ensures in
+    let back = undoing _ (rows .symmetric) (shift .0) (settled .1) in
+    let undone = c .before .before .undo .ensures .0 (a .rows .now) _ (row (a .goal .now)) back in
+    (trip-all three less _ (shift .1) (shift .0 .few) (settled .0) (undone .0), undone .1)
 
 pub solve-spec : {M : Type 1} → statement M
 solve-spec =
