@@ -82,9 +82,11 @@ module _ (o : List ℕ) (n e m : ℕ) (gave : OrderGave o n e m) where
       joins : (a b : ℕ) → Edge g a b → (a < floorOf o .positions) × (b < floorOf o .positions) × T (joined (floorOf o) a b)
       joins a b edge =
           let l = rows-right .inside a b edge in
-          let p = gave .positions-are in
-          (subst (λ (k : ℕ). a < k) p (l .0), subst (λ (k : ℕ). b < k) p (l .1),
-          edge-joins (floorOf o) (gave .placed-well .edges-below) a b (subst (λ (x : List ℕ). Edge x a b) (filled-is o n e m gave g filled) edge))
+          let p = gave .positions-are in (
+            subst (λ (k : ℕ). a < k) p (l .0),
+            subst (λ (k : ℕ). b < k) p (l .1),
+            edge-joins (floorOf o) (gave .placed-well .edges-below) a b (subst (λ (x : List ℕ). Edge x a b) (filled-is o n e m gave g filled) edge),
+          )
 
       pub planned : (h k start goal start′ t t′ : List ℕ) (w : ℕ) → Holds (startsOf o) h → Holds (goalsOf o) k → (((p : ℕ) → p < 64 → row h p ≡ row k p) → ⊥)
           → Filled m (row h) (row start) → Filled m (row k) (row goal) → Trip g m (8 * (n * (n * n))) start t 0 start′ t′ w → Same (row start′) (row goal)

@@ -1,4 +1,4 @@
-// The planner: from an order to a plan that carries it out. specs/Planner.antt says what is promised; `make` is the entry point.
+// From an order that can be planned to the moves of its plan. specs/Moves.antt says what is promised of them.
 ghost use mathlib.Core.Bool.{true};
 ghost use mathlib.Core.Logic.{_↔_};
 ghost use mathlib.Core.Path.{_≡_};
@@ -25,7 +25,7 @@ fn same_tables(start: &[u8; 64], goal: &[u8; 64]) -> bool
 
 // The moves of a plan for an order of n positions, e edges and m racks that can be planned, packed at the front of the plan's bytes behind its head. Where
 // each start is its goal there are none. Yields how many there are.
-fn plan_moves(order: &[u8], n: usize, e: usize, m: usize, tail: &mut [u8]) -> usize
+pub fn plan_moves(order: &[u8], n: usize, e: usize, m: usize, tail: &mut [u8]) -> usize
     requires { ⌜ OrderGave (now order) n e m × Plannable (now order) ⌝ ∗ ⌜ 12 * (n * (n * n)) ≤ length (now tail) ⌝ }
     ensures { λ r. ⌜ Moves (now (order .entry)) n (now (tail .entry)) (now (tail .exit)) r ⌝ }
 {

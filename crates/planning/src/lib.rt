@@ -31,8 +31,31 @@ fn shift_goal(
     ensures { λ r. ⌜ Shift n (now (rows .entry)) x next (now (goal .entry)) (now (goal .exit)) (now (back .exit)) r ⌝ ∗ ⌜ now (tail .exit) ≡ now (tail .entry) ⌝ }
 {
     let all = sets::below(n);
-    let mut tally = moving::clear(rows, n, all, x, 0, goal, back, tail, Tally { written: 0, logged: 0 });
-    tally = moving::clear(rows, n, sets::without(all, x), next, 0, goal, back, tail, tally);
+    let mut tally = moving::clear(
+        rows,
+        n,
+        all,
+        x,
+        0,
+        goal,
+        back,
+        tail,
+        Tally {
+            written: 0,
+            logged: 0,
+        },
+    );
+    tally = moving::clear(
+        rows,
+        n,
+        sets::without(all, x),
+        next,
+        0,
+        goal,
+        back,
+        tail,
+        tally,
+    );
     tally.logged
 }
 
@@ -71,9 +94,36 @@ fn settle(
     requires { ⌜ Rows n (now rows) ⌝ ∗ ⌜ Broken n (Edge (now rows)) ring handles (row (now order)) (row (now start)) (row (now left)) (row (now right)) ⌝ ∗ ⌜ Circle n (Edge (now rows)) (row (now circle)) ring (row (now order) ring) × ((p : ℕ) → Among (row (now order)) ring p ↔ On (row (now circle)) ring p) ⌝ ∗ ⌜ Table n (row (now racks)) × Table n (row (now goal)) × (row (now goal) (row (now circle) 0) ≡ 0) × (row (now goal) (row (now circle) 1) ≡ 0) ⌝ ∗ ⌜ Room (now racks) (now log) (now tail) 0 ((n - ring) * (4 * (n * n)) + (2 * (n - 1) + ring * (4 * (n * n) + 6))) ⌝ }
     ensures { λ r. ⌜ Trip (now (rows .entry)) real ((n - ring) * (4 * (n * n)) + (2 * (n - 1) + ring * (4 * (n * n) + 6))) (now (racks .entry)) (now (tail .entry)) 0 (now (racks .exit)) (now (tail .exit)) r ⌝ ∗ ⌜ Same (row (now (racks .exit))) (row (now (goal .entry))) ⌝ }
 {
-    let handled = handles::settle_handles(rows, n, ring, handles, order, start, left, right, goal, real, racks, log, tail, 0);
+    let handled = handles::settle_handles(
+        rows,
+        n,
+        ring,
+        handles,
+        order,
+        start,
+        left,
+        right,
+        goal,
+        real,
+        racks,
+        log,
+        tail,
+        0,
+    );
     let y = order[ring] as usize;
-    ring::settle_ring(rows, n, circle, ring, y, goal, real, racks, log, tail, handled)
+    ring::settle_ring(
+        rows,
+        n,
+        circle,
+        ring,
+        y,
+        goal,
+        real,
+        racks,
+        log,
+        tail,
+        handled,
+    )
 }
 
 // Moves the racks from where they stand to where the goal has them. The goal is shifted first, so that two neighbours on the base ring are vacant in it;
@@ -100,7 +150,30 @@ pub fn solve(
     ring::ring_from(&order, ring, left[0] as usize, &mut circle);
     let mut shifted = *goal;
     let mut back = [0u16; 8256];
-    let logged = shift_goal(rows, n, circle[0] as usize, circle[1] as usize, &mut shifted, &mut back, tail);
-    let settled = settle(rows, n, ring, b.handles, &order, &start, &left, &right, &circle, &shifted, real, racks, log, tail);
+    let logged = shift_goal(
+        rows,
+        n,
+        circle[0] as usize,
+        circle[1] as usize,
+        &mut shifted,
+        &mut back,
+        tail,
+    );
+    let settled = settle(
+        rows,
+        n,
+        ring,
+        b.handles,
+        &order,
+        &start,
+        &left,
+        &right,
+        &circle,
+        &shifted,
+        real,
+        racks,
+        log,
+        tail,
+    );
     moving::undo(0, logged, real, racks, &mut back, tail, settled)
 }

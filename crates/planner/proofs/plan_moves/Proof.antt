@@ -47,7 +47,7 @@ same-tables-requires : tie.Need-same-tables-requires
 same-tables-requires c κs = search needs
 
 returns : tie.Need-returns
-returns c = 
+returns c =
     let s = c .before .before .before .before .before .before .before .before .before .before .before .before in
     let a = s .args in
     let o = a .order .now in
@@ -58,7 +58,7 @@ returns c =
     none-needed o (a .n) (a .e) (a .m) gave _ _ (a .tail .now) from to (c .before .same-tables .ensures .0 (c .if1 .taken))
 
 fill-requires : tie.Need-fill-requires
-fill-requires c κs = 
+fill-requires c κs =
     let s = c .before .before .before .before .before .before .before .before .before .before .before .before .before in
     let a = s .args in
     let o = a .order .now in
@@ -71,7 +71,7 @@ fill-requires c κs =
     (omega arith, room-racks o (a .n) (a .e) (a .m) gave can, start-placed o (a .n) (a .e) (a .m) gave _ from, from .size)
 
 fill-requires-2 : tie.Need-fill-requires-2
-fill-requires-2 c κs = 
+fill-requires-2 c κs =
     let s = c .before .before .before .before .before .before .before .before .before .before .before .before .before .before .before in
     let a = s .args in
     let o = a .order .now in
@@ -96,7 +96,7 @@ rows-of-requires : tie.Need-rows-of-requires
 rows-of-requires c κs = search needs
 
 break-down-requires : tie.Need-break-down-requires
-break-down-requires c κs = 
+break-down-requires c κs =
     let s = c .before .before .before .before .before .before .before .before .before .before .before .before .before .before .before .before .before .before .before in
     let a = s .args in
     let o = a .order .now in
@@ -105,7 +105,7 @@ break-down-requires c κs =
     rows-right o (a .n) (a .e) (a .m) gave can _ (c .before .rows-of .ensures)
 
 solve-requires : tie.Need-solve-requires
-solve-requires c κs = 
+solve-requires c κs =
     let s = c .before .before .before .before .before .before .before .before .before .before .before .before .before .before .before .before .before .before .before .before .before .before .before .before .before in
     let a = s .args in
     let o = a .order .now in
@@ -122,7 +122,7 @@ same-length : tie.Need-same-length
 same-length c = search needs
 
 returns-2 : tie.Need-returns-2
-returns-2 c = 
+returns-2 c =
     let s = c .before .before .before .before .before .before .before .before .before .before .before .before .before .before .before .before .before .before .before .before .before .before .before .before .before .before .before .before in
     let a = s .args in
     let o = a .order .now in

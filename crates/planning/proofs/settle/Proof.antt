@@ -11,7 +11,7 @@ use Rattle.planning.proofs.settle.Statement.{statement}
 use Rattle.planning.proofs.settle.Tie as tie
 
 settle-handles-requires : tie.Need-settle-handles-requires
-settle-handles-requires c κs = 
+settle-handles-requires c κs =
     let s = c .before .before .before .before in
     let a = s .args in
     let rows = s .pre .0 in
@@ -25,7 +25,7 @@ element-copy-out-y : tie.Need-element-copy-out-y
 element-copy-out-y c = search needs
 
 cast-y : tie.Need-cast-y
-cast-y c = 
+cast-y c =
     let s = c .before .before .before .before .before .before .before .before in
     let a = s .args in
     let rows = s .pre .0 in
@@ -38,7 +38,7 @@ cast-y c =
     omega arith
 
 settle-ring-requires : tie.Need-settle-ring-requires
-settle-ring-requires c κs = 
+settle-ring-requires c κs =
     let s = c .before .before .before .before .before .before .before .before .before .before .before in
     let a = s .args in
     let rows = s .pre .0 in
@@ -53,7 +53,7 @@ same-length : tie.Need-same-length
 same-length c = search needs
 
 returns : tie.Need-returns
-returns c = 
+returns c =
     let s = c .before .before .before .before .before .before .before .before .before .before .before .before .before .before in
     let a = s .args in
     let rows = s .pre .0 in

@@ -13,7 +13,7 @@ below-requires : tie.Need-below-requires
 below-requires c κs = let s = c .before .pre .0 .small in omega arith
 
 clear-requires : tie.Need-clear-requires
-clear-requires c κs = 
+clear-requires c κs =
     let s = c .before .before .before .before .before in
     let a = s .args in
     let p = s .pre .1 .0 in
@@ -25,7 +25,7 @@ without-requires : tie.Need-without-requires
 without-requires c κs = let s = c .before .before .before .before .before .before .before .before in let x = s .pre .1 .0 .1 in let small = s .pre .0 .small in omega arith
 
 clear-requires-2 : tie.Need-clear-requires-2
-clear-requires-2 c κs = 
+clear-requires-2 c κs =
     let s = c .before .before .before .before .before .before .before .before .before .before .before .before in
     let a = s .args in
     let p = s .pre .1 .0 in
@@ -40,7 +40,7 @@ same-length : tie.Need-same-length
 same-length c = c .before .before .clear2 .kept .1 .1 .1 .1 .1 .1 .1 .0 ∙ c .before .before .before .before .before .before .before .before .before .clear .kept .1 .1 .1 .1 .1 .1 .1 .0
 
 returns : tie.Need-returns
-returns c = 
+returns c =
     let s = c .before .before .before .before .before .before .before .before .before .before .before .before .before .before .before in
     let a = s .args in
     let below = c .before .before .before .before .before .before .before .before .before .before .before .before .before .below .ensures in

@@ -18,7 +18,7 @@ cast-ring-from : tie.Need-cast-ring-from
 cast-ring-from c = search needs
 
 ring-from-requires : tie.Need-ring-from-requires
-ring-from-requires c κs = 
+ring-from-requires c κs =
     let s = c .before .before .before .before .before .before .before in
     let a = s .args in
     let rows = s .pre .0 in
@@ -34,7 +34,7 @@ array-read-shift-goal : tie.Need-array-read-shift-goal
 array-read-shift-goal c = search needs
 
 cast-shift-goal : tie.Need-cast-shift-goal
-cast-shift-goal c = 
+cast-shift-goal c =
     let s = c .before .before .before .before .before .before .before .before .before in
     let a = s .args in
     let rows = s .pre .0 in
@@ -52,7 +52,7 @@ array-read-shift-goal-2 : tie.Need-array-read-shift-goal-2
 array-read-shift-goal-2 c = search needs
 
 cast-shift-goal-2 : tie.Need-cast-shift-goal-2
-cast-shift-goal-2 c = 
+cast-shift-goal-2 c =
     let s = c .before .before .before .before .before .before .before .before .before in
     let a = s .args in
     let rows = s .pre .0 in
@@ -67,7 +67,7 @@ cast-shift-goal-2 c =
     omega arith
 
 shift-goal-requires : tie.Need-shift-goal-requires
-shift-goal-requires c κs = 
+shift-goal-requires c κs =
     let s = c .before .before .before .before .before .before .before .before .before .before .before .before in
     let a = s .args in
     let rows = s .pre .0 in
@@ -77,12 +77,16 @@ shift-goal-requires c κs =
     let three = b .ring-three in
     let less = b .ring-less in
     let small = rows .small in
-    let circle = c .before .before .before .before .ring-from .ensures (a .n) (a .b .handles) (a .rows .now) (row (a .b .start)) (row (a .b .left)) (row (a .b .right)) rows b refl in
-    (rows, ((breakdown-biConnected (rows .symmetric) b, circle .0 .below 0 (omega arith), circle .0 .below 1 (omega arith), apart b _ _ (circle .0) (circle .1)),
-    (t .1, room-shift three less _ _ (t .2) (length-replicate {A = ℕ} 8256 0) room)))
+    let circle = c .before .before .before .before .ring-from .ensures (a .n) (a .b .handles) (a .rows .now) (row (a .b .start)) (row (a .b .left)) (row (a .b .right)) rows b refl in (
+      rows,
+      (
+        (breakdown-biConnected (rows .symmetric) b, circle .0 .below 0 (omega arith), circle .0 .below 1 (omega arith), apart b _ _ (circle .0) (circle .1)),
+        (t .1, room-shift three less _ _ (t .2) (length-replicate {A = ℕ} 8256 0) room),
+      ),
+    )
 
 settle-requires : tie.Need-settle-requires
-settle-requires c κs = 
+settle-requires c κs =
     let s = c .before .before .before .before .before .before .before .before .before .before .before .before .before .before .before .before .before .before .before .before .before .before .before .before in
     let a = s .args in
     let rows = s .pre .0 in
@@ -97,7 +101,7 @@ settle-requires c κs =
     (rows, (b, (circle, ((t .0, shift .0 .table, shift .0 .first, shift .0 .second), room-settle three less (shift .1) room))))
 
 undo-requires : tie.Need-undo-requires
-undo-requires c κs = 
+undo-requires c κs =
     let s = c .before .before .before .before .before .before .before .before .before .before .before .before .before .before .before .before .before .before .before .before .before .before .before .before .before .before .before .before .before .before in
     let a = s .args in
     let rows = s .pre .0 in
@@ -116,7 +120,7 @@ same-length : tie.Need-same-length
 same-length c = search needs
 
 returns : tie.Need-returns
-returns c = 
+returns c =
     let s = c .before .before .before .before .before .before .before .before .before .before .before .before .before .before .before .before .before .before .before .before .before .before .before .before .before .before .before .before .before .before .before .before .before in
     let a = s .args in
     let rows = s .pre .0 in
