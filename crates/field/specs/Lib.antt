@@ -6,3 +6,4 @@ pub mod WholeBytes
 pub mod UnitLaws
 pub mod Packing
 pub mod Writing
+pub mod Head

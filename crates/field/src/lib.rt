@@ -7,6 +7,8 @@ ghost use lib.ListN.{length};
 ghost use Rattle.field.specs.Bits.{field, pad, PositionAt, PairAt};
 ghost use Rattle.field.specs.Packing.{putPair};
 ghost use Rattle.field.specs.Units.{misfits, unclean};
+ghost use Rattle.field.specs.Writing.{written};
+ghost use Rattle.field.specs.Head.{headBytes};
 
 // Two positions that stand one after the other: an edge or a move.
 pub struct Pair {
@@ -145,4 +147,14 @@ pub fn put_pair(s: &mut [u8], j: usize, a: usize, b: usize)
     let begun = wide(s[at + 1]);
     s[at + 1] = (begun / 16 * 16 + a / 4) as u8;
     s[at + 2] = (a % 4 * 64 + b) as u8;
+}
+
+// Writes the head of a record of `count` moves or steps.
+pub fn put_head(s: &mut [u8], count: usize)
+    requires { ⌜ (3 ≤ length (now s)) × (count < 2 ^ 22) ⌝ }
+    ensures { λ _. ⌜ now (s .exit) ≡ written (now (s .entry)) 0 (headBytes count) ⌝ }
+{
+    s[0] = (count / 16384) as u8;
+    s[1] = (count / 64 % 256) as u8;
+    s[2] = (count % 64 * 4) as u8;
 }

@@ -15,6 +15,7 @@ use lib.ListN.{length, take, drop}
 use lib.Dec.{ltb}
 use Rattle.answers.specs.Answer.{Answer, accepted, refused, refuse, passUp}
 use Rattle.answers.specs.AnswerLaws.{passUp-accepted}
+use Rattle.field.specs.Head.{headBytes, length-headBytes, front-written}
 use Rattle.field.specs.Bits.{pairs}
 use Rattle.field.specs.BitLaws.{field-lt}
 use Rattle.field.specs.RecordLaws.{rest-is, pairs-drop}
@@ -28,9 +29,9 @@ use Rattle.scheduling.specs.Making.{timed, greatest}
 use Rattle.scheduling.specs.Rows.{stepsBytes}
 use Rattle.scheduling.specs.Filling.{latest}
 use Rattle.scheduling.specs.FillingLaws.{latest-few}
-use Rattle.scheduling.specs.Windows.{allSteps, headBytes}
+use Rattle.scheduling.specs.Windows.{allSteps}
 use Rattle.scheduling.specs.TabledSteps.{latest-rule, allSteps-made}
-use Rattle.scheduling.specs.RecordBytes.{record-bytes, front-written}
+use Rattle.scheduling.specs.RecordBytes.{record-bytes}
 use Rattle.scheduling.specs.Maker.{madeOf, makerAnswer, bufferAfter, leaves}
 use Rattle.scheduling.specs.MakerLaws.{PlanGave, plan-gave, made-of, made-packable}
 
@@ -111,10 +112,6 @@ module _ (o p B : List ℕ) where
         rule : s ≡ greatest (timed (startsOf o) [] (planMoves p))
         rule = es ∙ ap latest tail-moves ∙ latest-rule (floorOf o) (gave .placed-well .few-positions) (gave .placed-well .starts-sound) (gave .leads)
 
-        three : (n : ℕ) → length (headBytes n) ≡ 3
-        unfolding headBytes
-        three n = refl
-
         counted : s ≡ length (madeOf o p)
         unfolding madeOf
         counted = rule ∙ sym (made-of o p (k ∷ []) (sym e) .count)
@@ -128,7 +125,7 @@ module _ (o p B : List ℕ) where
             let x = stepsBytes (madeOf o p) in
             let behind : b ≡ written B 3 x = eb ∙ ap (λ (l : List (List (ℕ × ℕ))). written B 3 (stepsBytes l)) steps-are in
             let buffer : c ≡ written B 0 (headBytes s ++ x) =
-            ec ∙ ap (λ (l : List ℕ). written l 0 (headBytes s)) behind ∙ front-written B (headBytes s) x (three s) (omega (arith, few, room)) in (
+            ec ∙ ap (λ (l : List ℕ). written l 0 (headBytes s)) behind ∙ front-written B (headBytes s) x (length-headBytes s) (omega (arith, few, room)) in (
               ap (λ (n : ℕ). accepted (n ∷ [])) rule ∙ sym up,
               buffer
                   ∙ ap (written B 0) (sym whole)

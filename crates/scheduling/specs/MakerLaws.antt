@@ -19,6 +19,7 @@ use lib.ListN.{length, drop, length-append}
 use lib.Dec.{ltb}
 use Rattle.answers.specs.Answer.{Answer, accepted, refuse}
 use Rattle.answers.specs.AnswerLaws.{refuse-not, refuse-else, passUp-low, passUp-high, passUp-accepted}
+use Rattle.field.specs.Head.{headBytes, length-headBytes}
 use Rattle.field.specs.BitLaws.{field-lt}
 use Rattle.field.specs.RecordLaws.{BelowPairs, none₂, more₂}
 use Rattle.order.specs.Floor.{Floor}
@@ -44,7 +45,6 @@ use Rattle.timetable.specs.TimetableRecord.{Steps, no-steps, one-step, Packable
 use Rattle.scheduling.specs.Making.{timed, greatest, madeSteps}
 use Rattle.scheduling.specs.Made.{Made, made}
 use Rattle.scheduling.specs.Rows.{stepsBytes}
-use Rattle.scheduling.specs.Windows.{headBytes}
 use Rattle.scheduling.specs.RecordBytes.{record-bytes}
 use Rattle.scheduling.specs.Maker.{madeOf, makerAnswer, bufferAfter, leaves}
 
@@ -101,15 +101,11 @@ module _ (o p v : List ℕ) (e : planAnswer o p ≡ accepted v) where
             (replaySteps-ended (floorOf o) (startsOf o) (madeSteps (startsOf o) (planMoves p)) (goalsOf o) .0 (made-of .replayed));
       }
 
-  head-length : (k : ℕ) → length (headBytes k) ≡ 3
-  unfolding headBytes
-  head-length k = refl
-
   made-short : length (timetableRecord (madeOf o p)) ≤ 3 * moveCount p + 3
   made-short =
       let parts = ap length (record-bytes (madeOf o p) made-packable) ∙ length-append (headBytes (length (madeOf o p))) (stepsBytes (madeOf o p)) in
       let few : length (stepsBytes (madeOf o p)) ≤ 3 * length (planMoves p) = unfold madeOf in made-of .short in
-      omega (arith, parts, head-length (length (madeOf o p)), few, moves-counted p)
+      omega (arith, parts, length-headBytes (length (madeOf o p)), few, moves-counted p)
 
   steps-counted : length (madeOf o p) ≡ greatest (timed (startsOf o) [] (planMoves p))
   unfolding madeOf

@@ -1,16 +1,13 @@
--- Laws of rows read one after another, of the bytes of steps, and of a record's head.
+-- Laws of rows read one after another, and of the bytes of steps.
 --
 --     rows-split, rows-next      the first k rows and those behind them, or the one behind them
 --     stepsBytes-append          the bytes of steps and of the steps behind them
---     written-head               three bytes at the front
 -- Assumes nothing.
 use Prim.Native.Nat.{ℕ, zero, suc, _+_, _≤_}
 use mathlib.Core.Path.{_≡_, refl, sym, _∙_}
 use mathlib.Core.List.{List, [], _∷_, _++_, append-assoc}
 use native.Mathlib.Omega.{arith}
 use native.Mathlib.Nat.{add-zero, zero-add}
-use lib.ListN.{length, set}
-use Rattle.field.specs.Writing.{written}
 use Rattle.scheduling.specs.Rows.{rowMoves, rows, stepBytes, stepsBytes}
 
 pub rows-split : (t : List ℕ) (i k l : ℕ) → rows t i (k + l) ≡ rows t i k ++ rows t (i + k) l
@@ -34,11 +31,3 @@ pub stepsBytes-append : (x y : List (List (ℕ × ℕ))) → stepsBytes (x ++ y)
 unfolding stepsBytes
 stepsBytes-append [] y = refl
 stepsBytes-append (ms ∷ x) y = rw (stepsBytes-append x y) (sym (append-assoc (stepBytes ms) (stepsBytes x) (stepsBytes y)))
-
--- three bytes at the front, one after another
-pub written-head : (s : List ℕ) (x y z : ℕ) → 3 ≤ length s → set (set (set s 0 x) 1 y) 2 z ≡ written s 0 (x ∷ y ∷ z ∷ [])
-unfolding written
-written-head [] x y z h = absurd (omega arith)
-written-head (a ∷ []) x y z h = absurd (omega arith)
-written-head (a ∷ b ∷ []) x y z h = absurd (omega arith)
-written-head (a ∷ b ∷ c ∷ s) x y z h = refl

@@ -4,9 +4,8 @@
 --     windowSteps ms first   the steps of that window, made of the moves ms
 --     windows ms n           the steps of the first n windows
 --     allSteps ms            the steps of all windows
---     headBytes s            the head of a timetable of s steps, as bytes
 -- Assumes nothing.
-use Prim.Native.Nat.{ℕ, zero, suc, _+_, _-_, _*_, _/_, _%_, min}
+use Prim.Native.Nat.{ℕ, zero, suc, _+_, _-_, _*_, _/_, min}
 use mathlib.Core.List.{List, [], _∷_, _++_}
 use Rattle.scheduling.specs.Rows.{rows}
 use Rattle.scheduling.specs.Filling.{windowOf, latest}
@@ -23,7 +22,3 @@ windows ms (suc n) = windows ms n ++ windowSteps ms (4096 * n)
 
 unfoldable pub allSteps : List (ℕ × ℕ) → List (List (ℕ × ℕ))
 allSteps ms = windows ms (latest ms / 4096 + 1)
-
--- "step count s in 22 bits, two spare zero bits"
-unfoldable pub headBytes : ℕ → List ℕ
-headBytes s = (s / 16384) ∷ (s / 64 % 256) ∷ (s % 64 * 4) ∷ []

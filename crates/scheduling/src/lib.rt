@@ -12,7 +12,7 @@ ghost use Rattle.field.specs.Bits.{pairs};
 ghost use Rattle.field.specs.Writing.{written, Fits, Wrote};
 ghost use Rattle.plan.specs.Verdict.{answerOf as planAnswerOf};
 ghost use Rattle.scheduling.specs.Filling.{noted, Filled, latest};
-ghost use Rattle.scheduling.specs.Windows.{rowsOf, windowSteps, allSteps, headBytes};
+ghost use Rattle.scheduling.specs.Windows.{rowsOf, windowSteps, allSteps};
 ghost use Rattle.scheduling.specs.Maker.{makerAnswer, bufferAfter, answerOf};
 ghost use Rattle.scheduling.specs.Rows.{EntriesFit, rowMoves, rows, stepBytes, stepsBytes, countWith, bufferWith};
 
@@ -158,16 +158,6 @@ fn make_steps(tail: &[u8], k: usize, buffer: &mut [u8]) -> usize
     s
 }
 
-// Writes the head of a timetable of s steps.
-fn write_head(buffer: &mut [u8], s: usize)
-    requires { ⌜ (3 ≤ length (now buffer)) × (s < 2 ^ 22) ⌝ }
-    ensures { λ _. ⌜ now (buffer .exit) ≡ written (now (buffer .entry)) 0 (headBytes s) ⌝ }
-{
-    buffer[0] = (s / 16384) as u8;
-    buffer[1] = (s / 64 % 256) as u8;
-    buffer[2] = (s % 64 * 4) as u8;
-}
-
 // The verdict of the timetable maker: specs/Maker.antt gives it document 01's number and values.
 pub enum MakerVerdict {
     Accepted(usize),
@@ -197,6 +187,6 @@ pub fn make(order: &[u8], plan: &[u8], buffer: &mut [u8]) -> MakerVerdict
         return MakerVerdict::Refused(Fault::TimetableBuffer, 0);
     }
     let s = make_steps(&plan[3..], k, buffer);
-    write_head(buffer, s);
+    field::put_head(buffer, s);
     MakerVerdict::Accepted(s)
 }

@@ -1,7 +1,6 @@
 -- Encoding and decoding a timetable are inverse.
 --
 --     Steps l, Packable l       what the record's fields hold: counts below 256, positions below 64, fewer than 2²² steps
---     headBits k                the head of a record of k steps
 --     record-bytes              the record is a byte string
 --     record-parts              the record is its head and the records of its steps
 --     spare-record, count-record, parts-record    its spare bits are clear, and its count and its parts are those of its steps
@@ -24,7 +23,8 @@ use lib.ListN.{length, getD, take, drop, length-append, length-map, take-append-
 use lib.Seq.{take-add, take-at, drop-at, length-take-le, getD-take}
 use lib.Dec.{ltb, eqb, lit<}
 use Rattle.field.specs.Bits.{bits, bitsOf, field, bytes, toBytes}
-use Rattle.field.specs.BitLaws.{Bits, Bytes, none, below-append, below-take, below-drop, length-bits, bits-are, length-bitsOf, field-lt, bits-field, field-at}
+use Rattle.field.specs.BitLaws.{Bits, Bytes, none, below-append, below-take, below-drop, length-bits, length-bitsOf, field-lt, bits-field, field-at}
+use Rattle.field.specs.Head.{headBits, headBits-are, length-headBits}
 use Rattle.field.specs.RecordLaws.{BelowPairs, toBytes-are, toBytes-from, pairs-lt}
 use Rattle.field.specs.UnitLaws.{or-left, or-right}
 use Rattle.order.specs.Order.{some}
@@ -88,18 +88,6 @@ moves-back : {l : List (List (ℕ × ℕ))} → Steps l → map stepMoves (map s
 moves-back no-steps = refl
 moves-back (one-step {ms = ms} few low rest) = ap₂ (λ (m : List (ℕ × ℕ)) (r : List (List (ℕ × ℕ))). m ∷ r) (moves-of ms few low) (moves-back rest)
 
--- the head of a record of k steps
-unfoldable pub headBits : ℕ → List ℕ
-headBits k = bits 22 k ++ bits 2 0
-
-head-are : (k : ℕ) → Bits (headBits k)
-unfolding headBits
-head-are k = below-append (bits-are 22 k) (bits-are 2 0)
-
-length-head : (k : ℕ) → length (headBits k) ≡ 8 * 3
-unfolding headBits
-length-head k = length-append (bits 22 k) (bits 2 0) ∙ ap₂ _+_ (length-bits 22 k) (length-bits 2 0)
-
 allStepBits-are : (l : List (List (ℕ × ℕ))) → Bits (allStepBits l)
 unfolding allStepBits
 allStepBits-are [] = none
@@ -113,22 +101,22 @@ steps-joined (ms ∷ l) =
 
 pub record-bytes : (l : List (List (ℕ × ℕ))) → Bytes (timetableRecord l)
 unfolding timetableRecord timetableBits headBits
-record-bytes l = toBytes-are (below-append (head-are (length l)) (allStepBits-are l))
+record-bytes l = toBytes-are (below-append (headBits-are (length l)) (allStepBits-are l))
 
 pub record-parts : (l : List (List (ℕ × ℕ))) → timetableRecord l ≡ toBytes (headBits (length l)) ++ joined (map stepRecord l)
 unfolding timetableRecord timetableBits headBits
-record-parts l = toBytes-append 3 (head-are (length l)) (length-head (length l)) (allStepBits-are l) ∙ ap (λ (t : List ℕ). toBytes (headBits (length l)) ++ t) (steps-joined l)
+record-parts l = toBytes-append 3 (headBits-are (length l)) (length-headBits (length l)) (allStepBits-are l) ∙ ap (λ (t : List ℕ). toBytes (headBits (length l)) ++ t) (steps-joined l)
 
 module _ (l : List (List (ℕ × ℕ))) where
   head-record : length (toBytes (headBits (length l))) ≡ 3
-  head-record = length-whole 3 (head-are (length l)) (length-head (length l))
+  head-record = length-whole 3 (headBits-are (length l)) (length-headBits (length l))
 
   -- the bits of the record: its head, and the rest
   record-bits : bitsOf (timetableRecord l) ≡ headBits (length l) ++ bitsOf (joined (map stepRecord l))
   record-bits =
       ap bitsOf (record-parts l)
       ∙ bitsOf-append (toBytes (headBits (length l))) (joined (map stepRecord l))
-      ∙ ap (λ (h : List ℕ). h ++ bitsOf (joined (map stepRecord l))) (toBytes-whole 3 (head-are (length l)) (length-head (length l)))
+      ∙ ap (λ (h : List ℕ). h ++ bitsOf (joined (map stepRecord l))) (toBytes-whole 3 (headBits-are (length l)) (length-headBits (length l)))
 
   record-rest : drop 3 (timetableRecord l) ≡ joined (map stepRecord l)
   record-rest = ap (drop 3) (record-parts l) ∙ drop-at (toBytes (headBits (length l))) (joined (map stepRecord l)) 3 head-record
@@ -223,7 +211,7 @@ module _ {s : List ℕ} (b : Bytes s) (w : WellPacked s) where
       ∙ ap₂ _++_ (sym (bits-field s 0 22 (omega (arith, long)))) (sym (bits-field s 22 2 (omega (arith, long))) ∙ ap (bits 2) spare-zero)
 
   head-right : toBytes (headBits (stepCount s)) ≡ take 3 s
-  head-right = sym (toBytes-from (below-take 3 b) (head-are (stepCount s)) (head-bits ∙ sym (padded-whole (headBits (stepCount s)) 3 (length-head (stepCount s)))))
+  head-right = sym (toBytes-from (below-take 3 b) (headBits-are (stepCount s)) (head-bits ∙ sym (padded-whole (headBits (stepCount s)) 3 (length-headBits (stepCount s)))))
 
   pub record-stepsOf : timetableRecord (stepsOf s) ≡ s
   unfolding stepsOf

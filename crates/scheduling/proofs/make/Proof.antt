@@ -44,14 +44,14 @@ part-make-steps-end c = search needs
 make-steps-requires : tie.Need-make-steps-requires
 make-steps-requires c κs = (count-below (c .before .before .before .before .before .before .before .before .before .before .args .order .now) (c .before .before .before .before .before .before .before .before .before .before .args .plan .now) (c .before .before .before .before .before .before .before .before .before .before .args .buffer .now) (c .before .before .before .before .below .given .0 .0) (ap planAnswerOf (sym (c .before .before .before .before .below .given .1)) ∙ c .before .before .before .before .before .before .check .ensures), tail-fits (c .before .before .before .before .before .before .before .before .before .before .args .order .now) (c .before .before .before .before .before .before .before .before .before .before .args .plan .now) (c .before .before .before .before .before .before .before .before .before .before .args .buffer .now) (c .before .before .before .before .below .given .0 .0) (ap planAnswerOf (sym (c .before .before .before .before .below .given .1)) ∙ c .before .before .before .before .before .before .check .ensures), maker-room (c .before .before .before .before .before .before .before .before .before .before .args .order .now) (c .before .before .before .before .before .before .before .before .before .before .args .plan .now) (c .before .before .before .before .before .before .before .before .before .before .args .buffer .now) (c .before .before .before .before .below .given .0 .0) (ap planAnswerOf (sym (c .before .before .before .before .below .given .1)) ∙ c .before .before .before .before .before .before .check .ensures) (c .before .before .if1 .left))
 
-write-head-requires : tie.Need-write-head-requires
-write-head-requires c κs = head-room (c .before .before .before .before .before .before .before .before .before .before .before .before .before .before .args .order .now) (c .before .before .before .before .before .before .before .before .before .before .before .before .before .before .args .plan .now) (c .before .before .before .before .before .before .before .before .before .before .before .before .before .before .args .buffer .now) (c .before .before .before .before .before .before .before .before .below .given .0 .0) (ap planAnswerOf (sym (c .before .before .before .before .before .before .before .before .below .given .1)) ∙ c .before .before .before .before .before .before .before .before .before .before .check .ensures) (c .before .before .before .before .before .before .if1 .left) (c .before .before .before .make-steps .result) (c .before .before .before .make-steps .last .1 .1 .0) (c .before .before .before .make-steps .ensures .0) (c .before .before .before .make-steps .ensures .1)
+put-head-requires : tie.Need-put-head-requires
+put-head-requires c κs = head-room (c .before .before .before .before .before .before .before .before .before .before .before .before .before .before .args .order .now) (c .before .before .before .before .before .before .before .before .before .before .before .before .before .before .args .plan .now) (c .before .before .before .before .before .before .before .before .before .before .before .before .before .before .args .buffer .now) (c .before .before .before .before .before .before .before .before .below .given .0 .0) (ap planAnswerOf (sym (c .before .before .before .before .before .before .before .before .below .given .1)) ∙ c .before .before .before .before .before .before .before .before .before .before .check .ensures) (c .before .before .before .before .before .before .if1 .left) (c .before .before .before .make-steps .result) (c .before .before .before .make-steps .last .1 .1 .0) (c .before .before .before .make-steps .ensures .0) (c .before .before .before .make-steps .ensures .1)
 
 same-length : tie.Need-same-length
 same-length c = search needs
 
 returns-3 : tie.Need-returns-3
-returns-3 c = maker-made (c .before .before .before .before .before .before .before .before .before .before .before .before .before .before .before .before .before .args .order .now) (c .before .before .before .before .before .before .before .before .before .before .before .before .before .before .before .before .before .args .plan .now) (c .before .before .before .before .before .before .before .before .before .before .before .before .before .before .before .before .before .args .buffer .now) (c .before .before .before .before .before .before .before .before .before .before .before .below .given .0 .0) (ap planAnswerOf (sym (c .before .before .before .before .before .before .before .before .before .before .before .below .given .1)) ∙ c .before .before .before .before .before .before .before .before .before .before .before .before .before .check .ensures) (c .before .before .before .before .before .before .before .before .before .if1 .left) (c .before .before .before .before .before .before .make-steps .result) (c .before .before .before .before .before .before .make-steps .last .1 .1 .0) (c .before .before .before .before .before .before .make-steps .ensures .0) (c .before .before .before .before .before .before .make-steps .ensures .1) (c .before .before .write-head .last .0) (c .before .before .write-head .ensures)
+returns-3 c = maker-made (c .before .before .before .before .before .before .before .before .before .before .before .before .before .before .before .before .before .args .order .now) (c .before .before .before .before .before .before .before .before .before .before .before .before .before .before .before .before .before .args .plan .now) (c .before .before .before .before .before .before .before .before .before .before .before .before .before .before .before .before .before .args .buffer .now) (c .before .before .before .before .before .before .before .before .before .before .before .below .given .0 .0) (ap planAnswerOf (sym (c .before .before .before .before .before .before .before .before .before .before .before .below .given .1)) ∙ c .before .before .before .before .before .before .before .before .before .before .before .before .before .check .ensures) (c .before .before .before .before .before .before .before .before .before .if1 .left) (c .before .before .before .before .before .before .make-steps .result) (c .before .before .before .before .before .before .make-steps .last .1 .1 .0) (c .before .before .before .before .before .before .make-steps .ensures .0) (c .before .before .before .before .before .before .make-steps .ensures .1) (c .before .before .put-head .last .0) (c .before .before .put-head .ensures)
 
 pub make-spec : {M : Type 1} → statement M
 make-spec =
@@ -69,6 +69,6 @@ make-spec =
     part-make-steps-start
     part-make-steps-end
     make-steps-requires
-    write-head-requires
+    put-head-requires
     same-length
     returns-3)
