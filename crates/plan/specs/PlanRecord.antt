@@ -4,6 +4,7 @@
 --     length-planBits       how many bits the moves take
 --     Written ms, written   of fewer than 2^22 moves of positions below 64: the record is bytes, 30 and 31 pass it, its count is how many
 --                           moves there are, and reading it gives them back
+--     record-parts          the record is its head, and behind it the moves, packed
 --     record-read           a byte string that 30 and 31 pass is the record of the moves that it lists
 -- Assumes nothing.
 use Prim.Native.Nat.{ℕ, _+_, _*_, _/_, _^_, _<_}
@@ -17,6 +18,9 @@ use lib.Pow.{pow-pos}
 use Rattle.field.specs.Bits.{bits, bitsOf, field, pairBits, pad, padded}
 use Rattle.field.specs.BitLaws.{Bits, Bytes, below-append, bits-are, bits-field, length-bits, length-bitsOf, field-at}
 use Rattle.field.specs.RecordLaws.{BelowPairs, length-pairs, length-pairBits, pairBits-are, bits-pairs, pairs-at, bits-zero, zeros-at, join, padded-by, up-to-byte, length-toBytes, toBytes-are, bitsOf-toBytes, toBytes-from}
+use Rattle.field.specs.Head.{headBits, headBits-are, length-headBits, headBytes, head-bytes}
+use Rattle.field.specs.WholeBytes.{toBytes-append}
+use Rattle.field.specs.Packing.{pack, pack-is}
 use Rattle.field.specs.UnitLaws.{Fitting, fitting, fits, Clean, cleanly, clean, pad-after-head}
 use Rattle.plan.specs.Plan.{planBits, planRecord, moveCount, planMoves, wrongPlanLength, planPaddingSet}
 
@@ -74,6 +78,11 @@ module _ (ms : List (ℕ × ℕ)) (few : length ms < 2 ^ 22) (small : BelowPairs
   length-is : length (planRecord ms) ≡ 3 + (12 * length ms + 7) / 8
   unfolding planRecord
   length-is = length-toBytes (planBits ms) ∙ rw (length-planBits ms) (omega arith)
+
+  pub record-parts : planRecord ms ≡ headBytes (length ms) ++ pack ms
+  unfolding planRecord planBits headBits
+  record-parts =
+      toBytes-append 3 (headBits-are (length ms)) (length-headBits (length ms)) (pairBits-are ms) ∙ ap₂ _++_ (head-bytes (length ms) few) (sym (pack-is small))
 
   pub written : Written ms
   unfolding moveCount planMoves wrongPlanLength planPaddingSet

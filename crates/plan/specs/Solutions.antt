@@ -102,7 +102,7 @@ module _ (o p v : List ℕ) where
       ∙ rw (t .length-right, t .padding-clear) (judged-solution (t .order-right) .1 (t .counted, t .solution))
 
 -- moves that lead anywhere have their positions on the floor
-leads-small : (F : Floor) → F .positions ≤ 64 → {A B : Arrangement} {ms : List (ℕ × ℕ)} → Leads F A ms B → BelowPairs 64 ms
+pub leads-small : (F : Floor) → F .positions ≤ 64 → {A B : Arrangement} {ms : List (ℕ × ℕ)} → Leads F A ms B → BelowPairs 64 ms
 leads-small F few still = none₂
 leads-small F few (_then_ {A = A} {x = m} l rest) =
     let t = onFloor-parts F m .0 (legal-parts F A m .0 l .0) in

@@ -96,12 +96,15 @@ module _ (o : List ℕ) (n e m : ℕ) (gave : OrderGave o n e m) where
           record {
             moves = trip .written;
             count = (let e = trip .counted in omega arith);
-            few = (let x = went-written (trip .went) in let y = trip .few in omega arith);
-            replayed =
-                trip-planned (floorOf o) joins n m (startsOf o) (goalsOf o) (row h) (row k) (row start) (row goal) (well .starts-length ∙ sym (well .goals-length))
-                (held-by a) (held-by b) (start-placed h a) (goal-placed k b) fa fb trip (same-refl (row start)) ends;
+            solves = record {
+              few = (let x = went-written (trip .went) in let y = trip .few in omega arith);
+              replayed =
+                  trip-planned (floorOf o) joins n m (startsOf o) (goalsOf o) (row h) (row k) (row start) (row goal)
+                  (well .starts-length ∙ sym (well .goals-length)) (held-by a) (held-by b) (start-placed h a) (goal-placed k b) fa fb trip
+                  (same-refl (row start)) ends;
+              still = λ e. absurd (differ (same-tables e));
+            };
             packed = trip .packed t [] refl (packed-nothing t);
-            still = λ e. absurd (differ (same-tables e));
           }
         where
           same-tables : startsOf o ≡ goalsOf o → (p : ℕ) → p < 64 → row h p ≡ row k p
@@ -114,10 +117,8 @@ module _ (o : List ℕ) (n e m : ℕ) (gave : OrderGave o n e m) where
       record {
         moves = [];
         count = refl;
-        few = omega arith;
-        replayed = nothing (floorOf o) (startsOf o) ∙ ap ended alike;
+        solves = record { few = omega arith; replayed = nothing (floorOf o) (startsOf o) ∙ ap ended alike; still = λ e. refl };
         packed = packed-nothing t;
-        still = λ e. refl;
       }
     where
       nothing : (F : Floor) (A : List ℕ) → replayMoves F A [] ≡ ended A

@@ -1,2 +1,3 @@
 pub mod OrderTables
 pub mod Moves
+pub mod Planner

@@ -1,0 +1,102 @@
+-- The planner's answers above the floor judge's: what it turns down, and what it leaves behind where it plans.
+--
+--     planner-refused            the floor judge's refusal is passed up
+--     head-there, gave           what an order that can be planned gives
+--     cube                       how large the products are
+--     planner-short, room        the buffer is too short, or it has room for the moves
+--     few-moves                  their number fits the head
+--     planner-made               head and moves are the record of the plan
+-- Assumes nothing.
+use Prim.Native.Nat.{ℕ, _+_, _-_, _*_, _^_, _≤_, _<_}
+use mathlib.Core.Path.{_≡_, refl, sym, ap, ap₂, subst, _∙_}
+use mathlib.Core.List.{List, [], _∷_, _++_, append-nil}
+use native.Mathlib.Nat.{mul-le-mul-right}
+use native.Mathlib.Omega.{arith}
+use borrow.Author.Tests.{lt-ltb, le-ltb}
+use lib.Dec.{ltb}
+use lib.ListN.{length, take, drop, length-drop, drop-of-length-le}
+use lib.Seq.{drop-drop}
+use Rattle.answers.specs.Answer.{Answer, accepted, refused, refuse, passUp}
+use Rattle.field.specs.Head.{headBytes, length-headBytes, front-written}
+use Rattle.field.specs.Packing.{pack, length-pack}
+use Rattle.field.specs.RecordLaws.{rest-is}
+use Rattle.field.specs.Writing.{written}
+use Rattle.order.specs.Order.{positionCount, floorOf, startsOf, goalsOf, orderAnswer, counts, CountsOf}
+use Rattle.order.specs.OrderLaws.{right-head, accepted-is}
+use Rattle.motion.specs.Lawful.{replayMoves-ended}
+use Rattle.tables.specs.Accepted.{OrderGave, order-gave}
+use Rattle.plan.specs.Plan.{planRecord}
+use Rattle.plan.specs.PlanRecord.{record-parts}
+use Rattle.plan.specs.Solutions.{leads-small}
+use Rattle.floor.specs.FloorAnswer.{floorAnswer}
+use Rattle.floor.specs.FloorLaws.{Plannable, plannable-is}
+use Rattle.planner.specs.Moves.{Solves, Moves}
+use Rattle.planner.specs.Planner.{refusals, PlanMade, turned-down, made}
+
+pub head-there : (o : List ℕ) → Plannable o → 3 ≤ length o
+head-there o can = right-head o (can .right .length-right) (can .right .positions-right) .fit .head-there
+
+module _ (o B : List ℕ) where
+  pub planner-refused : (a r : Answer) (k place : ℕ) → a ≡ floorAnswer o → a ≡ refused k place → r ≡ passUp a (accepted (0 ∷ [])) → PlanMade o B r B
+  unfolding refusals
+  planner-refused a r k place ea ek er =
+      let n = positionCount o in
+      let up : refusals o (length B) ≡ refused k place =
+      ap (λ (x : Answer). passUp x (refuse (ltb (length B) (12 * (n * (n * n)) + 3)) 23 0 (accepted []))) (sym ea ∙ ek) in
+      let down : r ≡ refused k place = er ∙ ap (λ (x : Answer). passUp x (accepted (0 ∷ []))) ek in
+      subst (λ (x : Answer). PlanMade o B x B) (sym down) (turned-down up)
+
+  module _ (can : Plannable o) (n e m : ℕ) (c : CountsOf o n e m) where
+    pub gave : OrderGave o n e m
+    gave = order-gave o n e m (unfold counts in rw (c .positions-are, c .edges-are, c .racks-are) (sym (accepted-is o (can .right))))
+
+    few : n ≤ 64
+    few = let f = gave .placed-well .few-positions in let p = gave .positions-are in omega arith
+
+    pub square : n * n ≤ 4096
+    square = let s : n * n ≤ 64 * n = mul-le-mul-right n few in let f = few in omega arith
+
+    pub cube : n * (n * n) ≤ 262144
+    cube = let s : n * (n * n) ≤ 64 * (n * n) = mul-le-mul-right (n * n) few in let q = square in omega arith
+
+    answer-is : refusals o (length B) ≡ refuse (ltb (length B) (12 * (n * (n * n)) + 3)) 23 0 (accepted [])
+    unfolding refusals
+    answer-is = rw (plannable-is o can, c .positions-are) refl
+
+    pub planner-short : length B < 12 * (n * (n * n)) + 3 → PlanMade o B (refused 23 0) B
+    planner-short h = turned-down {number = 23} {place = 0} (answer-is ∙ rw (lt-ltb (length B) (12 * (n * (n * n)) + 3) h) refl)
+
+    module _ (enough : 12 * (n * (n * n)) + 3 ≤ length B) where
+      pub room : 12 * (n * (n * n)) ≤ length (take (length B - 3) (drop 3 B))
+      room = rw (rest-is 3 B, length-drop 3 B) (omega (arith, enough))
+
+      module _ (t : List ℕ) (k : ℕ) (moves : Moves o n (take (length B - 3) (drop 3 B)) t k) where
+        abbrev ms : List (ℕ × ℕ)
+        ms = moves .moves
+
+        pub few-moves : k < 2 ^ 22
+        few-moves = let f = moves .solves .few in let k = moves .count in let q = cube in omega arith
+
+        -- the moves, packed behind the head
+        behind : take 3 B ++ (t ++ drop (length B - 3) (drop 3 B)) ≡ written B 3 (pack ms)
+        unfolding written
+        behind =
+            let nothing : drop (length B - 3) (drop 3 B) ≡ [] = drop-of-length-le (drop 3 B) {i = length B - 3} (rw (length-drop 3 B) (omega arith)) in
+            let after : t ≡ pack ms ++ drop (3 + length (pack ms)) B =
+            moves .packed .is ∙ ap (λ (x : List ℕ). pack ms ++ drop (length (pack ms)) x) (rest-is 3 B) ∙ ap (λ (x : List ℕ). pack ms ++ x) (drop-drop (length (pack ms)) 3 B) in
+            rw (nothing, append-nil t) (ap (λ (x : List ℕ). take 3 B ++ x) after)
+
+        parts : planRecord ms ≡ headBytes k ++ pack ms
+        parts =
+            record-parts ms (let f = few-moves in let k = moves .count in omega arith)
+            (leads-small (floorOf o) (gave .placed-well .few-positions) (replayMoves-ended (floorOf o) (startsOf o) ms (goalsOf o) .0 (moves .solves .replayed)))
+            ∙ ap (λ (j : ℕ). headBytes j ++ pack ms) (sym (moves .count))
+
+        pub planner-made : (x : List ℕ) → x ≡ written (take 3 B ++ (t ++ drop (length B - 3) (drop 3 B))) 0 (headBytes k) → PlanMade o B (accepted (k ∷ [])) x
+        planner-made x is =
+            let short : 3 + length (pack ms) ≤ length B = (let f = moves .solves .few in let l = length-pack ms in omega (arith, enough)) in
+            let all : x ≡ written B 0 (planRecord ms) =
+            is ∙ ap (λ (b : List ℕ). written b 0 (headBytes k)) behind ∙ front-written B (headBytes k) (pack ms) (length-headBytes k) short ∙ ap (written B 0) (sym parts) in
+            subst (λ (b : List ℕ). PlanMade o B (accepted (k ∷ [])) b) (sym all)
+            (subst (λ (j : ℕ). PlanMade o B (accepted (j ∷ [])) (written B 0 (planRecord ms))) (sym (moves .count))
+            (made ms (answer-is ∙ rw (le-ltb (length B) (12 * (n * (n * n)) + 3) enough) refl) (subst (λ (j : ℕ). Solves o j ms) (c .positions-are) (moves .solves))))
