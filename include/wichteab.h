@@ -67,6 +67,12 @@ static inline size_t wichteab_plan_length(uint32_t moves)
     return 3 + (3 * (size_t)moves + 1) / 2;
 }
 
+/* The length that wichteab_plan_make asks of its buffer, for an order of so many positions. */
+static inline size_t wichteab_plan_buffer_length(uint32_t positions)
+{
+    return 12 * (size_t)positions * positions * positions + 3;
+}
+
 /* The length that wichteab_timetable_make asks of its buffer, for a plan of so many moves. */
 static inline size_t wichteab_timetable_buffer_length(uint32_t moves)
 {
@@ -110,8 +116,7 @@ enum {
     WICHTEAB_FLOOR_CONNECTION = 21,  /* the floor is not bi-connected: it has under 3 positions, is not
                                         connected, or falls apart when some position is taken away */
     WICHTEAB_FLOOR_RING = 22,        /* the floor is a ring: bi-connected, with exactly n edges */
-    WICHTEAB_FLOOR_PLAN_BUFFER = 23, /* the plan buffer is shorter than 12 * n * n * n + 3 bytes. For the
-                                        planner to come: no function below answers it */
+    WICHTEAB_FLOOR_PLAN_BUFFER = 23, /* the plan buffer is shorter than 12 * n * n * n + 3 bytes */
 
     /* The plan; place 0 unless it is named. */
     WICHTEAB_PLAN_LENGTH = 30, /* it is under 3 bytes, or its length is not the one k gives */
@@ -154,7 +159,7 @@ static inline const char *wichteab_family(uint32_t number)
     }
 }
 
-/* Of wichteab_plan_check, accepted: the plan's moves. */
+/* Of wichteab_plan_check or wichteab_plan_make, accepted: the plan's moves. */
 static inline uint32_t wichteab_plan_moves(uint64_t answer)
 {
     return (uint32_t)(answer >> 8);
@@ -203,6 +208,20 @@ uint64_t wichteab_order_check(const uint8_t *order, size_t order_length);
  * least two positions are vacant. Refused: 10 to 14 and 20 to 22, place 0.
  */
 uint64_t wichteab_floor_check(const uint8_t *order, size_t order_length);
+
+/*
+ * wichteab_plan_make: writes a plan that brings every rack of the order to its goal.
+ *
+ * Takes an order, which is only read, and a buffer of at least 12 * n * n * n + 3 bytes (see
+ * wichteab_plan_buffer_length), whatever it holds. Every order that wichteab_floor_check accepts is planned:
+ * with two vacancies or more, on a bi-connected floor that is no ring, every arrangement is reached from
+ * every other. Accepted: wichteab_plan_moves gives the number of moves, at most 8 * n * n * n, and 0 where
+ * each start is its goal; the plan is at the front of the buffer, as long as wichteab_plan_length says, and
+ * wichteab_plan_check accepts it with these moves. Refused: as wichteab_floor_check, and 23, place 0; the
+ * buffer is as it was.
+ */
+uint64_t wichteab_plan_make(const uint8_t *order, size_t order_length, uint8_t *buffer,
+                            size_t buffer_length);
 
 /*
  * wichteab_plan_check: does this plan bring every rack of the order to its goal?

@@ -4,15 +4,17 @@ use answers::Fault;
 use floor::FloorVerdict;
 use order::OrderVerdict;
 use plan::PlanVerdict;
+use planner::PlannerVerdict;
 use scheduling::MakerVerdict;
 use timetable::StepVerdict;
 use timetable::TimetableVerdict;
 ghost use mathlib.Core.Path.{_≡_};
 ghost use lib.ListN.{length};
-ghost use Rattle.answers.specs.Answer.{refusedBy};
+ghost use Rattle.answers.specs.Answer.{Answer, refusedBy};
 ghost use Rattle.order.specs.Order.{orderAnswer};
 ghost use Rattle.floor.specs.FloorAnswer.{floorAnswer};
 ghost use Rattle.plan.specs.Plan.{planAnswer};
+ghost use Rattle.planner.specs.Planner.{PlanMade};
 ghost use Rattle.scheduling.specs.Maker.{makerAnswer, bufferAfter};
 ghost use Rattle.timetable.specs.Timetable.{timetableAnswer, stepAnswer};
 ghost use Rattle.controller.specs.Packed.{packed, nothing, oneCount, stepsAndMoves, lengthAndOffset};
@@ -43,6 +45,17 @@ pub extern "C" fn wichteab_floor_check(order: &[u8]) -> u64
     match floor::judge(order) {
         FloorVerdict::Accepted => 0,
         FloorVerdict::Refused(fault, place) => refusal(fault, place),
+    }
+}
+
+// Makes a plan for an order and writes it to the front of the buffer, judged by 10 to 14 and 20 to 23. Accepted, it gives the plan's moves.
+#[no_mangle]
+pub extern "C" fn wichteab_plan_make(order: &[u8], buffer: &mut [u8]) -> u64
+    ensures { λ r. ⌜ ((a : Answer) × (r ≡ packed oneCount a) × PlanMade (now (order .entry)) (now (buffer .entry)) a (now (buffer .exit))) ⌝ }
+{
+    match planner::make(order, buffer) {
+        PlannerVerdict::Planned(moves) => (moves as u64) * 256,
+        PlannerVerdict::Refused(fault, place) => refusal(fault, place),
     }
 }
 

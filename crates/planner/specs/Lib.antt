@@ -1,3 +1,4 @@
 pub mod OrderTables
 pub mod Moves
 pub mod Planner
+pub mod PlannerLaws

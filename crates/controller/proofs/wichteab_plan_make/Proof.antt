@@ -1,0 +1,57 @@
+-- `controller::wichteab_plan_make` meets its contract: the verdict's answer, packed, and the buffer as the planner leaves it. Assumes nothing.
+use Prim.Native.Nat.{ℕ}
+use mathlib.Core.Path.{_≡_, refl, subst}
+use mathlib.Core.List.{List}
+use native.Mathlib.Omega.{arith}
+use Rattle.planner.specs.declared.PlannerVerdict.{PlannerVerdict}
+use Rattle.planner.specs.Planner.{PlanMade, answerOf}
+use Rattle.planner.specs.PlannerLaws.{moves-few}
+use borrow.Author.Needs.{needs}
+use Rattle.controller.proofs.wichteab_plan_make.Statement.{statement}
+use Rattle.controller.proofs.wichteab_plan_make.Tie as tie
+
+made-as : {o B B′ : List ℕ} {v w : PlannerVerdict} → v ≡ w → PlanMade o B (answerOf v) B′ → PlanMade o B (answerOf w) B′
+made-as {o} {B} {B′} e h = subst (λ (v : PlannerVerdict). PlanMade o B (answerOf v) B′) e h
+
+make-requires : tie.Need-make-requires
+make-requires c κs = search needs
+
+enum-known-moves : tie.Need-enum-known-moves
+enum-known-moves c = search needs
+
+mul-result : tie.Need-mul-result
+mul-result c = let made = made-as (c .before .moves .given .1) (c .before .before .before .before .before .make .ensures) in
+    let few = moves-few made in
+    omega arith
+
+enum-known-fault : tie.Need-enum-known-fault
+enum-known-fault c = search needs
+
+refusal-requires : tie.Need-refusal-requires
+refusal-requires c κs = search needs
+
+same-length : tie.Need-same-length
+same-length c = search needs
+
+returns : tie.Need-returns
+returns c = (_, refl, made-as (c .before .moves .given .1) (c .before .before .before .before .before .make .ensures))
+
+same-length-2 : tie.Need-same-length-2
+same-length-2 c = search needs
+
+returns-2 : tie.Need-returns-2
+returns-2 c = (_, c .refusal .ensures, made-as (c .before .before .fault .given .1) (c .before .before .before .before .before .before .make .ensures))
+
+pub wichteab-plan-make-spec : {M : Type 1} → statement M
+wichteab-plan-make-spec =
+    tie.close
+    (tie.spec
+    make-requires
+    enum-known-moves
+    mul-result
+    enum-known-fault
+    refusal-requires
+    same-length
+    returns
+    same-length-2
+    returns-2)
