@@ -63,7 +63,7 @@ fn refusals() {
     let mut random = Random::new(0x5EED_7002);
     let mut tally = Tally::new("plan_make, refusals");
     let mut buffer = random.bytes(enough(8));
-    for _ in 0..40_000 {
+    for _ in 0..100_000 {
         let shape = if random.one_in(8) { Shape::Ring } else { random.pick(&floors::SHAPES) };
         let floor = floors::floor_of_shape(&mut random, shape);
         let m = random.between(0, floor.n);
@@ -80,7 +80,7 @@ fn refusals() {
         let length = if random.one_in(2) { limit.min(buffer.len()) } else { random.below(limit) };
         judge(&mut tally, &record, &mut buffer[..length]);
     }
-    tally.finish(40_000, &NUMBERS);
+    tally.finish(100_000, &NUMBERS);
 }
 
 #[test]
@@ -90,6 +90,9 @@ fn the_same_plan_whatever_the_buffer_held() {
     for _ in 0..500 {
         let n = random_size(&mut random);
         let floor = floors::bi_connected(&mut random, n);
+        if floor.edges.len() == n {
+            continue; // a ring: refused, and every buffer stays as it was
+        }
         let m = random_rack_count(&mut random, n);
         let order = orders::order_on(&mut random, &floor, m).record();
         let length = enough(n);
@@ -100,7 +103,7 @@ fn the_same_plan_whatever_the_buffer_held() {
             assert!(k == moves[0] && &buffer[..plan.len()] == plan, "another plan, on {}", Hex(&order));
         }
     }
-    tally.close(1_500);
+    tally.close(1_000);
 }
 
 #[test]
