@@ -6,7 +6,6 @@
 --     agrees c        the claim as a test that computes
 --     starred         the table
 --     every-case      every case of the table holds
--- What needs the planner is still missing: "with two: planned" of case 4, and case 6.
 -- Assumes nothing.
 use Prim.Native.Nat.{ℕ, suc, _<_}
 use mathlib.Core.Path.{_≡_, refl, sym, ap, ap₂, _∙_}
@@ -31,19 +30,20 @@ use Rattle.timetable.specs.Timetable.{stepBits, allStepBits, timetableBits, tim
 use Rattle.scheduling.specs.Making.{rackFrom, rackAt, ofRack, ofLeaving, stepFor, timed, greatest, inStep, movesIn, stepsFrom, madeSteps}
 use Rattle.scheduling.specs.Maker.{madeOf}
 use Rattle.floor.specs.FloorAnswer.{biConnected?, ring?, floorAnswer}
+use Rattle.planner.specs.Planner.{refusals}
 use Rattle.floor.specs.Examples.{threeInRing, threeRacks, pathOfFour}
 
 pub data Case : Type 0 where
   plan-checked : (order plan : List ℕ) → Answer → Case
   timetable-checked : (order timetable : List ℕ) → Answer → Case
   timetable-made : (order plan timetable : List ℕ) → Case
-  floor-judged : (order : List ℕ) → Answer → Case
+  plan-made : (order : List ℕ) (buffer : ℕ) → Answer → Case
 
 abbrev pub Claim : Case → Type 0
 Claim (plan-checked order plan a) = planAnswer order plan ≡ a
 Claim (timetable-checked order timetable a) = timetableAnswer order timetable ≡ a
 Claim (timetable-made order plan timetable) = timetableRecord (madeOf order plan) ≡ timetable
-Claim (floor-judged order a) = floorAnswer order ≡ a
+Claim (plan-made order buffer a) = refusals order buffer ≡ a
 
 -- lists of numbers, and answers, compared by tests that compute
 sameList : List ℕ → List ℕ → Bool
@@ -80,14 +80,14 @@ agrees : Case → Bool
 agrees (plan-checked order plan a) = sameAnswer (planAnswer order plan) a
 agrees (timetable-checked order timetable a) = sameAnswer (timetableAnswer order timetable) a
 agrees (timetable-made order plan timetable) = sameList (timetableRecord (madeOf order plan)) timetable
-agrees (floor-judged order a) = sameAnswer (floorAnswer order) a
+agrees (plan-made order buffer a) = sameAnswer (refusals order buffer) a
 
 agrees-claims : (c : Case) → T (agrees c) → Claim c
 unfolding agrees
 agrees-claims (plan-checked order plan a) t = same-answer (planAnswer order plan) a t
 agrees-claims (timetable-checked order timetable a) t = same-answer (timetableAnswer order timetable) a t
 agrees-claims (timetable-made order plan timetable) t = same-list (timetableRecord (madeOf order plan)) timetable t
-agrees-claims (floor-judged order a) t = same-answer (floorAnswer order) a t
+agrees-claims (plan-made order buffer a) t = same-answer (refusals order buffer) a t
 
 -- F with rack 1 from 0 to 3 and rack 2 from 3 to 0: document 01, "Programs"
 abbrev order₁ : List ℕ
@@ -117,6 +117,10 @@ order₄ = 0x08 ∷ 0x0A ∷ 0x0C ∷ 0x00 ∷ 0x10 ∷ 0x02 ∷ 0x04 ∷ 0x20 �
 abbrev swap₄ : List ℕ
 swap₄ = 0x00 ∷ 0x00 ∷ 0x04 ∷ 0x02 ∷ 0x00 ∷ 0x10 ∷ 0x40 ∷ []
 
+-- none of the planner's refusals applies: by its contract it plans (crates/planner, `PlanMade`)
+abbrev planned : Answer
+planned = accepted []
+
 pub starred : List Case
 starred =
     -- 1. "The plan above is accepted." "Its timetable is 00 00 08 02 00 10 C2 02 04 30 80."
@@ -128,18 +132,22 @@ starred =
     -- 3. "On F, racks at 0, 1, 2: a first step 0>1, 1>2, 2>0 is 42, step 1." "A first step 0>1, 1>0 is 42, step 1."
     ∷ timetable-checked order₃ ring₃ (refused 42 1)
     ∷ timetable-checked order₄ swap₄ (refused 42 1)
-    -- 4. "Three positions in a ring, one rack: 22." "F with three racks: 20"
-    ∷ floor-judged threeInRing (refused 22 0)
-    ∷ floor-judged threeRacks (refused 20 0)
+    -- 4. "Three positions in a ring, one rack: 22." "F with three racks: 20; with two: planned." The buffers are as long as 23 asks.
+    ∷ plan-made threeInRing 327 (refused 22 0)
+    ∷ plan-made threeRacks 771 (refused 20 0)
+    ∷ plan-made order₁ 771 planned
     -- 5. "Path 0-1, 1-2, 2-3, one rack: 21."
-    ∷ floor-judged pathOfFour (refused 21 0)
+    ∷ plan-made pathOfFour 771 (refused 21 0)
+    -- 6. "F, buffer of 770 bytes: 23; 771: planned."
+    ∷ plan-made order₁ 770 (refused 23 0)
+    ∷ plan-made order₁ 771 planned
     -- 7. "Empty plan for the order above: 33, rack 1."
     ∷ plan-checked order₁ (0x00 ∷ 0x00 ∷ 0x00 ∷ []) (refused 33 1)
     ∷ []
 
 -- the one computed test
 all-agree : T (every agrees starred)
-unfolding starred every agrees sameAnswer sameList planAnswer timetableAnswer floorAnswer biConnected? ring? madeOf orderAnswer wrongLength misfits unitsLength unitCount wrongPositions paddingSet unclean pad wrongEdges some badEdge precedes ascending wrongRacks wrongPlaces repeats orderOf floorOf startsOf goalsOf counts positionCount edgeCount rackCount field number bitsOf bits pairs positions wrongPlanLength planPaddingSet moveCount planMoves judged misplaced replayMoves replaySteps replayFrom legalMove legalStep onFloor joined among isPair occupied vacant goesTo after afterMove ascends leaves enters enteredOnce led wrongTimetableLength wrongSteps stepLength stepCount timetablePaddingSet stepPadSet partsOf stepParts stepsOf stepMoves total timetableRecord timetableBits allStepBits stepBits toBytes bytes padded pairBits madeSteps timed stepFor ofRack ofLeaving rackAt rackFrom greatest stepsFrom movesIn inStep sort insert
+unfolding starred every agrees sameAnswer sameList planAnswer timetableAnswer refusals floorAnswer biConnected? ring? madeOf orderAnswer wrongLength misfits unitsLength unitCount wrongPositions paddingSet unclean pad wrongEdges some badEdge precedes ascending wrongRacks wrongPlaces repeats orderOf floorOf startsOf goalsOf counts positionCount edgeCount rackCount field number bitsOf bits pairs positions wrongPlanLength planPaddingSet moveCount planMoves judged misplaced replayMoves replaySteps replayFrom legalMove legalStep onFloor joined among isPair occupied vacant goesTo after afterMove ascends leaves enters enteredOnce led wrongTimetableLength wrongSteps stepLength stepCount timetablePaddingSet stepPadSet partsOf stepParts stepsOf stepMoves total timetableRecord timetableBits allStepBits stepBits toBytes bytes padded pairBits madeSteps timed stepFor ofRack ofLeaving rackAt rackFrom greatest stepsFrom movesIn inStep sort insert
 all-agree = tt
 
 -- the one lemma
