@@ -1,5 +1,6 @@
 //! Prints, for each capability that is switched on, how fast the proved function and the second
-//! implementation are on the same inputs. Nothing depends on the times.
+//! implementation are on the same inputs, and how good the planner's plans are. Nothing depends on the
+//! times.
 
 // What only the functions to come use is idle until they are switched on.
 #![cfg_attr(
@@ -15,6 +16,9 @@
     )),
     allow(dead_code, unused_imports)
 )]
+
+#[cfg(feature = "plan_make")]
+mod quality;
 
 use compare::floors;
 use compare::orders;
@@ -49,7 +53,7 @@ fn main() {
     #[cfg(feature = "timetable_make")]
     timetable_make();
     #[cfg(feature = "plan_make")]
-    plan_make();
+    quality::print_table();
 }
 
 /// Seconds that one of so many calls takes.
@@ -262,27 +266,5 @@ fn timetable_make() {
             shown(of_proved),
             shown(of_second)
         );
-    }
-}
-
-/// There is no second planner: the time and the moves of the proved one alone.
-#[cfg(feature = "plan_make")]
-fn plan_make() {
-    let mut random = Random::new(0xBE_0005);
-    for (rows, columns) in [(3, 3), (4, 4), (8, 8)] {
-        let floor = floors::grid(rows, columns);
-        let order = orders::order_on(&mut random, &floor, floor.n - 2).record();
-        let mut buffer = vec![0; 12 * floor.n.pow(3) + 3];
-        let mut moves = 0;
-        let mut best = f64::MAX;
-        for _ in 0..ROUNDS {
-            buffer.fill(0);
-            best = best.min(seconds(1, &mut || {
-                moves = proved::plan_make(&order, &mut buffer) >> 8;
-                moves
-            }));
-        }
-        let input = format!("{rows} by {columns} grid, two vacancies, {moves} moves");
-        println!("{:<16} {input:<44} {:>12} {:>12} {:>6}", "plan_make", shown(best), "-", "-");
     }
 }

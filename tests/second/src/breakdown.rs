@@ -105,12 +105,13 @@ pub fn find(floor: &Floor) -> Option<Breakdown> {
     Some(Breakdown { ring, handles })
 }
 
-fn set_of(list: &[u8]) -> u64 {
+/// The set of the listed positions.
+pub fn set_of(list: &[u8]) -> u64 {
     list.iter().fold(0, |set, &position| set | 1 << position)
 }
 
 /// The positions of a set, lowest first.
-fn members(mut set: u64) -> impl Iterator<Item = usize> {
+pub fn members(mut set: u64) -> impl Iterator<Item = usize> {
     std::iter::from_fn(move || {
         let lowest = set.trailing_zeros() as usize;
         set &= set.wrapping_sub(1);
@@ -155,7 +156,7 @@ fn shorter(first: Option<Vec<u8>>, second: Option<Vec<u8>>) -> Option<Vec<u8>> {
 
 /// A shortest path from a position to one of the targets, its inner positions among the allowed:
 /// breadth-first search.
-fn shortest_path(floor: &Floor, from: usize, targets: u64, allowed: u64) -> Option<Vec<u8>> {
+pub fn shortest_path(floor: &Floor, from: usize, targets: u64, allowed: u64) -> Option<Vec<u8>> {
     let mut parent = [from as u8; 64];
     let mut seen = 1u64 << from;
     let mut level = seen;
