@@ -22,7 +22,7 @@ use lib.Seq.{take-at}
 use Rattle.answers.specs.Answer.{Answer, accepted, refused, refuse}
 use Rattle.field.specs.Units.{unitsLength}
 use Rattle.field.specs.UnitLaws.{fitting}
-use Rattle.field.specs.Writing.{written, written-front, Wrote}
+use Rattle.field.specs.Writing.{written, written-front, Wrote, wrote-as}
 use Rattle.order.specs.Order.{positionCount}
 use Rattle.plan.specs.Plan.{planRecord, planAnswer, moveCount, wrongPlanLength}
 use Rattle.text.specs.Text.{refusalLine}
@@ -65,20 +65,21 @@ module _ {s B : List ℕ} (lent : length B ≡ 65536) where
         };
       }
 
-  pub refused-printed : {B′ out : List ℕ} {k q n : ℕ} → PlanMade s B (refused k q) B′ → Wrote B′ 0 (refusalLine k q) out n
+  pub refused-printed : {B′ out : List ℕ} {j k q n : ℕ} → PlanMade s B (refused k q) B′ → Wrote B′ 0 (refusalLine j q) out n → j ≡ k
       → Printed s B out n
-  refused-printed {k = k} {q = q} (turned-down e) w = record {
+  refused-printed {k = k} {q = q} (turned-down e) w same = record {
     answer = refused k q;
     left = B;
     lent = lent;
     planned = turned-down {number = k} {place = q} e;
-    wrote = w;
+    wrote = wrote-as (ap (λ (j : ℕ). refusalLine j q) same) w;
   }
 
   pub line-printed : {k q : ℕ} → refusals s 65536 ≡ refused k q → Printed s B (written B 0 (refusalLine k q)) (length (refusalLine k q))
   line-printed {k} {q} e =
       refused-printed (turned-down {number = k} {place = q} (ap (refusals s) lent ∙ e))
       (record { bytes-are = refl; next-is = sym (zero-add (length (refusalLine k q))) })
+      refl
 
 module _ {s out out′ : List ℕ} {n : ℕ} (p : Printed s out out′ n) where
   size : length (planText (p .answer) (p .left)) ≡ n

@@ -1,11 +1,9 @@
 -- `plan_program::plan_program` meets its contract: what the planner answers and leaves is what is printed. Assumes nothing.
 use Prim.Native.Nat.{ℕ}
-use mathlib.Core.Path.{_≡_, ap, subst}
+use mathlib.Core.Path.{_≡_, subst}
 use mathlib.Core.List.{List}
 use native.Mathlib.Omega.{arith}
-use Rattle.field.specs.Writing.{wrote-as}
 use Rattle.text.specs.Sizes.{refusal-fits}
-use Rattle.text.specs.Text.{refusalLine}
 use Rattle.planner.specs.declared.PlannerVerdict.{PlannerVerdict}
 use Rattle.planner.specs.Planner.{PlanMade, answerOf}
 use Rattle.planner.specs.PlannerLaws.{moves-few}
@@ -49,9 +47,9 @@ returns c = made-printed (omega arith) (made-as (c .before .moves .given .1) (c 
 
 returns-2 : tie.Need-returns-2
 returns-2 c =
-    let fault = c .before .before .before .before .fault .given in
-    refused-printed (omega arith) (made-as (fault .1) (c .before .before .before .before .before .before .make .ensures))
-    (wrote-as (ap (λ (k : ℕ). refusalLine k (fault .0 .1 .0)) (c .before .before .number .ensures)) (c .put-refusal .ensures))
+    let verdict = c .before .before .before .before .fault .given .1 in
+    let made = made-as verdict (c .before .before .before .before .before .before .make .ensures) in
+    refused-printed (omega arith) made (c .put-refusal .ensures) (omega arith)
 
 pub plan-program-spec : {M : Type 1} → statement M
 plan-program-spec =
