@@ -8,6 +8,7 @@
 --     reading₁                       the reading's counts
 --     step-zero, step-one, step-two, step-three    the step reader's answers for 0, 1, 2 and 3; step 2 is 02 04 30 80 at offset 7
 --     second-given, none-given       the part of step 2, and the empty part of step 3
+--     alike, alike-bytes, first-place, second-place    a timetable of two equal steps: the bytes of their parts do not tell them apart, the places do
 --     cut-short, left-over, spare-bit, pad-bit     40 and 41, each by the damage that meets it
 --     order₁                         the first case's order
 --     answer₁                        the first case: accepted, 2 steps and 4 moves
@@ -34,7 +35,7 @@ use Rattle.motion.specs.Step.{every, ascends, leaves, enters, enteredOnce, led,
 use Rattle.motion.specs.Replay.{replayFrom, replaySteps, trace}
 use Rattle.motion.specs.Judgement.{misplaced, judged}
 use Rattle.timetable.specs.Timetable.{stepBits, allStepBits, timetableBits, timetableRecord, stepLength, stepCount, wrongSteps, stepParts, partsOf, wrongTimetableLength, stepPadSet, timetablePaddingSet, stepMoves, stepsOf, total, timetableAnswer, lengthOf, offset, stepPart, stepAnswer}
-use Rattle.timetable.specs.Reading.{readingAnswer, WellPacked, partGiven}
+use Rattle.timetable.specs.Reading.{readingAnswer, WellPacked, partGiven, placeGiven}
 use Rattle.timetable.specs.ReadingLaws.{Stands, stands-at}
 use Rattle.timetable.specs.SizeLaws.{ByteString}
 use Rattle.timetable.specs.StepRecord.{Part}
@@ -114,6 +115,22 @@ second-given = refl
 pub none-given : partGiven timetable₁ 3 ≡ []
 unfolding partGiven stepAnswer wrongTimetableLength timetablePaddingSet wrongSteps some stepPadSet pad partsOf stepParts stepLength stepCount field number bitsOf bits
 none-given = refl
+
+-- two steps without moves
+abbrev pub alike : List ℕ
+alike = 0x00 ∷ 0x00 ∷ 0x08 ∷ 0x00 ∷ 0x00 ∷ []
+
+pub alike-bytes : partGiven alike 1 ≡ partGiven alike 2
+unfolding partGiven stepAnswer offset lengthOf stepPart wrongTimetableLength timetablePaddingSet wrongSteps some stepPadSet pad partsOf stepParts stepLength stepCount field number bitsOf bits
+alike-bytes = refl
+
+pub first-place : (block : ℕ) → placeGiven (block, 100) alike 1 ≡ (block, 103)
+unfolding placeGiven stepAnswer offset lengthOf stepPart wrongTimetableLength timetablePaddingSet wrongSteps some stepPadSet pad partsOf stepParts stepLength stepCount field number bitsOf bits
+first-place block = refl
+
+pub second-place : (block : ℕ) → placeGiven (block, 100) alike 2 ≡ (block, 104)
+unfolding placeGiven stepAnswer offset lengthOf stepPart wrongTimetableLength timetablePaddingSet wrongSteps some stepPadSet pad partsOf stepParts stepLength stepCount field number bitsOf bits
+second-place block = refl
 
 -- 40, by a byte too few and by a byte too many: the last step runs past the end, a byte is left over
 pub cut-short : readingAnswer (0x00 ∷ 0x00 ∷ 0x04 ∷ 0x02 ∷ 0x00 ∷ 0x10 ∷ []) ≡ refused 40 0
