@@ -7,23 +7,20 @@
 --     no-meeting          in none do two racks enter one position
 -- Assumes nothing.
 use Prim.Native.Nat.{ℕ, suc, _-_, _≤_}
-use mathlib.Core.List.{List, [], _∷_, List·Memᴰ, List·Memᴰ·not-nil}
+use mathlib.Core.List.{List, List·Memᴰ, List·Memᴰ·not-nil}
 use mathlib.Core.Logic.{_≢_}
-use mathlib.Core.Path.{_≡_, refl, sym, subst}
+use mathlib.Core.Path.{_≡_, sym, subst}
 use lib.ListN.{length}
 use Rattle.answers.specs.Answer.{accepted}
 use Rattle.order.specs.Floor.{Floor}
-use Rattle.order.specs.Order.{rackCount, floorOf, startsOf, goalsOf}
+use Rattle.order.specs.Order.{floorOf}
 use Rattle.motion.specs.Arrangement.{Arrangement}
 use Rattle.motion.specs.ListLaws.{by-member}
-use Rattle.motion.specs.Lawful.{LeadsSteps, still, _then_, replaySteps-ended}
+use Rattle.motion.specs.Lawful.{LeadsSteps, still, _then_}
 use Rattle.motion.specs.LegalStep.{LegalStep, legalStep-iff}
 use Rattle.motion.specs.StepLimits as limits
-use Rattle.motion.specs.StepSolutions.{solutions-iff}
-use Rattle.tables.specs.Accepted.{well-placed}
 use Rattle.timetable.specs.Timetable.{stepsOf, timetableAnswer}
-use Rattle.timetable.specs.ReadingLaws.{count-steps}
-use Rattle.timetable.specs.Solutions.{SolutionOf, arrangements, AcceptedTimetable, timetable-solutions}
+use Rattle.timetable.specs.Leading.{accepted-leads}
 
 leads-legal : (F : Floor) {A B : Arrangement} {steps : List (List (ℕ × ℕ))} → LeadsSteps F A steps B
     → (ms : List (ℕ × ℕ)) → List·Memᴰ ms steps → (C : Arrangement) × LegalStep F C ms
@@ -33,11 +30,7 @@ leads-legal F (_then_ {A = A} {x = x} l rest) ms k =
 
 module _ (o s v : List ℕ) (e : timetableAnswer o s ≡ accepted v) (ms : List (ℕ × ℕ)) (k : List·Memᴰ ms (stepsOf s)) where
   pub accepted-legal : (A : Arrangement) × LegalStep (floorOf o) A ms
-  accepted-legal =
-      let t : AcceptedTimetable o s v = timetable-solutions o .0 s v .0 e in
-      let solved = solutions-iff (floorOf o) (rackCount o) (startsOf o) (goalsOf o) (well-placed o (t .order-right) .task .initial) (stepsOf s) (arrangements o s) in
-      let replayed = solved .1 (subst (λ (n : ℕ). SolutionOf o n (arrangements o s)) (sym (count-steps s)) (t .solution), t .listed) .0 in
-      leads-legal (floorOf o) (replaySteps-ended (floorOf o) (startsOf o) (stepsOf s) (goalsOf o) .0 replayed) ms k
+  accepted-legal = leads-legal (floorOf o) (accepted-leads o s v .0 e .leads) ms k
 
   pub accepted-size : length ms ≤ floorOf o .positions - 1
   accepted-size = limits.step-size ms (accepted-legal .1) .1
