@@ -8,7 +8,8 @@
 --     reading₁                       the reading's counts
 --     step-zero, step-one, step-two, step-three    the step reader's answers for 0, 1, 2 and 3; step 2 is 02 04 30 80 at offset 7
 --     second-given, none-given       the part of step 2, and the empty part of step 3
---     alike, alike-bytes, first-place, second-place    a timetable of two equal steps: the bytes of their parts do not tell them apart, the places do
+--     alike, alike-bytes, first-place, second-place    a timetable of two equal steps: their parts' bytes do not tell them apart, the
+--                                    places do
 --     cut-short, left-over, spare-bit, pad-bit     40 and 41, each by the damage that meets it
 --     order₁                         the first case's order
 --     answer₁                        the first case: accepted, 2 steps and 4 moves
@@ -16,7 +17,7 @@
 --     solution₁, only₁               its arrangements are a solution, and it is their one timetable
 --     ringOrder, ringTimetable, swapOrder, swapTimetable    the third case's orders and timetables
 --     ring-turned, swapped           the third case: a full ring turned, and two neighbours exchanged, are 42, step 1
---     fullOrder, full-right, full-count, full-waits    a full floor, where each start is its goal: a timetable of one empty step is accepted
+--     fullOrder, full-right, full-count, full-waits    a full floor, where each start is its goal: one empty step is accepted
 --     paused, paused-packable, paused-record, paused-accepted    the first case with a pause after step 1: accepted, 3 steps and 4 moves
 -- Assumes nothing.
 use Prim.Native.Nat.{ℕ}
@@ -235,5 +236,6 @@ paused-record = refl
 
 pub paused-accepted : timetableAnswer order₁ (timetableRecord paused) ≡ accepted (3 ∷ 4 ∷ [])
 paused-accepted =
-    let more : OneMore (timetableRecord steps₁) (timetableRecord paused) = one-more (((0, 1) ∷ (3, 2) ∷ []) ∷ []) (((1, 3) ∷ (2, 0) ∷ []) ∷ []) paused-packable in
+    let more : OneMore (timetableRecord steps₁) (timetableRecord paused) =
+    one-more (((0, 1) ∷ (3, 2) ∷ []) ∷ []) (((1, 3) ∷ (2, 0) ∷ []) ∷ []) paused-packable in
     waiting-step (timetableRecord steps₁) (timetableRecord paused) more order₁ 2 4 .0 (ap (timetableAnswer order₁) record₁ ∙ answer₁)

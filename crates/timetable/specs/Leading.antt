@@ -1,7 +1,7 @@
 -- An accepted timetable as steps that lead from the starts to the goals: what 42 and 43 leave, as a relation of two arrangements.
 --
---     LeadingTimetable o s v   10 to 14, 40 and 41 pass, v is the count of steps and of moves, and the steps, each legal at its turn, lead from the
---                              starts to the goals
+--     LeadingTimetable o s v   10 to 14, 40 and 41 pass, v is the count of steps and of moves, and the steps, each legal at its turn,
+--                              lead from the starts to the goals
 --     accepted-leads           a timetable is accepted exactly if it is one
 -- Assumes nothing.
 use Prim.Native.Nat.{ℕ}
@@ -31,7 +31,8 @@ module _ (o s v : List ℕ) where
       ↔ (SolutionOf o (stepCount s) (arrangements o s) × (stepsOf s ≡ stepsBetween (arrangements o s)))
   solved-leads w =
       let ended-at = replaySteps-ended (floorOf o) (startsOf o) (stepsOf s) (goalsOf o) in
-      let solved = solutions-iff (floorOf o) (rackCount o) (startsOf o) (goalsOf o) (well-placed o w .task .initial) (stepsOf s) (arrangements o s) in (
+      let valid = well-placed o w .task .initial in
+      let solved = solutions-iff (floorOf o) (rackCount o) (startsOf o) (goalsOf o) valid (stepsOf s) (arrangements o s) in (
         λ l. let t = solved .0 (ended-at .1 l, refl) in (subst (λ (k : ℕ). SolutionOf o k (arrangements o s)) (count-steps s) (t .0), t .1),
         λ t. ended-at .0 (solved .1 (subst (λ (k : ℕ). SolutionOf o k (arrangements o s)) (sym (count-steps s)) (t .0), t .1) .0),
       )

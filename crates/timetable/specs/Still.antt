@@ -1,5 +1,5 @@
--- Timetables in which nothing moves, and steps in which nothing moves, from document 01, "The floor": "here a full floor may be checked too, and no
--- rack on it can move. No steps at all is a solution when each start is its goal."
+-- Timetables in which nothing moves, and steps in which nothing moves, from document 01, "The floor": "here a full floor may be checked
+-- too, and no rack on it can move. No steps at all is a solution when each start is its goal."
 --
 --     Waiting steps            each of the steps is empty
 --     waiting-leads            such steps lead from an arrangement to itself, and nowhere else
@@ -85,7 +85,8 @@ rackless F none (_then_ {A = A} {x = x} l rest) ms k =
 
 module _ (o s v : List ℕ) (w : WellFormed o) where
   -- where steps that lead to the goals can only wait
-  still-timetables : (LeadsSteps (floorOf o) (startsOf o) (stepsOf s) (goalsOf o) → Waiting (stepsOf s)) → (timetableAnswer o s ≡ accepted v) ↔ StillTimetable o s v
+  still-timetables : (LeadsSteps (floorOf o) (startsOf o) (stepsOf s) (goalsOf o) → Waiting (stepsOf s))
+      → (timetableAnswer o s ≡ accepted v) ↔ StillTimetable o s v
   still-timetables stuck = (
     λ a.
         let t : LeadingTimetable o s v = accepted-leads o s v .0 a in
@@ -189,7 +190,8 @@ module _ (s t : List ℕ) (w : OneMore s t) where
         rw (w .fewer-steps) (lawful-append (cut .1) (wait-left-out F (cut .2))),
   )
 
-  pub waiting-step : (o : List ℕ) (k c : ℕ) → (timetableAnswer o s ≡ accepted (k ∷ c ∷ [])) ↔ (timetableAnswer o t ≡ accepted (suc k ∷ c ∷ []))
+  pub waiting-step : (o : List ℕ) (k c : ℕ)
+      → (timetableAnswer o s ≡ accepted (k ∷ c ∷ [])) ↔ (timetableAnswer o t ≡ accepted (suc k ∷ c ∷ []))
   waiting-step o k c = (
     λ a.
         let u : LeadingTimetable o s (k ∷ c ∷ []) = accepted-leads o s _ .0 a in

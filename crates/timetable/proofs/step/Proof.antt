@@ -31,7 +31,9 @@ returns c =
     let timetable = c .before .before .before .before .before .args .timetable in
     let number = c .before .before .before .before .before .args .number in
     let refused-there = sym (c .before .before .before .find-step .ensures) ∙ ap answerOfStep (c .before .enum-told .given .1) in
-    (sym (given-none (timetable .now) number _ _ refused-there), sym (none-place (timetable .now) number _ _ refused-there (timetable .ptr)))
+    let bytes = given-none (timetable .now) number _ _ refused-there in
+    let place = none-place (timetable .now) number _ _ refused-there (timetable .ptr) in
+    (sym bytes, sym place)
 
 add-end : tie.Need-add-end
 add-end c =
