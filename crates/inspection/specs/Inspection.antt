@@ -1,5 +1,5 @@
--- What the tests see of a breakdown: four rows of 64 bytes at the front of a lent buffer, as crates/breakdown has them. And of the part that the
--- step reader gives back: one byte at a time.
+-- What the tests see of a breakdown: four rows of 64 bytes at the front of a lent buffer, as crates/breakdown has them. And of the part
+-- that the step reader gives back: one byte at a time.
 --
 --     Copied row at k old new           the first k bytes of `row` were copied into a buffer from byte `at` on
 --     LaidOut order start left right old new   the four rows stand at the bytes 0, 64, 128 and 192; every other byte is as it was

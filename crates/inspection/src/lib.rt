@@ -1,5 +1,5 @@
-// For the tests: a breakdown as bytes, and the part that the step reader gives back byte by byte, through C's conventions. This is no part of
-// the product's interface, and include/wichteab.h does not declare it.
+// For the tests: a breakdown as bytes, and the part that the step reader gives back byte by byte, through C's conventions. This is no part
+// of the product's interface, and include/wichteab.h does not declare it.
 use breakdown::Breakdown;
 use order::OrderVerdict;
 ghost use mathlib.Core.Path.{_≡_};
@@ -62,8 +62,8 @@ pub extern "C" fn wichteab_inspect_breakdown(order: &[u8], buffer: &mut [u8]) ->
     (ring + handles * 256) as u64
 }
 
-// The byte at `index` of the part of a timetable that the step reader gives back; 256 from the part's end on. No exported function may return
-// a part, so that it is looked at through this one.
+// The byte at `index` of the part of a timetable that the step reader gives back; 256 from the part's end on. No exported function may
+// return a part, so that it is looked at through this one.
 #[no_mangle]
 pub extern "C" fn wichteab_inspect_step(timetable: &[u8], number: u64, index: u64) -> u64
     ensures { λ r. ⌜ r ≡ shownByte (partGiven (now (timetable .entry)) number) index ⌝ }

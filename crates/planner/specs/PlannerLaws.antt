@@ -3,8 +3,8 @@
 --     unrefused      where none of the planner's refusals applies the order can be planned
 --     moves-few      a plan has fewer than 2²² moves
 --     solves-few, plan-accepted    so have moves that solve an order, and the plan checker accepts their record
---     Planned o B a B′    the answer a counts the moves of a plan, at most 8 × n × n × n, which the plan checker accepts and which stands at the front of B′, where
---                         B′ is B otherwise
+--     Planned o B a B′    the answer a counts the moves of a plan, at most 8 × n × n × n, which the plan checker accepts and which stands
+--                         at the front of B′; all else is as it was in B
 --     never-refuses       where none of the planner's refusals applies, whatever it answers and leaves behind is so
 --     turned-away         where one applies, that is its answer, and no byte changes
 -- Assumes nothing.
@@ -94,6 +94,7 @@ never-refuses o B v none (made ms e solves) =
       checked = plan-accepted o (unrefused o (length B) e) ms solves;
     }
 
-pub turned-away : (o B : List ℕ) {n p : ℕ} {a : Answer} {B′ : List ℕ} → refusals o (length B) ≡ refused n p → PlanMade o B a B′ → (a ≡ refused n p) × (B′ ≡ B)
+pub turned-away : (o B : List ℕ) {n p : ℕ} {a : Answer} {B′ : List ℕ} → refusals o (length B) ≡ refused n p → PlanMade o B a B′
+    → (a ≡ refused n p) × (B′ ≡ B)
 turned-away o B away (turned-down e) = (sym e ∙ away, refl)
 turned-away o B away (made ms e solves) = absurd (clash (sym e ∙ away))
