@@ -1,16 +1,20 @@
--- What the tests see of a breakdown: four rows of 64 bytes at the front of a lent buffer, as crates/breakdown has them.
+-- What the tests see of a breakdown: four rows of 64 bytes at the front of a lent buffer, as crates/breakdown has them. And of the part
+-- that the step reader gives back: one byte at a time.
 --
 --     Copied row at k old new           the first k bytes of `row` were copied into a buffer from byte `at` on
 --     LaidOut order start left right old new   the four rows stand at the bytes 0, 64, 128 and 192; every other byte is as it was
 --     Shown n E old new answer          the answer has the ring size in its low 8 bits and the handle count above; the rows of that breakdown were laid out
 --     Breaks o old                      where a breakdown is shown: a well-formed order on a bi-connected floor that is no ring, and room for it
 --     Inspected o old new answer        a breakdown is shown there, and nowhere else; else the answer is 0, and no byte changes
+--     shownByte part i                  the byte at i of the part; 256, which is no byte, from its end on
 -- Assumes nothing.
 use Prim.Native.Nat.{ℕ, _+_, _*_, _≤_, _<_}
 use mathlib.Core.Path.{_≡_}
+use mathlib.Core.Bool.{cond}
 use mathlib.Core.List.{List}
 use mathlib.Core.Logic.{_↔_}
 use lib.ListN.{length, getD}
+use lib.Dec.{ltb}
 use Rattle.order.specs.Order.{floorOf, WellFormed}
 use Rattle.graph.specs.Connected.{BiConnected, Ring}
 use Rattle.breakdown.specs.Breakdown.{Breakdown}
@@ -52,3 +56,6 @@ pub record Inspected (o old new : List ℕ) (answer : ℕ) : Type 0 where
   pub shown : 0 < answer → Shown (floorOf o .positions) (Joins (floorOf o)) old new answer
   pub none : answer ≡ 0 → new ≡ old
   pub exactly : (0 < answer) ↔ Breaks o old
+
+unfoldable pub shownByte : List ℕ → ℕ → ℕ
+shownByte part i = cond (ltb i (length part)) (getD part i 0) 256

@@ -1,11 +1,13 @@
-// For the tests: a breakdown as bytes, through C's conventions. This is no part of the product's interface, and include/wichteab.h does not
-// declare it.
+// For the tests: a breakdown as bytes, and the part that the step reader gives back byte by byte, through C's conventions. This is no part
+// of the product's interface, and include/wichteab.h does not declare it.
 use breakdown::Breakdown;
 use order::OrderVerdict;
+ghost use mathlib.Core.Path.{_≡_};
 ghost use Prim.Native.Nat.{_+_, _≤_};
 ghost use lib.ListN.{length};
 ghost use Rattle.breakdown.specs.Building.{row};
-ghost use Rattle.inspection.specs.Inspection.{Copied, LaidOut, Inspected};
+ghost use Rattle.timetable.specs.Reading.{partGiven};
+ghost use Rattle.inspection.specs.Inspection.{Copied, LaidOut, Inspected, shownByte};
 
 // Copies 64 bytes into the buffer from byte `at` on.
 fn copy_row(bytes: &[u8; 64], at: usize, buffer: &mut [u8])
@@ -58,4 +60,18 @@ pub extern "C" fn wichteab_inspect_breakdown(order: &[u8], buffer: &mut [u8]) ->
     }
     lay_out(found, buffer);
     (ring + handles * 256) as u64
+}
+
+// The byte at `index` of the part of a timetable that the step reader gives back; 256 from the part's end on. No exported function may
+// return a part, so that it is looked at through this one.
+#[no_mangle]
+pub extern "C" fn wichteab_inspect_step(timetable: &[u8], number: u64, index: u64) -> u64
+    ensures { λ r. ⌜ r ≡ shownByte (partGiven (now (timetable .entry)) number) index ⌝ }
+{
+    let part = timetable::step(timetable, number as usize);
+    let at = index as usize;
+    if part.len() <= at {
+        return 256;
+    }
+    field::wide(part[at]) as u64
 }

@@ -6,7 +6,7 @@
 --     EmptyPlan o p v    p lists no move, v counts none, and each start is its goal
 --     full-floor         on a full floor a plan is accepted exactly if it is empty and each start is its goal
 --     no-racks           so it is where there is no rack
---     no-moves           and of a plan without moves on any floor
+--     no-moves, nothing  and of a plan without moves on any floor: 00 00 00 is accepted exactly if each start is its goal
 -- Assumes nothing.
 use Prim.Native.Nat.{ℕ}
 use mathlib.Core.Bool.{false}
@@ -16,6 +16,8 @@ use mathlib.Core.Path.{_≡_, refl, sym, ap, _∙_}
 use native.Mathlib.Omega.{arith}
 use lib.ListN.{length}
 use Rattle.answers.specs.Answer.{accepted}
+use Rattle.field.specs.Bits.{bits, number, bitsOf, field, pad}
+use Rattle.field.specs.Units.{unitsLength, misfits, unclean}
 use Rattle.order.specs.Order.{rackCount, floorOf, startsOf, goalsOf, WellFormed}
 use Rattle.motion.specs.Arrangement.{Arrangement}
 use Rattle.motion.specs.Lawful.{Leads, still, lawful-none, replayMoves-ended}
@@ -116,3 +118,17 @@ module _ (o p v : List ℕ) where
 
   pub no-moves : WellFormed o → moveCount p ≡ 0 → (planAnswer o p ≡ accepted v) ↔ EmptyPlan
   no-moves w empty = still-plans w (λ l. moves-none empty)
+
+-- the plan without moves
+nothing-empty : (o : List ℕ) → startsOf o ≡ goalsOf o → EmptyPlan o (0x00 ∷ 0x00 ∷ 0x00 ∷ []) (0 ∷ [])
+unfolding wrongPlanLength planPaddingSet moveCount misfits unitsLength unclean pad field number bitsOf bits
+nothing-empty o e = record { length-right = refl; padding-clear = refl; empty = refl; none-counted = refl; settled = e }
+
+nothing-counted : moveCount (0x00 ∷ 0x00 ∷ 0x00 ∷ []) ≡ 0
+unfolding moveCount field number bitsOf bits
+nothing-counted = refl
+
+pub nothing : (o : List ℕ) → WellFormed o → (planAnswer o (0x00 ∷ 0x00 ∷ 0x00 ∷ []) ≡ accepted (0 ∷ [])) ↔ (startsOf o ≡ goalsOf o)
+nothing o w =
+    let by = no-moves o (0x00 ∷ 0x00 ∷ 0x00 ∷ []) (0 ∷ []) w nothing-counted in
+    (λ a. by .0 a .settled, λ e. by .1 (nothing-empty o e))

@@ -2,17 +2,18 @@
 --
 --     moves-counted         a byte string lists as many moves as its count says
 --     length-planBits       how many bits the moves take
+--     length-record         how many bytes the record takes
 --     Written ms, written   of fewer than 2^22 moves of positions below 64: the record is bytes, 30 and 31 pass it, its count is how many
 --                           moves there are, and reading it gives them back
 --     record-parts          the record is its head, and behind it the moves, packed
 --     record-read           a byte string that 30 and 31 pass is the record of the moves that it lists
 -- Assumes nothing.
-use Prim.Native.Nat.{ℕ, _+_, _*_, _/_, _^_, _<_}
+use Prim.Native.Nat.{ℕ, _+_, _*_, _^_, _<_}
 use mathlib.Core.Path.{_≡_, refl, sym, ap, ap₂, _∙_}
 use mathlib.Core.Bool.{false}
 use mathlib.Core.List.{List, [], _++_, append-assoc, append-nil}
 use native.Mathlib.Omega.{arith}
-use lib.ListN.{length, take, drop, replicate, length-append}
+use lib.ListN.{length, take, replicate, length-append}
 use lib.Seq.{take-all}
 use lib.Pow.{pow-pos}
 use Rattle.field.specs.Bits.{bits, bitsOf, field, pairBits, pad, padded}
@@ -21,6 +22,7 @@ use Rattle.field.specs.RecordLaws.{BelowPairs, length-pairs, length-pairBits, p
 use Rattle.field.specs.Head.{headBits, headBits-are, length-headBits, headBytes, head-bytes}
 use Rattle.field.specs.WholeBytes.{toBytes-append}
 use Rattle.field.specs.Packing.{pack, pack-is}
+use Rattle.field.specs.Units.{unitsLength}
 use Rattle.field.specs.UnitLaws.{Fitting, fitting, fits, Clean, cleanly, clean, pad-after-head}
 use Rattle.plan.specs.Plan.{planBits, planRecord, moveCount, planMoves, wrongPlanLength, planPaddingSet}
 
@@ -31,6 +33,10 @@ moves-counted p = length-pairs p 24 (moveCount p)
 pub length-planBits : (ms : List (ℕ × ℕ)) → length (planBits ms) ≡ 24 + 12 * length ms
 unfolding planBits
 length-planBits ms = simp (length-append, length-bits, length-pairBits)
+
+pub length-record : (ms : List (ℕ × ℕ)) → length (planRecord ms) ≡ unitsLength (length ms)
+unfolding planRecord unitsLength
+length-record ms = length-toBytes (planBits ms) ∙ rw (length-planBits ms) (omega arith)
 
 planBits-are : (ms : List (ℕ × ℕ)) → Bits (planBits ms)
 unfolding planBits
@@ -75,18 +81,15 @@ module _ (ms : List (ℕ × ℕ)) (few : length ms < 2 ^ 22) (small : BelowPairs
   head-length : length (bits 22 (length ms) ++ bits 2 0) ≡ 24
   head-length = length-append (bits 22 (length ms)) (bits 2 0) ∙ ap₂ _+_ (length-bits 22 (length ms)) (length-bits 2 0)
 
-  length-is : length (planRecord ms) ≡ 3 + (12 * length ms + 7) / 8
-  unfolding planRecord
-  length-is = length-toBytes (planBits ms) ∙ rw (length-planBits ms) (omega arith)
-
   pub record-parts : planRecord ms ≡ headBytes (length ms) ++ pack ms
   unfolding planRecord planBits headBits
   record-parts =
       toBytes-append 3 (headBits-are (length ms)) (length-headBits (length ms)) (pairBits-are ms) ∙ ap₂ _++_ (head-bytes (length ms) few) (sym (pack-is small))
 
   pub written : Written ms
-  unfolding moveCount planMoves wrongPlanLength planPaddingSet
+  unfolding moveCount planMoves wrongPlanLength planPaddingSet unitsLength
   written =
+      let length-is = length-record ms in
       record {
         are-bytes = unfold planRecord in toBytes-are (planBits-are ms);
         length-right = rw count (fits (planRecord ms) (length ms) (rw length-is (omega arith)) length-is);

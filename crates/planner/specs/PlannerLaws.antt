@@ -3,16 +3,20 @@
 --     unrefused      where none of the planner's refusals applies the order can be planned
 --     moves-few      a plan has fewer than 2²² moves
 --     solves-few, plan-accepted    so have moves that solve an order, and the plan checker accepts their record
+--     Planned o B a B′    the answer a counts the moves of a plan, at most 8 × n × n × n, which the plan checker accepts and which stands
+--                         at the front of B′; all else is as it was in B
+--     never-refuses       where none of the planner's refusals applies, whatever it answers and leaves behind is so
+--     turned-away         where one applies, that is its answer, and no byte changes
 -- Assumes nothing.
 use Prim.Native.Nat.{ℕ, _+_, _*_, _^_, _≤_, _<_}
 use mathlib.Core.Path.{_≡_, refl, sym, _∙_}
 use mathlib.Core.List.{List, [], _∷_}
-use native.Mathlib.Nat.{mul-le-mul-right}
 use native.Mathlib.Omega.{arith}
 use lib.Dec.{ltb}
 use lib.ListN.{length}
-use Rattle.answers.specs.Answer.{Answer, accepted, refuse}
+use Rattle.answers.specs.Answer.{Answer, accepted, refused, refuse}
 use Rattle.answers.specs.AnswerLaws.{passUp-low, passUp-accepted}
+use Rattle.field.specs.Writing.{written}
 use Rattle.order.specs.Order.{positionCount, floorOf, startsOf, goalsOf, counts, orderAnswer}
 use Rattle.order.specs.OrderLaws.{right-head, accepted-is}
 use Rattle.motion.specs.Arrangement.{Arrangement}
@@ -22,7 +26,8 @@ use Rattle.motion.specs.Sound.{leads-length}
 use Rattle.motion.specs.JudgementLaws.{judged-accepted}
 use Rattle.tables.specs.Accepted.{WellPlaced, well-placed}
 use Rattle.plan.specs.Plan.{planRecord, planAnswer}
-use Rattle.plan.specs.PlanRecord.{Written, written}
+use Rattle.plan.specs.PlanRecord.{Written, written as written-right}
+use Rattle.plan.specs.SizeLaws.{most-moves}
 use Rattle.plan.specs.Solutions.{leads-small}
 use Rattle.floor.specs.FloorAnswer.{floorAnswer}
 use Rattle.floor.specs.FloorLaws.{Plannable, plannable}
@@ -41,17 +46,15 @@ module _ (o : List ℕ) (can : Plannable o) (ms : List (ℕ × ℕ)) (solves : S
   solves-few =
       let n = positionCount o in
       let few : n ≤ 64 = right-head o (can .right .length-right) (can .right .positions-right) .few-positions in
-      let square : n * n ≤ 64 * n = mul-le-mul-right n few in
-      let cube : n * (n * n) ≤ 64 * (n * n) = mul-le-mul-right (n * n) few in
-      let most = solves .few in
-      omega arith
+      let most = most-moves n few in
+      omega (arith, solves .few)
 
   well : WellPlaced o
   well = well-placed o (can .right)
 
   pub packed : Written ms
   packed =
-      written ms solves-few
+      written-right ms solves-few
       (leads-small (floorOf o) (well .few-positions) (replayMoves-ended (floorOf o) (startsOf o) ms (goalsOf o) .0 (solves .replayed)))
 
   same : (A : Arrangement) → replayMoves (floorOf o) (startsOf o) ms ≡ ended A → length A ≡ length (goalsOf o)
@@ -67,3 +70,31 @@ module _ (o : List ℕ) (can : Plannable o) (ms : List (ℕ × ℕ)) (solves : S
 
 pub moves-few : {o B B′ : List ℕ} {k : ℕ} → PlanMade o B (accepted (k ∷ [])) B′ → k < 2 ^ 22
 moves-few {o} {B} (made ms right solves) = solves-few o (unrefused o (length B) right) ms solves
+
+pub record Planned (o B : List ℕ) (a : Answer) (B′ : List ℕ) : Type 0 where
+  pub plan : List ℕ
+  pub moves : ℕ
+  pub answered : a ≡ accepted (moves ∷ [])
+  pub few : moves ≤ 8 * (positionCount o * (positionCount o * positionCount o))
+  pub stands : B′ ≡ written B 0 plan
+  pub checked : planAnswer o plan ≡ accepted (moves ∷ [])
+
+clash : {v : List ℕ} {n p : ℕ} → accepted v ≡ refused n p → ⊥
+clash e = let z : _≡_ {A = ℕ} 0 1 = cc in omega arith
+
+pub never-refuses : (o B v : List ℕ) {a : Answer} {B′ : List ℕ} → refusals o (length B) ≡ accepted v → PlanMade o B a B′ → Planned o B a B′
+never-refuses o B v none (turned-down e) = absurd (clash (sym none ∙ e))
+never-refuses o B v none (made ms e solves) =
+    record {
+      plan = planRecord ms;
+      moves = length ms;
+      answered = refl;
+      few = solves .few;
+      stands = refl;
+      checked = plan-accepted o (unrefused o (length B) e) ms solves;
+    }
+
+pub turned-away : (o B : List ℕ) {n p : ℕ} {a : Answer} {B′ : List ℕ} → refusals o (length B) ≡ refused n p → PlanMade o B a B′
+    → (a ≡ refused n p) × (B′ ≡ B)
+turned-away o B away (turned-down e) = (sym e ∙ away, refl)
+turned-away o B away (made ms e solves) = absurd (clash (sym e ∙ away))

@@ -4,8 +4,9 @@
 --     given-has                  the same, of a step whose answer is accepted
 --     given-at, given-length     an accepted answer's values: where the part begins, and how long it is
 --     end-within                 the part lies in the timetable
---     given-part                 the part given back is the one that the answer names
+--     given-part, given-place    the part given back is the one that the answer names: its bytes, and where they stand
 --     given-some, given-none     so it is empty just where the step is refused
+--     none-place                 the empty part stands at the timetable's first byte
 -- Assumes nothing.
 use Prim.Native.Nat.{ℕ, _+_, _≤_}
 use mathlib.Core.Path.{_≡_, sym, ap, _∙_, subst}
@@ -19,7 +20,7 @@ use Rattle.answers.specs.Answer.{Answer, accepted, refused, refuse, passUp}
 use Rattle.answers.specs.AnswerLaws.{refuse-not, passUp-low, passUp-high}
 use Rattle.field.specs.UnitLaws.{or-left, or-right}
 use Rattle.timetable.specs.Timetable.{stepLength, stepCount, wrongTimetableLength, offset, stepPart, stepAnswer}
-use Rattle.timetable.specs.Reading.{readingAnswer, numberAnswer, givenBy, partGiven}
+use Rattle.timetable.specs.Reading.{readingAnswer, numberAnswer, givenBy, beginsAt, partGiven, placeGiven}
 use Rattle.timetable.specs.StepLaws.{partAt, stepLength-some, Room, length-partAt}
 use Rattle.timetable.specs.ReadingLaws.{well-packed, stepAnswer-is, step-room, stepPart-is}
 
@@ -45,6 +46,10 @@ module _ (s : List ℕ) (i : ℕ) where
   pub given-none : (n p : ℕ) → stepAnswer s i ≡ refused n p → partGiven s i ≡ []
   unfolding partGiven
   given-none n p e = ap (λ (b : Answer). givenBy b (stepPart s i)) e
+
+  pub none-place : (n p : ℕ) → stepAnswer s i ≡ refused n p → (q : ℕ × ℕ) → placeGiven q s i ≡ (q .0, 0 + q .1)
+  unfolding placeGiven
+  none-place n p e q = ap (λ (b : Answer). (q .0, beginsAt b + q .1)) e
 
   module _ (at n : ℕ) (e : stepAnswer s i ≡ accepted (at ∷ n ∷ [])) where
     above : passUp (numberAnswer s i) (accepted (offset s i ∷ length (stepPart s i) ∷ [])) ≡ accepted (at ∷ n ∷ [])
@@ -78,6 +83,10 @@ module _ (s : List ℕ) (i : ℕ) where
     pub given-part : partGiven s i ≡ take n (drop at s)
     unfolding partGiven
     given-part = ap (λ (b : Answer). givenBy b (stepPart s i)) e ∙ part-is ∙ ap (λ (m : ℕ). take m (drop at s)) (sym given-length)
+
+    pub given-place : (q : ℕ × ℕ) → placeGiven q s i ≡ (q .0, at + q .1)
+    unfolding placeGiven
+    given-place q = ap (λ (b : Answer). (q .0, beginsAt b + q .1)) e
 
     pub given-some : 1 ≤ length (partGiven s i)
     unfolding partGiven

@@ -8,6 +8,8 @@
 --     reading₁                       the reading's counts
 --     step-zero, step-one, step-two, step-three    the step reader's answers for 0, 1, 2 and 3; step 2 is 02 04 30 80 at offset 7
 --     second-given, none-given       the part of step 2, and the empty part of step 3
+--     alike, alike-bytes, first-place, second-place    a timetable of two equal steps: their parts' bytes do not tell them apart, the
+--                                    places do
 --     cut-short, left-over, spare-bit, pad-bit     40 and 41, each by the damage that meets it
 --     order₁                         the first case's order
 --     answer₁                        the first case: accepted, 2 steps and 4 moves
@@ -15,9 +17,11 @@
 --     solution₁, only₁               its arrangements are a solution, and it is their one timetable
 --     ringOrder, ringTimetable, swapOrder, swapTimetable    the third case's orders and timetables
 --     ring-turned, swapped           the third case: a full ring turned, and two neighbours exchanged, are 42, step 1
+--     fullOrder, full-right, full-count, full-waits    a full floor, where each start is its goal: one empty step is accepted
+--     paused, paused-packable, paused-record, paused-accepted    the first case with a pause after step 1: accepted, 3 steps and 4 moves
 -- Assumes nothing.
 use Prim.Native.Nat.{ℕ}
-use mathlib.Core.Path.{_≡_, refl}
+use mathlib.Core.Path.{_≡_, refl, ap, _∙_}
 use mathlib.Core.List.{List, [], _∷_}
 use lib.Dec.{lit<, lit≤}
 use Rattle.answers.specs.Answer.{accepted, refused}
@@ -34,12 +38,13 @@ use Rattle.motion.specs.Step.{every, ascends, leaves, enters, enteredOnce, led,
 use Rattle.motion.specs.Replay.{replayFrom, replaySteps, trace}
 use Rattle.motion.specs.Judgement.{misplaced, judged}
 use Rattle.timetable.specs.Timetable.{stepBits, allStepBits, timetableBits, timetableRecord, stepLength, stepCount, wrongSteps, stepParts, partsOf, wrongTimetableLength, stepPadSet, timetablePaddingSet, stepMoves, stepsOf, total, timetableAnswer, lengthOf, offset, stepPart, stepAnswer}
-use Rattle.timetable.specs.Reading.{readingAnswer, WellPacked, partGiven}
+use Rattle.timetable.specs.Reading.{readingAnswer, WellPacked, partGiven, placeGiven}
 use Rattle.timetable.specs.ReadingLaws.{Stands, stands-at}
 use Rattle.timetable.specs.SizeLaws.{ByteString}
 use Rattle.timetable.specs.StepRecord.{Part}
 use Rattle.timetable.specs.TimetableRecord.{no-steps, one-step, Packable}
 use Rattle.timetable.specs.Solutions.{SolutionOf, AcceptedTimetable, OnlyTimetable, timetable-solutions}
+use Rattle.timetable.specs.Still.{StillTimetable, full-floor, OneMore, one-more, waiting-step}
 
 abbrev pub timetable₁ : List ℕ
 timetable₁ = 0x00 ∷ 0x00 ∷ 0x08 ∷ 0x02 ∷ 0x00 ∷ 0x10 ∷ 0xC2 ∷ 0x02 ∷ 0x04 ∷ 0x30 ∷ 0x80 ∷ []
@@ -115,6 +120,22 @@ pub none-given : partGiven timetable₁ 3 ≡ []
 unfolding partGiven stepAnswer wrongTimetableLength timetablePaddingSet wrongSteps some stepPadSet pad partsOf stepParts stepLength stepCount field number bitsOf bits
 none-given = refl
 
+-- two steps without moves
+abbrev pub alike : List ℕ
+alike = 0x00 ∷ 0x00 ∷ 0x08 ∷ 0x00 ∷ 0x00 ∷ []
+
+pub alike-bytes : partGiven alike 1 ≡ partGiven alike 2
+unfolding partGiven stepAnswer offset lengthOf stepPart wrongTimetableLength timetablePaddingSet wrongSteps some stepPadSet pad partsOf stepParts stepLength stepCount field number bitsOf bits
+alike-bytes = refl
+
+pub first-place : (block : ℕ) → placeGiven (block, 100) alike 1 ≡ (block, 103)
+unfolding placeGiven stepAnswer offset lengthOf stepPart wrongTimetableLength timetablePaddingSet wrongSteps some stepPadSet pad partsOf stepParts stepLength stepCount field number bitsOf bits
+first-place block = refl
+
+pub second-place : (block : ℕ) → placeGiven (block, 100) alike 2 ≡ (block, 104)
+unfolding placeGiven stepAnswer offset lengthOf stepPart wrongTimetableLength timetablePaddingSet wrongSteps some stepPadSet pad partsOf stepParts stepLength stepCount field number bitsOf bits
+second-place block = refl
+
 -- 40, by a byte too few and by a byte too many: the last step runs past the end, a byte is left over
 pub cut-short : readingAnswer (0x00 ∷ 0x00 ∷ 0x04 ∷ 0x02 ∷ 0x00 ∷ 0x10 ∷ []) ≡ refused 40 0
 unfolding readingAnswer wrongTimetableLength wrongSteps stepLength stepCount field number bitsOf bits
@@ -177,3 +198,44 @@ ring-turned = refl
 pub swapped : timetableAnswer swapOrder swapTimetable ≡ refused 42 1
 unfolding timetableAnswer judged misplaced replaySteps replayFrom legalStep every ascends leaves enters enteredOnce led occupied vacant onFloor goesTo after joined among isPair orderAnswer counts wrongRacks wrongPlaces repeats wrongEdges ascending precedes badEdge paddingSet wrongPositions wrongLength unitCount floorOf startsOf goalsOf orderOf positionCount edgeCount rackCount unclean misfits unitsLength positions total stepsOf stepMoves pairs wrongTimetableLength timetablePaddingSet wrongSteps some stepPadSet pad partsOf stepParts stepLength stepCount field number bitsOf bits
 swapped = refl
+
+-- two positions joined by an edge, a rack on each, and each start its goal
+abbrev pub fullOrder : List ℕ
+fullOrder = 0x04 ∷ 0x02 ∷ 0x08 ∷ 0x00 ∷ 0x10 ∷ 0x01 ∷ 0x00 ∷ 0x10 ∷ []
+
+pub full-right : WellFormed fullOrder
+unfolding orderAnswer counts wrongRacks wrongPlaces repeats wrongEdges ascending precedes badEdge paddingSet wrongPositions wrongLength unitCount floorOf startsOf goalsOf orderOf positionCount edgeCount rackCount unclean misfits unitsLength positions pairs some pad field number bitsOf bits
+full-right = record { length-right = refl; positions-right = refl; padding-clear = refl; edges-right = refl; racks-right = refl }
+
+pub full-count : rackCount fullOrder ≡ floorOf fullOrder .positions
+unfolding floorOf positionCount rackCount field number bitsOf bits
+full-count = refl
+
+full-accepted : timetableAnswer fullOrder (0x00 ∷ 0x00 ∷ 0x04 ∷ 0x00 ∷ []) ≡ accepted (1 ∷ 0 ∷ [])
+unfolding timetableAnswer judged misplaced replaySteps replayFrom legalStep every ascends leaves enters enteredOnce led occupied vacant onFloor goesTo after joined among isPair orderAnswer counts wrongRacks wrongPlaces repeats wrongEdges ascending precedes badEdge paddingSet wrongPositions wrongLength unitCount floorOf startsOf goalsOf orderOf positionCount edgeCount rackCount unclean misfits unitsLength positions total stepsOf stepMoves pairs wrongTimetableLength timetablePaddingSet wrongSteps some stepPadSet pad partsOf stepParts stepLength stepCount field number bitsOf bits
+full-accepted = refl
+
+pub full-waits : StillTimetable fullOrder (0x00 ∷ 0x00 ∷ 0x04 ∷ 0x00 ∷ []) (1 ∷ 0 ∷ [])
+full-waits = full-floor fullOrder (0x00 ∷ 0x00 ∷ 0x04 ∷ 0x00 ∷ []) (1 ∷ 0 ∷ []) full-right full-count .0 full-accepted
+
+-- a pause between the steps of the first case
+abbrev pub paused : List (List (ℕ × ℕ))
+paused = ((0, 1) ∷ (3, 2) ∷ []) ∷ [] ∷ ((1, 3) ∷ (2, 0) ∷ []) ∷ []
+
+pub paused-packable : Packable paused
+paused-packable = record {
+  few-steps = lit< tt;
+  steps-fit =
+      one-step (lit≤ tt) (more₂ (lit< tt) (lit< tt) (more₂ (lit< tt) (lit< tt) none₂))
+      (one-step (lit≤ tt) none₂ (one-step (lit≤ tt) (more₂ (lit< tt) (lit< tt) (more₂ (lit< tt) (lit< tt) none₂)) no-steps));
+}
+
+pub paused-record : timetableRecord paused ≡ 0x00 ∷ 0x00 ∷ 0x0C ∷ 0x02 ∷ 0x00 ∷ 0x10 ∷ 0xC2 ∷ 0x00 ∷ 0x02 ∷ 0x04 ∷ 0x30 ∷ 0x80 ∷ []
+unfolding timetableRecord timetableBits allStepBits stepBits pairBits padded pad toBytes bytes number bits
+paused-record = refl
+
+pub paused-accepted : timetableAnswer order₁ (timetableRecord paused) ≡ accepted (3 ∷ 4 ∷ [])
+paused-accepted =
+    let more : OneMore (timetableRecord steps₁) (timetableRecord paused) =
+    one-more (((0, 1) ∷ (3, 2) ∷ []) ∷ []) (((1, 3) ∷ (2, 0) ∷ []) ∷ []) paused-packable in
+    waiting-step (timetableRecord steps₁) (timetableRecord paused) more order₁ 2 4 .0 (ap (timetableAnswer order₁) record₁ ∙ answer₁)

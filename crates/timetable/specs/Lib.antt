@@ -6,7 +6,9 @@ pub mod Checking
 pub mod StepRecord
 pub mod TimetableRecord
 pub mod Solutions
+pub mod Leading
 pub mod Limits
+pub mod Still
 pub mod Inhabited
 pub mod SizeLaws
 pub mod HandedOut

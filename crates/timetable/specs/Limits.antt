@@ -1,46 +1,50 @@
 -- What no accepted timetable has: each of its steps is legal, so the limits of legal steps (motion's StepLimits) are its own.
 --
---     accepted-legal      each step of an accepted timetable is legal from some arrangement on
---     accepted-size       so it has fewer moves than there are positions, unless the floor has none
+--     accepted-legal      each step of an accepted timetable is legal from some arrangement of the order's racks on
+--     accepted-size       so it has at most as many moves as there are racks, fewer than there are positions, and at most 63
 --     no-turn             no step of it turns a ring: moves from each position of a ring to the next, back to the first
 --     no-swap             in none do two neighbours change places
 --     no-meeting          in none do two racks enter one position
 -- Assumes nothing.
 use Prim.Native.Nat.{ℕ, suc, _-_, _≤_}
-use mathlib.Core.List.{List, [], _∷_, List·Memᴰ, List·Memᴰ·not-nil}
+use mathlib.Core.List.{List, List·Memᴰ, List·Memᴰ·not-nil}
 use mathlib.Core.Logic.{_≢_}
-use mathlib.Core.Path.{_≡_, refl, sym, subst}
+use mathlib.Core.Path.{_≡_, refl, sym, _∙_, subst}
+use native.Mathlib.Omega.{arith}
 use lib.ListN.{length}
 use Rattle.answers.specs.Answer.{accepted}
 use Rattle.order.specs.Floor.{Floor}
-use Rattle.order.specs.Order.{rackCount, floorOf, startsOf, goalsOf}
+use Rattle.order.specs.Order.{rackCount, floorOf}
 use Rattle.motion.specs.Arrangement.{Arrangement}
+use Rattle.motion.specs.MoveLaws.{after-length}
 use Rattle.motion.specs.ListLaws.{by-member}
-use Rattle.motion.specs.Lawful.{LeadsSteps, still, _then_, replaySteps-ended}
+use Rattle.motion.specs.Lawful.{LeadsSteps, still, _then_}
 use Rattle.motion.specs.LegalStep.{LegalStep, legalStep-iff}
 use Rattle.motion.specs.StepLimits as limits
-use Rattle.motion.specs.StepSolutions.{solutions-iff}
 use Rattle.tables.specs.Accepted.{well-placed}
 use Rattle.timetable.specs.Timetable.{stepsOf, timetableAnswer}
-use Rattle.timetable.specs.ReadingLaws.{count-steps}
-use Rattle.timetable.specs.Solutions.{SolutionOf, arrangements, AcceptedTimetable, timetable-solutions}
+use Rattle.timetable.specs.Leading.{accepted-leads}
 
 leads-legal : (F : Floor) {A B : Arrangement} {steps : List (List (ℕ × ℕ))} → LeadsSteps F A steps B
-    → (ms : List (ℕ × ℕ)) → List·Memᴰ ms steps → (C : Arrangement) × LegalStep F C ms
+    → (ms : List (ℕ × ℕ)) → List·Memᴰ ms steps → (C : Arrangement) × LegalStep F C ms × (length C ≡ length A)
 leads-legal F still ms k = absurd (List·Memᴰ·not-nil k)
 leads-legal F (_then_ {A = A} {x = x} l rest) ms k =
-    by-member k (λ e. (A, subst (LegalStep F A) (sym e) (legalStep-iff F A x .0 l))) (λ n. leads-legal F rest ms n)
+    by-member k (λ e. (A, subst (LegalStep F A) (sym e) (legalStep-iff F A x .0 l), refl))
+    (λ n. let there = leads-legal F rest ms n in (there .0, there .1, there .2 ∙ after-length A x))
 
 module _ (o s v : List ℕ) (e : timetableAnswer o s ≡ accepted v) (ms : List (ℕ × ℕ)) (k : List·Memᴰ ms (stepsOf s)) where
-  pub accepted-legal : (A : Arrangement) × LegalStep (floorOf o) A ms
+  pub accepted-legal : (A : Arrangement) × LegalStep (floorOf o) A ms × (length A ≡ rackCount o)
   accepted-legal =
-      let t : AcceptedTimetable o s v = timetable-solutions o .0 s v .0 e in
-      let solved = solutions-iff (floorOf o) (rackCount o) (startsOf o) (goalsOf o) (well-placed o (t .order-right) .task .initial) (stepsOf s) (arrangements o s) in
-      let replayed = solved .1 (subst (λ (n : ℕ). SolutionOf o n (arrangements o s)) (sym (count-steps s)) (t .solution), t .listed) .0 in
-      leads-legal (floorOf o) (replaySteps-ended (floorOf o) (startsOf o) (stepsOf s) (goalsOf o) .0 replayed) ms k
+      let t = accepted-leads o s v .0 e in
+      let there = leads-legal (floorOf o) (t .leads) ms k in
+      (there .0, there .1, there .2 ∙ well-placed o (t .order-right) .starts-length)
 
-  pub accepted-size : length ms ≤ floorOf o .positions - 1
-  accepted-size = limits.step-size ms (accepted-legal .1) .1
+  pub accepted-size : (length ms ≤ rackCount o) × (length ms ≤ floorOf o .positions - 1) × (length ms ≤ 63)
+  accepted-size =
+      let there = accepted-legal in
+      let size = limits.step-size ms (there .1) in
+      let few = well-placed o (accepted-leads o s v .0 e .order-right) .few-positions in
+      (omega (arith, size .0, there .2), size .1, omega (arith, size .1, few))
 
   pub no-turn : (p : ℕ → ℕ) (n : ℕ) → p (suc n) ≡ p 0 → ((i : ℕ) → i ≤ n → List·Memᴰ (p i, p (suc i)) ms) → ⊥
   no-turn = limits.no-turn (accepted-legal .1)

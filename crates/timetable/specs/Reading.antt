@@ -8,7 +8,9 @@
 --     moveCount l            the moves of the steps l, in all
 --     numberAnswer s i       what the reading refused, else 45
 --     givenBy a p            the part p where the answer a is accepted, else the empty part
+--     beginsAt a             where the part of an accepted answer a begins, in bytes from the timetable's first; else 0
 --     partGiven s i          the part that the step reader gives back: the step, or the empty part where the step is refused
+--     placeGiven p s i       and where it stands in memory, where s stands at p: a place is a block and an offset in it, in bytes
 --     answerOfReading r      the verdict r on a timetable's structure as an answer
 --     answerOfStep r         the step reader's verdict r as an answer
 -- Assumes nothing.
@@ -56,9 +58,19 @@ abbrev pub givenBy : Answer → List ℕ → List ℕ
 givenBy (accepted counts) p = p
 givenBy (refused number place) p = []
 
+-- an answer that begins with no value has no part
+abbrev pub beginsAt : Answer → ℕ
+beginsAt (accepted []) = 0
+beginsAt (accepted (at ∷ counts)) = at
+beginsAt (refused number place) = 0
+
 -- "Reading one step gives back that part of the lent timetable itself, its count byte first and its pad last."
 unfoldable pub partGiven : List ℕ → ℕ → List ℕ
 partGiven s i = givenBy (stepAnswer s i) (stepPart s i)
+
+-- "that part of the lent timetable itself": not other bytes that are equal
+unfoldable pub placeGiven : ℕ × ℕ → List ℕ → ℕ → ℕ × ℕ
+placeGiven p s i = (p .0, beginsAt (stepAnswer s i) + p .1)
 
 abbrev pub answerOfReading : TimetableReading → Answer
 answerOfReading (Accepted steps moves) = accepted (steps ∷ moves ∷ [])

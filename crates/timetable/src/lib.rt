@@ -15,7 +15,7 @@ ghost use Rattle.tables.specs.Ending.{Ends};
 ghost use Rattle.trains.specs.StepOn.{legalStepOn, ranOn};
 ghost use Rattle.trains.specs.StepsOn.{replayStepsOn};
 ghost use Rattle.timetable.specs.Timetable.{stepLength, stepPadSet, wrongTimetableLength, stepCount, stepMoves, stepsOf, timetableAnswer, offset, stepAnswer};
-ghost use Rattle.timetable.specs.Reading.{StepSize, stepsAnswer, readingAnswer, numberAnswer, partGiven, answerOfReading, answerOfStep};
+ghost use Rattle.timetable.specs.Reading.{StepSize, stepsAnswer, readingAnswer, numberAnswer, partGiven, placeGiven, answerOfReading, answerOfStep};
 ghost use Rattle.timetable.specs.Checking.{tableAnswer, answerOfCheck};
 
 // The verdict on a timetable's structure, with the counts of an accepted one.
@@ -157,9 +157,10 @@ pub fn find_step(timetable: &[u8], number: usize) -> StepVerdict
 }
 
 // Step `number` as that part of the lent timetable itself, its count byte first and its pad last; the empty part where it is refused,
-// which no step is.
+// which no step is. Two steps may have equal bytes, so the place is promised beside them.
 pub fn step<'a>(timetable: &'a [u8], number: usize) -> &'a [u8]
-    ensures { λ r. ⌜ now r ≡ partGiven (now (timetable .entry)) number ⌝ }
+    ensures bytes { λ r. ⌜ now r ≡ partGiven (now (timetable .entry)) number ⌝ }
+    ensures place { λ r. ⌜ r .ptr ≡ placeGiven (timetable .entry .ptr) (now (timetable .entry)) number ⌝ }
 {
     let found = find_step(timetable, number);
     let StepVerdict::Found { offset, len } = found else {

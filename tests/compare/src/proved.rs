@@ -1,4 +1,4 @@
-//! The functions of include/wichteab.h, and the one of crates/inspection. A byte string passes as a pointer and then its length; every
+//! The functions of include/wichteab.h, and those of crates/inspection. A byte string passes as a pointer and then its length; every
 //! function returns one 64-bit number.
 
 mod symbols {
@@ -43,6 +43,13 @@ mod symbols {
             order_length: usize,
             buffer: *mut u8,
             buffer_length: usize,
+        ) -> u64;
+        #[cfg(feature = "inspection")]
+        pub fn wichteab_inspect_step(
+            timetable: *const u8,
+            timetable_length: usize,
+            number: u64,
+            index: u64,
         ) -> u64;
         #[cfg(feature = "timetable_step")]
         pub fn wichteab_timetable_step(timetable: *const u8, timetable_length: usize, number: u64) -> u64;
@@ -103,4 +110,9 @@ pub fn inspect_breakdown(order: &[u8], buffer: &mut [u8]) -> u64 {
     unsafe {
         symbols::wichteab_inspect_breakdown(order.as_ptr(), order.len(), buffer.as_mut_ptr(), buffer.len())
     }
+}
+
+#[cfg(feature = "inspection")]
+pub fn inspect_step(timetable: &[u8], number: u64, index: u64) -> u64 {
+    unsafe { symbols::wichteab_inspect_step(timetable.as_ptr(), timetable.len(), number, index) }
 }

@@ -1,5 +1,6 @@
 //! The proved breakdown against the rules of document 01, judged by the second implementation: it is there
-//! exactly where the floor is bi-connected and no ring.
+//! exactly where the floor is bi-connected and no ring. And the part that the step reader gives back, against
+//! the second one's.
 
 use compare::breakdowns::{longest_handle, proved_breakdown, ROWS};
 use compare::floors::{self, SHAPES};
@@ -7,6 +8,7 @@ use compare::orders;
 use compare::proved;
 use compare::random::Random;
 use compare::tally::Hex;
+use compare::timetables;
 use second::breakdown::{broken_rule, Breakdown};
 
 /// Floors with a breakdown, and without one.
@@ -109,4 +111,40 @@ fn nothing_is_written_for_a_refused_order_or_into_a_short_buffer() {
         assert!(buffer.iter().all(|&byte| byte == 0xA5));
     }
     assert_ne!(proved::inspect_breakdown(&grid, &mut [0; ROWS]), 0);
+}
+
+/// The part of the timetable that the step reader gives back, read byte by byte to its end.
+fn proved_part(timetable: &[u8], number: u64) -> Vec<u8> {
+    (0..).map_while(|index| u8::try_from(proved::inspect_step(timetable, number, index)).ok()).collect()
+}
+
+/// The second step reader's; empty where the step is refused.
+fn second_part(timetable: &[u8], number: u64) -> &[u8] {
+    second::timetable::step(timetable, number)
+        .map_or(&[], |part| &timetable[part.offset..part.offset + part.length])
+}
+
+#[test]
+fn the_part_that_the_step_reader_gives_back() {
+    let mut random = Random::new(0x5EED_8005);
+    let (mut given, mut refused) = (0, 0);
+    for _ in 0..1_000 {
+        let mut record = timetables::random_packed(&mut random).record();
+        if random.one_in(4) {
+            let at = random.below(record.len());
+            record[at] ^= 1 << random.below(8);
+        }
+        let steps = u64::from(record[2] >> 2);
+        for number in (0..=steps + 1).chain([u64::MAX]) {
+            let wanted = second_part(&record, number);
+            assert_eq!(proved_part(&record, number), wanted, "step {number} of {}", Hex(&record));
+            assert_eq!(proved::inspect_step(&record, number, u64::MAX), 256);
+            match wanted.is_empty() {
+                true => refused += 1,
+                false => given += 1,
+            }
+        }
+    }
+    println!("step reader's parts: {given} given back, {refused} refused");
+    assert!(given >= 1_000 && refused >= 1_000, "too few parts");
 }

@@ -83,11 +83,26 @@ fn refusals() {
     tally.finish(100_000, &NUMBERS);
 }
 
+/// Plans the order in buffers of different lengths that held zeros, ones, anything, and the plan itself with
+/// every bit changed: the answer and the record have to be the same.
+fn judge_every_buffer(tally: &mut Tally, random: &mut Random, order: &[u8], length: usize) {
+    let mut first = vec![0; length];
+    let moves = judge(tally, order, &mut first);
+    let plan = &first[..second::plan::length(moves)];
+    let changed = first.iter().map(|byte| !byte).collect();
+    let more = random.below(1_000);
+    for mut buffer in [changed, vec![0xFF; length + 1], random.bytes(length + 2), random.bytes(length + more)]
+    {
+        let k = judge(tally, order, &mut buffer);
+        assert!(k == moves && &buffer[..plan.len()] == plan, "another plan, on {}", Hex(order));
+    }
+}
+
 #[test]
 fn the_same_plan_whatever_the_buffer_held() {
     let mut random = Random::new(0x5EED_7003);
     let mut tally = Tally::new("plan_make, buffers");
-    for _ in 0..500 {
+    for _ in 0..2_000 {
         let n = random_size(&mut random);
         let floor = floors::bi_connected(&mut random, n);
         if floor.edges.len() == n {
@@ -95,15 +110,9 @@ fn the_same_plan_whatever_the_buffer_held() {
         }
         let m = random_rack_count(&mut random, n);
         let order = orders::order_on(&mut random, &floor, m).record();
-        let length = enough(n);
-        let mut buffers = [vec![0; length], vec![0xFF; length + 1], random.bytes(length + 100)];
-        let moves: Vec<usize> = buffers.iter_mut().map(|buffer| judge(&mut tally, &order, buffer)).collect();
-        let plan = &buffers[0][..second::plan::length(moves[0])];
-        for (buffer, &k) in buffers.iter().zip(&moves) {
-            assert!(k == moves[0] && &buffer[..plan.len()] == plan, "another plan, on {}", Hex(&order));
-        }
+        judge_every_buffer(&mut tally, &mut random, &order, enough(n));
     }
-    tally.close(1_000);
+    tally.close(5_000);
 }
 
 #[test]

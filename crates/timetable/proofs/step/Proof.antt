@@ -3,7 +3,7 @@ use native.Mathlib.Omega.{arith}
 use mathlib.Core.Path.{sym, ap, _∙_}
 use Rattle.timetable.specs.Reading.{answerOfStep}
 use Rattle.timetable.proofs.StepReader.{part-given}
-use Rattle.timetable.specs.HandedOut.{given-none, end-within}
+use Rattle.timetable.specs.HandedOut.{given-none, none-place, given-place, end-within}
 use borrow.Author.Needs.{needs}
 use Rattle.timetable.proofs.step.Statement.{statement}
 use Rattle.timetable.proofs.step.Tie as tie
@@ -28,7 +28,12 @@ part-result-end c = search needs
 
 returns : tie.Need-returns
 returns c =
-    sym (given-none (c .before .before .before .before .before .args .timetable .now) (c .before .before .before .before .before .args .number) _ _ (sym (c .before .before .before .find-step .ensures) ∙ ap answerOfStep (c .before .enum-told .given .1)))
+    let timetable = c .before .before .before .before .before .args .timetable in
+    let number = c .before .before .before .before .before .args .number in
+    let refused-there = sym (c .before .before .before .find-step .ensures) ∙ ap answerOfStep (c .before .enum-told .given .1) in
+    let bytes = given-none (timetable .now) number _ _ refused-there in
+    let place = none-place (timetable .now) number _ _ refused-there (timetable .ptr) in
+    (sym bytes, sym place)
 
 add-end : tie.Need-add-end
 add-end c =
@@ -46,7 +51,12 @@ part-result-end-2 c =
 
 returns-2 : tie.Need-returns-2
 returns-2 c =
-    part-given (c .before .before .before .before .before .before .args .timetable .now) (c .before .before .before .before .before .before .args .number) (c .before .before .found .given .0 .0) (c .before .before .found .given .0 .1 .0) (sym (c .before .before .before .before .find-step .ensures) ∙ ap answerOfStep (c .before .before .found .given .1))
+    let timetable = c .before .before .before .before .before .before .args .timetable in
+    let number = c .before .before .before .before .before .before .args .number in
+    let at = c .before .before .found .given .0 .0 in
+    let n = c .before .before .found .given .0 .1 .0 in
+    let found-there = sym (c .before .before .before .before .find-step .ensures) ∙ ap answerOfStep (c .before .before .found .given .1) in
+    (part-given (timetable .now) number at n found-there, sym (given-place (timetable .now) number at n found-there (timetable .ptr)))
 
 pub step-spec : {M : Type 1} → statement M
 step-spec =
