@@ -5,6 +5,8 @@ mod symbols {
     extern "C" {
         #[cfg(feature = "order_check")]
         pub fn wichteab_order_check(order: *const u8, order_length: usize) -> u64;
+        #[cfg(feature = "order_length")]
+        pub fn wichteab_order_length(bytes: *const u8, length: usize) -> u64;
         #[cfg(feature = "floor_check")]
         pub fn wichteab_floor_check(order: *const u8, order_length: usize) -> u64;
         #[cfg(feature = "plan_check")]
@@ -37,6 +39,8 @@ mod symbols {
             buffer: *mut u8,
             buffer_length: usize,
         ) -> u64;
+        #[cfg(feature = "timetable_length")]
+        pub fn wichteab_timetable_length(bytes: *const u8, length: usize) -> u64;
         #[cfg(feature = "inspection")]
         pub fn wichteab_inspect_breakdown(
             order: *const u8,
@@ -55,6 +59,11 @@ mod symbols {
 #[cfg(feature = "order_check")]
 pub fn order_check(order: &[u8]) -> u64 {
     unsafe { symbols::wichteab_order_check(order.as_ptr(), order.len()) }
+}
+
+#[cfg(feature = "order_length")]
+pub fn order_length(bytes: &[u8]) -> u64 {
+    unsafe { symbols::wichteab_order_length(bytes.as_ptr(), bytes.len()) }
 }
 
 #[cfg(feature = "floor_check")]
@@ -91,6 +100,11 @@ pub fn timetable_make(order: &[u8], plan: &[u8], buffer: &mut [u8]) -> u64 {
             buffer.len(),
         )
     }
+}
+
+#[cfg(feature = "timetable_length")]
+pub fn timetable_length(bytes: &[u8]) -> u64 {
+    unsafe { symbols::wichteab_timetable_length(bytes.as_ptr(), bytes.len()) }
 }
 
 #[cfg(feature = "timetable_step")]
