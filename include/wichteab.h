@@ -83,7 +83,7 @@ extern "C" {
  * below, the lowest that applies. The bits above are, for a refusal, its place, and where the input is
  * accepted what the function's own description says.
  *
- * Later versions may add numbers. Take every number but 0 for a refusal, those too that are not below.
+ * Numbers may be added in later versions. A caller should treat a number that it does not know as a refusal.
  */
 enum {
     WICHTEAB_ACCEPTED = 0,
