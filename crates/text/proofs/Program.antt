@@ -1,11 +1,11 @@
 -- The timetable program: what the maker answers and leaves in the lent buffer is what is printed.
 --
 --     order-is, plan-is     the parts of the input, as the code cuts them
---     refused-text, refusal-fits, refusal-told    a refusal's line
+--     refused-text, refusal-told    a refusal's line
 --     record-is             the timetable at the front of the buffer, and where it ends
 --     made-packed, made-fits, made-text    it can be printed, and its text is the program's
 -- Assumes nothing.
-use Prim.Native.Nat.{ℕ, _-_, _^_, _≤_, _<_}
+use Prim.Native.Nat.{ℕ, _-_, _≤_}
 use mathlib.Core.Path.{_≡_, refl, sym, ap, ap₂, _∙_, subst}
 use mathlib.Core.List.{List, _++_}
 use native.Mathlib.Omega.{arith}
@@ -21,7 +21,7 @@ use Rattle.scheduling.specs.Maker.{madeOf, makerAnswer, bufferAfter}
 use Rattle.scheduling.specs.MakerLaws.{MakerGave, maker-gave, maker-record, made-packable, Timetabled}
 use Rattle.text.specs.Front.{recordEnd, recordEnd-is}
 use Rattle.text.specs.Program.{answerText, programText}
-use Rattle.text.specs.Sizes.{timetableText-short, refusalLine-short}
+use Rattle.text.specs.Sizes.{timetableText-short}
 use Rattle.text.specs.Split.{orderEnd, orderPart, planPart}
 use Rattle.text.specs.Text.{refusalLine, timetableText}
 
@@ -90,10 +90,6 @@ module _ (s o p B : List ℕ) (eo : o ≡ orderPart s) (ep : p ≡ planPart s) (
       made-fits out h =
           let small : length (take n b) ≤ 65536 = rw record-is short in
           record { room = omega (arith, h, small, timetableText-short (take n b) (made-packed .length-right) (omega (arith, small))) }
-
--- a line of any number has room
-pub refusal-fits : (n q : ℕ) → n < 2 ^ 64 → q < 2 ^ 32 → (out : List ℕ) → length out ≡ 524288 → Fits out 0 (refusalLine n q)
-refusal-fits n q h k out e = record { room = omega (arith, e, refusalLine-short 19 n q (omega (arith, h)) k) }
 
 -- the line, of its number by another name
 pub refusal-told : (q : ℕ) {s t : List ℕ} {r n m : ℕ} → n ≡ m → Wrote s 0 (refusalLine n q) t r → Wrote s 0 (refusalLine m q) t r

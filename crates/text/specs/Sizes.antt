@@ -4,6 +4,7 @@
 --     stepLine-short      the line of a step of c moves takes at most 6 bytes, and 6 for each move
 --     timetableText-short a timetable of fewer than 100,000 bytes takes at most 8 bytes of text for each of its bytes
 --     refusalLine-short   the line of a refusal takes at most 32 bytes, and one more for each digit of its number above two
+--     refusal-fits        50 bytes have room for the line of any number
 -- Assumes nothing.
 use Prim.Native.Nat.{ℕ, zero, suc, _+_, _*_, _^_, _≤_, _<_}
 use mathlib.Core.Path.{_≡_, _∙_}
@@ -17,6 +18,7 @@ use lib.Dec.{ltb}
 use Rattle.answers.specs.Family.{familyWord, within, order, floor, plan, timetable, other}
 use Rattle.field.specs.RecordLaws.{BelowPairs, none₂, more₂, pairs-lt}
 use Rattle.field.specs.UnitLaws.{or-left, or-right}
+use Rattle.field.specs.Writing.{Fits}
 use Rattle.timetable.specs.Timetable.{stepLength, stepCount, wrongSteps, stepParts, partsOf, stepMoves, stepsOf, total, wrongTimetableLength}
 use Rattle.timetable.specs.Reading.{moveCount}
 use Rattle.timetable.specs.StepLaws.{stepLength-some, stepLength-moves, length-moves}
@@ -111,3 +113,6 @@ pub refusalLine-short : (k n p : ℕ) → n < 10 ^ suc k → p < 2 ^ 32 → leng
 unfolding refusalLine refusedText space newline
 refusalLine-short k n p h l =
     simp (length-append) (omega (arith, length-decimal k n h, length-decimal 9 p (omega arith), familyWord-short n))
+
+pub refusal-fits : (n p : ℕ) → n < 2 ^ 64 → p < 2 ^ 32 → (s : List ℕ) → 50 ≤ length s → Fits s 0 (refusalLine n p)
+refusal-fits n p h l s room = record { room = omega (arith, room, refusalLine-short 19 n p (omega (arith, h)) l) }

@@ -16,6 +16,7 @@
 //! | `cases`      | an order and a record for it, sound or damaged                     |
 //! | `plans`      | plans, and damage                                                  |
 //! | `timetables` | timetables, and damage                                             |
+//! | `programs`   | the programs, run on an input                                      |
 
 #[macro_use]
 mod kinds;
@@ -27,6 +28,7 @@ pub mod floors;
 pub mod orders;
 pub mod packed;
 pub mod plans;
+pub mod programs;
 pub mod proved;
 pub mod racks;
 pub mod random;

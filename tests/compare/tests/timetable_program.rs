@@ -1,36 +1,15 @@
 //! The timetable program, as a user runs it: standard input in, standard output out. What it has to print
 //! is written here from document 01, or comes from the second implementation.
-//!
-//! The program is target/bin/timetable_main at the top of the repository, which `rt check` writes.
-
-use std::io::{Read, Write};
-use std::path::PathBuf;
-use std::process::{Command, Stdio};
-use std::thread;
 
 use compare::plans;
+use compare::programs;
 use compare::random::Random;
 use compare::write::{Move, Order, Plan};
 use second::program::timetable_program;
 
-/// What the program prints for this input. It may stop reading before the input ends.
+/// What the program prints for this input.
 fn printed(input: &[u8]) -> String {
-    let program = PathBuf::from(env!("CARGO_MANIFEST_DIR")).join("../../target/bin/timetable_main");
-    let mut running = Command::new(&program)
-        .stdin(Stdio::piped())
-        .stdout(Stdio::piped())
-        .spawn()
-        .unwrap_or_else(|error| panic!("{}: {error}: run `rt check` first", program.display()));
-    let mut stdin = running.stdin.take().expect("piped");
-    let bytes = input.to_vec();
-    let writer = thread::spawn(move || {
-        let _ = stdin.write_all(&bytes);
-    });
-    let mut text = String::new();
-    running.stdout.take().expect("piped").read_to_string(&mut text).expect("ASCII");
-    writer.join().expect("it does not panic");
-    assert!(running.wait().expect("it ends").success());
-    text
+    String::from_utf8(programs::written("timetable_main", input)).expect("ASCII")
 }
 
 fn hex(text: &str) -> Vec<u8> {

@@ -15,7 +15,7 @@
 //! | `floor`     | The floor                         | 20 to 22           |
 //! | `breakdown` | Breakdown and planning            |                    |
 //! | `planning`  | Breakdown and planning, demand 3  | 23                 |
-//! | `program`   | Programs, the timetable program   |                    |
+//! | `program`   | Programs                          |                    |
 #![forbid(unsafe_code)]
 
 pub mod answer;

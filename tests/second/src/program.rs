@@ -1,14 +1,16 @@
-//! "Programs", the timetable program: what it prints for an input.
+//! "Programs": what the two programs print for an input.
 
 use crate::answer::Refusal;
 use crate::making;
 use crate::order;
+use crate::plan;
+use crate::planning;
 use crate::record::{pair, positions};
 use crate::timetable::step_length;
 
 /// "Each program reads at most 65,536 bytes and judges those."
 const READ: usize = 65_536;
-/// "The timetable program … lends 65,536 bytes".
+/// "The plan program … lends 65,536 bytes (so n up to 17)"; "The timetable program … lends 65,536 bytes".
 const LENT: usize = 65_536;
 
 /// The family word: "10 to 19 order, 20 to 29 floor, 30 to 39 plan, 40 to 49 timetable".
@@ -57,5 +59,24 @@ pub fn timetable_program(input: &[u8]) -> String {
     match making::make(order, plan, &mut buffer) {
         Err(refused) => refusal(refused),
         Ok(s) => lines(s, &buffer),
+    }
+}
+
+/// What is wrong with what the plan program wrote, in words. It "reads an order from standard input … and
+/// writes the plan record", of which the moves are free. "On a refusal a program prints one line and no
+/// other".
+pub fn plan_program_fault(input: &[u8], written: &[u8]) -> Option<String> {
+    let order = &input[..input.len().min(READ)];
+    if let Err(refused) = planning::judge_call(order, LENT) {
+        let line = refusal(refused);
+        return (written != line.as_bytes()).then(|| format!("not the line {line:?}"));
+    }
+    match plan::check(order, written) {
+        Err(refused) => Some(format!("the plan checker answers {refused:?}")),
+        Ok(k) => {
+            let before = vec![0; LENT];
+            let after = [written, &before[written.len()..]].concat();
+            planning::fault(order, &before, &after, Ok(k))
+        }
     }
 }

@@ -1,6 +1,7 @@
 -- `text::print_refusal` meets its contract: the line has room. Assumes nothing.
 use native.Mathlib.Omega.{arith}
-use Rattle.text.proofs.Program.{refusal-fits, refusal-told}
+use Rattle.text.specs.Sizes.{refusal-fits}
+use Rattle.text.proofs.Program.{refusal-told}
 use borrow.Author.Needs.{needs}
 use Rattle.text.proofs.print_refusal.Statement.{statement}
 use Rattle.text.proofs.print_refusal.Tie as tie

@@ -1,0 +1,69 @@
+-- `plan_program::plan_program` meets its contract: what the planner answers and leaves is what is printed. Assumes nothing.
+use Prim.Native.Nat.{ℕ}
+use mathlib.Core.Path.{_≡_, ap, subst}
+use mathlib.Core.List.{List}
+use native.Mathlib.Omega.{arith}
+use Rattle.field.specs.Writing.{wrote-as}
+use Rattle.text.specs.Sizes.{refusal-fits}
+use Rattle.text.specs.Text.{refusalLine}
+use Rattle.planner.specs.declared.PlannerVerdict.{PlannerVerdict}
+use Rattle.planner.specs.Planner.{PlanMade, answerOf}
+use Rattle.planner.specs.PlannerLaws.{moves-few}
+use Rattle.plan_program.specs.PrintedLaws.{made-printed, refused-printed}
+use borrow.Author.Needs.{needs}
+use Rattle.plan_program.proofs.plan_program.Statement.{statement}
+use Rattle.plan_program.proofs.plan_program.Tie as tie
+
+made-as : {o B B′ : List ℕ} {v w : PlannerVerdict} → v ≡ w → PlanMade o B (answerOf v) B′ → PlanMade o B (answerOf w) B′
+made-as {o} {B} {B′} e h = subst (λ (v : PlannerVerdict). PlanMade o B (answerOf v) B′) e h
+
+make-requires : tie.Need-make-requires
+make-requires c κs = search needs
+
+enum-known-moves : tie.Need-enum-known-moves
+enum-known-moves c = search needs
+
+mul-result : tie.Need-mul-result
+mul-result c = let few = moves-few (made-as (c .before .moves .given .1) (c .before .before .before .make .ensures)) in
+    omega arith
+
+add-result : tie.Need-add-result
+add-result c = let few = moves-few (made-as (c .before .moves .given .1) (c .before .before .before .make .ensures)) in
+    omega arith
+
+add-result-2 : tie.Need-add-result-2
+add-result-2 c = let few = moves-few (made-as (c .before .moves .given .1) (c .before .before .before .make .ensures)) in
+    omega arith
+
+enum-known-fault : tie.Need-enum-known-fault
+enum-known-fault c = search needs
+
+number-requires : tie.Need-number-requires
+number-requires c κs = search needs
+
+put-refusal-requires : tie.Need-put-refusal-requires
+put-refusal-requires c κs = refusal-fits _ _ (omega arith) (omega arith) _ (omega arith)
+
+returns : tie.Need-returns
+returns c = made-printed (omega arith) (made-as (c .before .moves .given .1) (c .before .before .before .make .ensures)) (omega arith)
+
+returns-2 : tie.Need-returns-2
+returns-2 c =
+    let fault = c .before .before .before .before .fault .given in
+    refused-printed (omega arith) (made-as (fault .1) (c .before .before .before .before .before .before .make .ensures))
+    (wrote-as (ap (λ (k : ℕ). refusalLine k (fault .0 .1 .0)) (c .before .before .number .ensures)) (c .put-refusal .ensures))
+
+pub plan-program-spec : {M : Type 1} → statement M
+plan-program-spec =
+    tie.close
+    (tie.spec
+    make-requires
+    enum-known-moves
+    mul-result
+    add-result
+    add-result-2
+    enum-known-fault
+    number-requires
+    put-refusal-requires
+    returns
+    returns-2)
