@@ -5,8 +5,6 @@ mod symbols {
     extern "C" {
         #[cfg(feature = "order_check")]
         pub fn wichteab_order_check(order: *const u8, order_length: usize) -> u64;
-        #[cfg(feature = "order_length")]
-        pub fn wichteab_order_length(bytes: *const u8, length: usize) -> u64;
         #[cfg(feature = "floor_check")]
         pub fn wichteab_floor_check(order: *const u8, order_length: usize) -> u64;
         #[cfg(feature = "plan_check")]
@@ -39,6 +37,8 @@ mod symbols {
             buffer: *mut u8,
             buffer_length: usize,
         ) -> u64;
+        #[cfg(feature = "order_length")]
+        pub fn wichteab_order_length(bytes: *const u8, length: usize) -> u64;
         #[cfg(feature = "timetable_length")]
         pub fn wichteab_timetable_length(bytes: *const u8, length: usize) -> u64;
         #[cfg(feature = "inspection")]
@@ -59,11 +59,6 @@ mod symbols {
 #[cfg(feature = "order_check")]
 pub fn order_check(order: &[u8]) -> u64 {
     unsafe { symbols::wichteab_order_check(order.as_ptr(), order.len()) }
-}
-
-#[cfg(feature = "order_length")]
-pub fn order_length(bytes: &[u8]) -> u64 {
-    unsafe { symbols::wichteab_order_length(bytes.as_ptr(), bytes.len()) }
 }
 
 #[cfg(feature = "floor_check")]
@@ -102,14 +97,19 @@ pub fn timetable_make(order: &[u8], plan: &[u8], buffer: &mut [u8]) -> u64 {
     }
 }
 
-#[cfg(feature = "timetable_length")]
-pub fn timetable_length(bytes: &[u8]) -> u64 {
-    unsafe { symbols::wichteab_timetable_length(bytes.as_ptr(), bytes.len()) }
-}
-
 #[cfg(feature = "timetable_step")]
 pub fn timetable_step(timetable: &[u8], number: u64) -> u64 {
     unsafe { symbols::wichteab_timetable_step(timetable.as_ptr(), timetable.len(), number) }
+}
+
+#[cfg(feature = "order_length")]
+pub fn order_length(bytes: &[u8]) -> u64 {
+    unsafe { symbols::wichteab_order_length(bytes.as_ptr(), bytes.len()) }
+}
+
+#[cfg(feature = "timetable_length")]
+pub fn timetable_length(bytes: &[u8]) -> u64 {
+    unsafe { symbols::wichteab_timetable_length(bytes.as_ptr(), bytes.len()) }
 }
 
 #[cfg(feature = "inspection")]

@@ -119,7 +119,7 @@ fn what_the_delivery_example_prints() {
     let k = second::plan::check(&order, &plan).expect("accepted");
     let mut timetable = vec![0; 3 * k as usize + 3];
     let s = second::making::make(&order, &plan, &mut timetable).expect("made");
-    let end = (0..s).fold(3, |at, _| at + second::timetable::step_length(timetable[at]));
+    let end = second::timetable::length(&timetable).expect("whole");
     let counts = second::timetable::check(&order, &timetable[..end]).expect("accepted");
     let expected = format!(
         "plan: moves {k} bytes {}\ntimetable: steps {s} bytes {end}\nchecked: steps {} moves {}\n",

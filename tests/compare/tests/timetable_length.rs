@@ -1,76 +1,75 @@
-//! Where a timetable ends: the proved function against a walk over its count bytes, with the second
-//! implementation's length of a step.
+//! Where a timetable ends that other bytes follow: the proved function against the second implementation.
 
 use compare::proved;
 use compare::random::Random;
 use compare::tally::Hex;
-use compare::timetables;
-use second::record::head;
-use second::timetable::step_length;
+use compare::timetables::{self, Damage};
 
-/// Where the timetable ends that the bytes begin with, or 0 where the bytes end before it.
-fn second(bytes: &[u8]) -> u64 {
-    let Some(head) = head(bytes) else { return 0 };
-    let mut end = 3;
-    for _ in 0..head >> 2 {
-        let Some(&c) = bytes.get(end) else { return 0 };
-        end += step_length(c);
-    }
-    if end <= bytes.len() {
-        end as u64
-    } else {
-        0
-    }
-}
-
-/// Compares the two, and gives the length.
+/// The length, after both said the same; 0 where the bytes end before the timetable does.
+#[track_caller]
 fn compare(bytes: &[u8]) -> usize {
-    let expected = second(bytes);
-    assert_eq!(proved::timetable_length(bytes), expected, "{}", Hex(bytes));
-    expected as usize
+    let second = second::timetable::length(bytes).unwrap_or(0);
+    assert_eq!(proved::timetable_length(bytes), second as u64, "{}", Hex(bytes));
+    second
 }
 
 #[test]
-fn timetables_alone_followed_and_cut() {
+fn sound_timetables_with_bytes_behind_them() {
     let mut random = Random::new(0x5EED_A001);
-    for _ in 0..20_000 {
-        let mut bytes = timetables::random_packed(&mut random).record();
+    for _ in 0..50_000 {
+        let mut bytes = match random.one_in(2) {
+            true => timetables::random_packed(&mut random).record(),
+            false => timetables::random_sound(&mut random).timetable.record(),
+        };
         let end = bytes.len();
         assert_eq!(compare(&bytes), end);
-        assert_eq!(compare(&bytes[..random.below(end)]), 0);
-        let behind = random.below(40);
+        let behind = random.between(1, 40);
         bytes.extend(random.bytes(behind));
-        assert_eq!(compare(&bytes), end, "what follows it changes nothing");
+        assert_eq!(compare(&bytes), end);
+        bytes.truncate(random.below(end));
+        assert_eq!(compare(&bytes), 0);
     }
 }
 
 #[test]
-fn every_cut() {
+fn damaged_timetables() {
     let mut random = Random::new(0x5EED_A002);
-    for _ in 0..300 {
-        let bytes = timetables::random_packed(&mut random).record();
-        for cut in 0..bytes.len().min(2_000) {
-            assert_eq!(compare(&bytes[..cut]), 0);
+    let kinds = [Damage::StepCountChanged, Damage::CountByteChanged, Damage::BitFlipped, Damage::Noise];
+    let (mut whole, mut none) = (0, 0);
+    for _ in 0..200_000 {
+        let timetable = timetables::random_packed(&mut random);
+        let damage = random.pick(&kinds);
+        let Some((bytes, _)) = timetables::damage_bytes(&mut random, &timetable, damage) else { continue };
+        match compare(&bytes) {
+            0 => none += 1,
+            _ => whole += 1,
+        }
+    }
+    println!("timetable_length: {whole} whole timetables, {none} cut short");
+    assert!(whole >= 10_000 && none >= 10_000);
+}
+
+#[test]
+fn every_cut_of_every_count_byte() {
+    let mut random = Random::new(0x5EED_A003);
+    for c in 0..=255u8 {
+        // two steps, the first of c moves, the second of none, and a byte behind them
+        let mut bytes = vec![0x00, 0x00, 0x08, c];
+        bytes.extend(random.bytes((3 * usize::from(c)).div_ceil(2)));
+        bytes.extend([0x00, 0xFF]);
+        let end = bytes.len() - 1;
+        for length in 0..=bytes.len() {
+            assert_eq!(compare(&bytes[..length]), if length < end { 0 } else { end });
         }
     }
 }
 
 #[test]
-fn any_bytes() {
-    let mut random = Random::new(0x5EED_A003);
-    let (mut ended, mut cut) = (0, 0);
-    for _ in 0..300_000 {
-        let length = random.below(600);
-        let mut bytes = random.bytes(length);
-        if length >= 3 && !random.one_in(8) {
-            // few steps, so that some of the strings hold them all
-            bytes[..3].copy_from_slice(&[0, 0, (random.below(6) << 2 | random.below(4)) as u8]);
-        }
-        match compare(&bytes) {
-            0 => cut += 1,
-            _ => ended += 1,
-        }
-    }
-    println!("timetable_length, any bytes: {ended} hold a timetable, {cut} end before it");
-    assert!(ended >= 10_000 && cut >= 10_000);
+fn the_most_steps() {
+    let steps = (1 << 22) - 1;
+    let mut bytes = vec![0; 3 + steps + 1];
+    bytes[..3].copy_from_slice(&[0xFF, 0xFF, 0xFC]);
+    assert_eq!(compare(&bytes), 3 + steps);
+    assert_eq!(compare(&bytes[..3 + steps]), 3 + steps);
+    assert_eq!(compare(&bytes[..2 + steps]), 0);
 }
