@@ -4,9 +4,13 @@
  *
  *     cc -I include examples/controller.c target/staticlib/libcontroller.a -o controller
  *     ./controller examples/casebook.order examples/casebook.timetable
+ *
+ * Exit status: 0 all steps taken, 1 refused and no step taken, 2 not run at all.
  */
+#include <errno.h>
 #include <stdio.h>
 #include <stdlib.h>
+#include <string.h>
 
 #include "wichteab.h"
 
@@ -16,7 +20,7 @@ struct record {
     size_t length;
 };
 
-/* The whole file; no bytes if it cannot be read. The caller frees it. */
+/* The whole file, which the caller frees. */
 static struct record read_file(const char *name)
 {
     struct record record = {NULL, 0};
@@ -26,39 +30,42 @@ static struct record read_file(const char *name)
         if (record.length == room) {
             uint8_t *larger = (uint8_t *)realloc(record.bytes, room = 2 * room + 1024);
             if (larger == NULL) {
-                abort();
+                fprintf(stderr, "controller: no memory for %s\n", name);
+                exit(2);
             }
             record.bytes = larger;
         }
         got = fread(record.bytes + record.length, 1, room - record.length, file);
         record.length += got;
     }
-    if (file != NULL) {
-        fclose(file);
+    if (file == NULL || ferror(file)) {
+        fprintf(stderr, "controller: cannot read %s: %s\n", name, strerror(errno));
+        exit(2);
     }
+    fclose(file);
     return record;
 }
 
+/* Says what is wrong, if something is. */
 static int refused(uint64_t answer)
 {
     uint32_t number = wichteab_number(answer);
     if (number == WICHTEAB_ACCEPTED) {
         return 0;
     }
-    printf("refused %u %u %s\n", (unsigned)number, (unsigned)wichteab_place(answer), wichteab_family(number));
+    printf("refused %u %u %s: %s\n", (unsigned)number, (unsigned)wichteab_place(answer),
+           wichteab_family(number), wichteab_reason(number));
     return 1;
 }
 
-/* Moves the racks of one step: a count byte, then that many moves of 12 bits. */
+/* Moves the racks of one step. */
 static void take_step(uint32_t number, const uint8_t *step)
 {
-    unsigned moves = step[0], i;
+    uint32_t i;
     printf("%u", (unsigned)number);
-    for (i = 0; i < moves; i++) {
-        const uint8_t *at = step + 1 + i / 2 * 3 + i % 2;
-        unsigned both = (unsigned)at[0] << 8 | at[1];
-        unsigned pair = i % 2 == 0 ? both >> 4 : both & 0xFFF;
-        printf(" %u>%u", pair >> 6, pair & 63);
+    for (i = 1; i <= wichteab_step_moves(step); i++) {
+        struct wichteab_move move = wichteab_step_move(step, i);
+        printf(" %u>%u", (unsigned)move.left, (unsigned)move.entered);
     }
     printf("\n");
 }
@@ -87,18 +94,14 @@ static int run(const struct record *order, const struct record *timetable)
 int main(int argc, char **argv)
 {
     struct record order, timetable;
-    int status = 2;
+    int status;
     if (argc != 3) {
         fprintf(stderr, "usage: controller ORDER TIMETABLE\n");
-        return status;
+        return 2;
     }
     order = read_file(argv[1]);
     timetable = read_file(argv[2]);
-    if (order.bytes == NULL || timetable.bytes == NULL) {
-        fprintf(stderr, "controller: cannot read %s\n", order.bytes == NULL ? argv[1] : argv[2]);
-    } else {
-        status = run(&order, &timetable);
-    }
+    status = run(&order, &timetable);
     free(order.bytes);
     free(timetable.bytes);
     return status;

@@ -3,13 +3,17 @@
  *
  *     cc -I include examples/order.c target/staticlib/libcontroller.a -o order
  *     ./order examples/casebook.order
+ *
+ * Exit status: 0 well formed, 1 refused, 2 not run at all.
  */
+#include <errno.h>
 #include <stdio.h>
+#include <string.h>
 
 #include "wichteab.h"
 
 /* The longest order there can be, and one byte to see that a file is longer. */
-#define MOST_BYTES (576 + 1)
+#define MOST_BYTES (WICHTEAB_ORDER_LONGEST + 1)
 
 /* The number in so many bits from this bit on, most significant first. */
 static unsigned field(const uint8_t *bytes, size_t bit, unsigned width)
@@ -40,24 +44,35 @@ static void describe(const uint8_t *order)
     }
 }
 
+/* Says what the order is, or what is wrong with it. */
+static int judge(const uint8_t *order, size_t length)
+{
+    uint64_t answer = wichteab_order_check(order, length);
+    uint32_t number = wichteab_number(answer);
+    if (number == WICHTEAB_ACCEPTED) {
+        describe(order);
+        return 0;
+    }
+    printf("refused %u %u %s: %s\n", (unsigned)number, (unsigned)wichteab_place(answer),
+           wichteab_family(number), wichteab_reason(number));
+    return 1;
+}
+
 int main(int argc, char **argv)
 {
     uint8_t order[MOST_BYTES];
-    uint64_t answer;
     size_t length;
-    FILE *file = argc == 2 ? fopen(argv[1], "rb") : NULL;
-    if (file == NULL) {
+    FILE *file;
+    if (argc != 2) {
         fprintf(stderr, "usage: order FILE\n");
         return 2;
     }
-    length = fread(order, 1, sizeof order, file);
-    fclose(file);
-    answer = wichteab_order_check(order, length);
-    if (wichteab_number(answer) != WICHTEAB_ACCEPTED) {
-        printf("refused %u %u %s\n", (unsigned)wichteab_number(answer), (unsigned)wichteab_place(answer),
-               wichteab_family(wichteab_number(answer)));
-        return 1;
+    file = fopen(argv[1], "rb");
+    length = file == NULL ? 0 : fread(order, 1, sizeof order, file);
+    if (file == NULL || ferror(file)) {
+        fprintf(stderr, "order: cannot read %s: %s\n", argv[1], strerror(errno));
+        return 2;
     }
-    describe(order);
-    return 0;
+    fclose(file);
+    return judge(order, length);
 }

@@ -4,13 +4,20 @@
  * A floor has positions, numbered from 0, and edges between pairs of them. Racks, numbered from 1, stand
  * on positions, at most one on each. An order gives a floor and each rack's start and goal; a plan moves
  * one rack at a time; a timetable moves several in a step. All three are byte strings, described under
- * "Records" below. The functions were proved to answer as described here for every input.
+ * "Records" below.
  *
  * The static library is target/staticlib/libcontroller.a, made by `rt staticlib controller`:
  *
  *     cc -I include program.c target/staticlib/libcontroller.a
  *
- * This holds of every function:
+ * From an order to a checked timetable it is three calls: wichteab_plan_make, wichteab_timetable_make and
+ * wichteab_timetable_check. examples/delivery.c makes them; examples/controller.c takes a timetable's steps.
+ *
+ * What is proved: the functions under "Functions" are exported by the library. Each was proved to answer and
+ * to write as described here for every input, to read and write only inside what it is lent, and to end. The
+ * functions under "Helpers" are inline C in this header. They are tested, and not proved.
+ *
+ * This holds of every exported function:
  *
  *   Input      A byte string is passed as a pointer to its first byte and its length in bytes. Any bytes
  *              of any length may be passed: what is wrong with them is answered, never assumed. A pointer
@@ -18,10 +25,11 @@
  *   Ownership  All memory stays the caller's. Nothing is kept after the call, nothing is allocated, and
  *              there is no state between calls, so that several threads may call at once. The stack has to
  *              have room for small tables: 512 KiB are enough for every function.
- *   Output     The answer is one number, taken apart by the functions under "Answers". Bytes are written
- *              only to a parameter named `buffer`, and only where the answer is accepted: the record
- *              begins at the buffer's first byte, and the bytes behind the record stay as they were. A
- *              refusal changes no byte. A buffer must not overlap another argument.
+ *   Output     The result is one number: an answer, taken apart by the functions under "Helpers", or of the
+ *              two functions that say so a length. Bytes are written only to a parameter named `buffer`, and
+ *              only where the answer is accepted: the record begins at the buffer's first byte, and the bytes
+ *              behind the record stay as they were. A refusal changes no byte. A buffer must not overlap
+ *              another argument.
  */
 #ifndef WICHTEAB_H
 #define WICHTEAB_H
@@ -32,6 +40,17 @@
 #ifdef __cplusplus
 extern "C" {
 #endif
+
+/*
+ * Version
+ *
+ * Library and header come together and are of one version. The first number goes up where a caller may have
+ * to change its code, the second where something was added (a function, a number), the third otherwise.
+ */
+#define WICHTEAB_VERSION "1.0.0"
+#define WICHTEAB_VERSION_MAJOR 1
+#define WICHTEAB_VERSION_MINOR 0
+#define WICHTEAB_VERSION_PATCH 0
 
 /*
  * Records
@@ -50,48 +69,12 @@ extern "C" {
  *              count c of the first step is byte 3; each next step begins where the one before it ends.
  *
  * A record is passed alone, from its first byte to its last: a length that is not the record's own is
- * refused with 10, 30 or 40.
+ * refused with 10, 30 or 40. Where one record follows another, wichteab_order_length and
+ * wichteab_timetable_length tell where the first one ends.
  */
 
-/* The length that an order's first three bytes give it. They must be there to be read. */
-static inline size_t wichteab_order_length(const uint8_t *order)
-{
-    size_t edges = (size_t)(order[0] & 1) << 7 | order[1] >> 1;
-    size_t racks = (size_t)(order[1] & 1) << 6 | order[2] >> 2;
-    return 3 + (3 * (edges + racks) + 1) / 2;
-}
-
-/* The length of a plan of so many moves. */
-static inline size_t wichteab_plan_length(uint32_t moves)
-{
-    return 3 + (3 * (size_t)moves + 1) / 2;
-}
-
-/* The length that wichteab_plan_make asks of its buffer, for an order of so many positions. */
-static inline size_t wichteab_plan_buffer_length(uint32_t positions)
-{
-    return 12 * (size_t)positions * positions * positions + 3;
-}
-
-/* The length that wichteab_timetable_make asks of its buffer, for a plan of so many moves. */
-static inline size_t wichteab_timetable_buffer_length(uint32_t moves)
-{
-    return 3 * (size_t)moves + 3;
-}
-
-/*
- * The length of the timetable of so many steps that `bytes` begins with, or 0 if a step runs past
- * `length`. It tells where the record ends that wichteab_timetable_make has written.
- */
-static inline size_t wichteab_timetable_length(const uint8_t *bytes, size_t length, uint32_t steps)
-{
-    size_t end = 3;
-    while (steps > 0 && end < length) {
-        end += 1 + (3 * (size_t)bytes[end] + 1) / 2;
-        steps--;
-    }
-    return steps == 0 && end <= length ? end : 0;
-}
+/* The length of the longest order that there can be, in bytes. */
+#define WICHTEAB_ORDER_LONGEST 576
 
 /*
  * Answers
@@ -99,6 +82,8 @@ static inline size_t wichteab_timetable_length(const uint8_t *bytes, size_t leng
  * The low 8 bits of an answer are its number: 0 where the input is accepted, else one of the refusals
  * below, the lowest that applies. The bits above are, for a refusal, its place, and where the input is
  * accepted what the function's own description says.
+ *
+ * Numbers may be added in later versions. A caller should treat a number that it does not know as a refusal.
  */
 enum {
     WICHTEAB_ACCEPTED = 0,
@@ -106,91 +91,37 @@ enum {
     /* The order; place 0. */
     WICHTEAB_ORDER_LENGTH = 10,    /* it is under 3 bytes, or its length is not the one its counts give */
     WICHTEAB_ORDER_POSITIONS = 11, /* n is 0 or above 64 */
-    WICHTEAB_ORDER_BITS = 12,      /* a spare or pad bit is set */
-    WICHTEAB_ORDER_EDGES = 13,     /* an edge has a position of n or more, is not lower first, or does not
+    WICHTEAB_ORDER_PADDING = 12,   /* a spare or pad bit is set */
+    WICHTEAB_ORDER_EDGE = 13,      /* an edge has a position of n or more, is not lower first, or does not
                                       ascend */
-    WICHTEAB_ORDER_RACKS = 14,     /* a start or goal is n or more, or two racks share a start or a goal */
+    WICHTEAB_ORDER_RACK = 14,      /* a start or goal is n or more, or two racks share a start or a goal */
 
     /* The floor, judged for planning; place 0. */
-    WICHTEAB_FLOOR_VACANCIES = 20,   /* fewer than two positions are vacant: m + 2 is above n */
-    WICHTEAB_FLOOR_CONNECTION = 21,  /* the floor is not bi-connected: it has under 3 positions, is not
-                                        connected, or falls apart when some position is taken away */
-    WICHTEAB_FLOOR_RING = 22,        /* the floor is a ring: bi-connected, with exactly n edges */
-    WICHTEAB_FLOOR_PLAN_BUFFER = 23, /* the plan buffer is shorter than 12 * n * n * n + 3 bytes */
+    WICHTEAB_FLOOR_CROWDED = 20,         /* fewer than two positions are vacant: m + 2 is above n */
+    WICHTEAB_FLOOR_NOT_BICONNECTED = 21, /* it has under 3 positions, is not connected, or falls apart when
+                                            some one position is taken away */
+    WICHTEAB_FLOOR_RING = 22,            /* it is a ring: bi-connected, with exactly n edges */
+    WICHTEAB_PLAN_BUFFER = 23,           /* the plan buffer is shorter than 12 * n * n * n + 3 bytes */
 
     /* The plan; place 0 unless it is named. */
-    WICHTEAB_PLAN_LENGTH = 30, /* it is under 3 bytes, or its length is not the one k gives */
-    WICHTEAB_PLAN_BITS = 31,   /* a spare or pad bit is set */
-    WICHTEAB_PLAN_MOVE = 32,   /* a move is not legal at its turn. Place: the first such move, from 1 */
-    WICHTEAB_PLAN_GOAL = 33,   /* every move is legal, and then a rack is not at its goal. Place: the lowest
-                                  such rack */
+    WICHTEAB_PLAN_LENGTH = 30,  /* it is under 3 bytes, or its length is not the one k gives */
+    WICHTEAB_PLAN_PADDING = 31, /* a spare or pad bit is set */
+    WICHTEAB_PLAN_MOVE = 32,    /* a move is not legal at its turn. Place: the first such move, from 1 */
+    WICHTEAB_PLAN_GOAL = 33,    /* every move is legal, and then a rack is not at its goal. Place: the lowest
+                                   such rack */
 
     /* The timetable; place 0 unless it is named. */
-    WICHTEAB_TIMETABLE_LENGTH = 40, /* it is under 3 bytes, a step runs past its end, or bytes are left over */
-    WICHTEAB_TIMETABLE_BITS = 41,   /* a spare or pad bit is set */
-    WICHTEAB_TIMETABLE_STEP = 42,   /* a step is not legal. Place: the first such step, from 1 */
-    WICHTEAB_TIMETABLE_GOAL = 43,   /* every step is legal, and then a rack is not at its goal. Place: the
-                                       lowest such rack */
-    WICHTEAB_TIMETABLE_BUFFER = 44, /* the timetable buffer is shorter than 3 * k + 3 bytes */
-    WICHTEAB_TIMETABLE_NUMBER = 45  /* step 0, or a step above s, was requested */
+    WICHTEAB_TIMETABLE_LENGTH = 40,  /* it is under 3 bytes, a step runs past its end, or bytes are left over */
+    WICHTEAB_TIMETABLE_PADDING = 41, /* a spare or pad bit is set */
+    WICHTEAB_TIMETABLE_STEP = 42,    /* a step is not legal. Place: the first such step, from 1 */
+    WICHTEAB_TIMETABLE_GOAL = 43,    /* every step is legal, and then a rack is not at its goal. Place: the
+                                        lowest such rack */
+    WICHTEAB_TIMETABLE_BUFFER = 44,  /* the timetable buffer is shorter than 3 * k + 3 bytes */
+    WICHTEAB_STEP_NUMBER = 45        /* step 0, or a step above s, was requested */
 };
 
-/* The answer's number: 0 if the input is accepted, else the refusal. */
-static inline uint32_t wichteab_number(uint64_t answer)
-{
-    return (uint32_t)(answer & 0xFF);
-}
-
-/* A refusal's place: a move, a step or a rack, each counted from 1, or 0 where the number names none. */
-static inline uint32_t wichteab_place(uint64_t answer)
-{
-    return (uint32_t)(answer >> 8);
-}
-
-/* What a refusal's number speaks of: "order", "floor", "plan" or "timetable"; "other" for any other number. */
-static inline const char *wichteab_family(uint32_t number)
-{
-    switch (number / 10) {
-    case 1: return "order";
-    case 2: return "floor";
-    case 3: return "plan";
-    case 4: return "timetable";
-    default: return "other";
-    }
-}
-
-/* Of wichteab_plan_check or wichteab_plan_make, accepted: the plan's moves. */
-static inline uint32_t wichteab_plan_moves(uint64_t answer)
-{
-    return (uint32_t)(answer >> 8);
-}
-
-/* Of wichteab_timetable_check or wichteab_timetable_make, accepted: the timetable's steps. */
-static inline uint32_t wichteab_timetable_steps(uint64_t answer)
-{
-    return (uint32_t)(answer >> 8 & 0x3FFFFF);
-}
-
-/* Of wichteab_timetable_check, accepted: the moves of all steps. */
-static inline uint32_t wichteab_timetable_moves(uint64_t answer)
-{
-    return (uint32_t)(answer >> 30);
-}
-
-/* Of wichteab_timetable_step, accepted: the step's first byte, as an offset in the timetable. */
-static inline size_t wichteab_step_offset(uint64_t answer)
-{
-    return (size_t)(answer >> 24);
-}
-
-/* Of wichteab_timetable_step, accepted: the step's length in bytes. */
-static inline size_t wichteab_step_length(uint64_t answer)
-{
-    return (size_t)(answer >> 8 & 0xFFFF);
-}
-
 /*
- * Functions
+ * Functions: exported and proved
  */
 
 /*
@@ -272,6 +203,201 @@ uint64_t wichteab_timetable_make(const uint8_t *order, size_t order_length, cons
  * one behind the last (see "Records").
  */
 uint64_t wichteab_timetable_step(const uint8_t *timetable, size_t timetable_length, uint64_t number);
+
+/*
+ * wichteab_order_length: where does the order end that these bytes begin with?
+ *
+ * Takes any bytes; they are only read, the first three at most. Returns a length, no answer: that of the
+ * order, by its counts alone, or 0 where the bytes end before it does. Nothing else is judged.
+ */
+uint64_t wichteab_order_length(const uint8_t *bytes, size_t length);
+
+/*
+ * wichteab_timetable_length: where does the timetable end that these bytes begin with?
+ *
+ * Takes any bytes; they are only read. Returns a length, no answer: that of the timetable, by its step count
+ * and its steps' count bytes alone, or 0 where the bytes end before it does. Nothing else is judged. Given
+ * the buffer that wichteab_timetable_make has written to, it tells how long the timetable is.
+ */
+uint64_t wichteab_timetable_length(const uint8_t *bytes, size_t length);
+
+/*
+ * Helpers: inline C, tested and not proved
+ */
+
+/* The answer's number: 0 if the input is accepted, else the refusal. */
+static inline uint32_t wichteab_number(uint64_t answer)
+{
+    return (uint32_t)(answer & 0xFF);
+}
+
+/* A refusal's place: a move, a step or a rack, each counted from 1, or 0 where the number names none. */
+static inline uint32_t wichteab_place(uint64_t answer)
+{
+    return (uint32_t)(answer >> 8);
+}
+
+/* Of wichteab_plan_check or wichteab_plan_make, accepted: the plan's moves. */
+static inline uint32_t wichteab_plan_moves(uint64_t answer)
+{
+    return (uint32_t)(answer >> 8);
+}
+
+/* Of wichteab_timetable_check or wichteab_timetable_make, accepted: the timetable's steps. */
+static inline uint32_t wichteab_timetable_steps(uint64_t answer)
+{
+    return (uint32_t)(answer >> 8 & 0x3FFFFF);
+}
+
+/* Of wichteab_timetable_check, accepted: the moves of all steps. */
+static inline uint32_t wichteab_timetable_moves(uint64_t answer)
+{
+    return (uint32_t)(answer >> 30);
+}
+
+/* Of wichteab_timetable_step, accepted: the step's first byte, as an offset in the timetable. */
+static inline size_t wichteab_step_offset(uint64_t answer)
+{
+    return (size_t)(answer >> 24);
+}
+
+/* Of wichteab_timetable_step, accepted: the step's length in bytes. */
+static inline size_t wichteab_step_length(uint64_t answer)
+{
+    return (size_t)(answer >> 8 & 0xFFFF);
+}
+
+/* What a refusal's number speaks of: "order", "floor", "plan" or "timetable"; "other" for any other number. */
+static inline const char *wichteab_family(uint32_t number)
+{
+    switch (number / 10) {
+    case 1: return "order";
+    case 2: return "floor";
+    case 3: return "plan";
+    case 4: return "timetable";
+    default: return "other";
+    }
+}
+
+/* What a number means, as a sentence for the person who has to act on it. */
+static inline const char *wichteab_reason(uint32_t number)
+{
+    switch (number) {
+    case WICHTEAB_ACCEPTED:
+        return "Accepted.";
+    case WICHTEAB_ORDER_LENGTH:
+        return "The order was cut short, or other bytes follow it: its length is not the one its counts give.";
+    case WICHTEAB_ORDER_POSITIONS:
+        return "The order has no position, or more than 64.";
+    case WICHTEAB_ORDER_PADDING:
+        return "A spare or pad bit of the order is set; all of them have to be 0.";
+    case WICHTEAB_ORDER_EDGE:
+        return "An edge of the order names a position that the floor does not have, does not have its lower "
+               "position first, or does not come after the edge before it.";
+    case WICHTEAB_ORDER_RACK:
+        return "A start or goal of the order is no position of the floor, or two racks share one.";
+    case WICHTEAB_FLOOR_CROWDED:
+        return "Too many racks stand on the floor: at least two of its positions have to be vacant.";
+    case WICHTEAB_FLOOR_NOT_BICONNECTED:
+        return "The floor hangs together by one position, or not at all: it has to stay connected when any one "
+               "position is taken away.";
+    case WICHTEAB_FLOOR_RING:
+        return "The floor is a single ring, on which racks cannot pass each other: it needs one more edge.";
+    case WICHTEAB_PLAN_BUFFER:
+        return "The plan buffer is too short: n positions need 12 * n * n * n + 3 bytes.";
+    case WICHTEAB_PLAN_LENGTH:
+        return "The plan was cut short, or other bytes follow it: its length is not the one its count of moves "
+               "gives.";
+    case WICHTEAB_PLAN_PADDING:
+        return "A spare or pad bit of the plan is set; all of them have to be 0.";
+    case WICHTEAB_PLAN_MOVE:
+        return "This move of the plan is not legal at its turn: no edge joins its positions, no rack stands at "
+               "the one left, or the one entered is not vacant.";
+    case WICHTEAB_PLAN_GOAL:
+        return "This rack is not at its goal after the plan.";
+    case WICHTEAB_TIMETABLE_LENGTH:
+        return "The timetable was cut short, or other bytes follow it: its length is not the one its counts "
+               "give.";
+    case WICHTEAB_TIMETABLE_PADDING:
+        return "A spare or pad bit of the timetable is set; all of them have to be 0.";
+    case WICHTEAB_TIMETABLE_STEP:
+        return "This step of the timetable is not legal: its moves do not ascend, do not follow edges, leave a "
+               "vacant position, meet in one position, or follow each other with no leader into a vacant one.";
+    case WICHTEAB_TIMETABLE_GOAL:
+        return "This rack is not at its goal after the timetable.";
+    case WICHTEAB_TIMETABLE_BUFFER:
+        return "The timetable buffer is too short: a plan of k moves needs 3 * k + 3 bytes.";
+    case WICHTEAB_STEP_NUMBER:
+        return "The timetable has no step of this number; its steps are counted from 1.";
+    default:
+        return "Refused, for a reason that this header does not know.";
+    }
+}
+
+/* The length of a plan of so many moves. */
+static inline size_t wichteab_plan_length(uint32_t moves)
+{
+    return 3 + (3 * (size_t)moves + 1) / 2;
+}
+
+/* The length that wichteab_plan_make asks of its buffer, for an order of so many positions. */
+static inline size_t wichteab_plan_buffer_length(uint32_t positions)
+{
+    return 12 * (size_t)positions * positions * positions + 3;
+}
+
+/* The length that wichteab_timetable_make asks of its buffer, for a plan of so many moves. */
+static inline size_t wichteab_timetable_buffer_length(uint32_t moves)
+{
+    return 3 * (size_t)moves + 3;
+}
+
+/*
+ * The functions below read accepted records: they test nothing. Moves are counted from 1, as places and
+ * steps are.
+ */
+
+/* The positions of an order: its n. */
+static inline uint32_t wichteab_order_positions(const uint8_t *order)
+{
+    return order[0] >> 1;
+}
+
+/* A move: the rack at the position left goes to the position entered. */
+struct wichteab_move {
+    uint8_t left;
+    uint8_t entered;
+};
+
+/* The move of this number in a list of moves: what follows a plan's third byte, or a step's first. */
+static inline struct wichteab_move wichteab_listed_move(const uint8_t *list, uint32_t number)
+{
+    const uint8_t *at = list + (number - 1) / 2 * 3 + (number - 1) % 2;
+    uint32_t both = (uint32_t)at[0] << 8 | at[1];
+    uint32_t bits = number % 2 == 1 ? both >> 4 : both & 0xFFF;
+    struct wichteab_move move;
+    move.left = (uint8_t)(bits >> 6);
+    move.entered = (uint8_t)(bits & 63);
+    return move;
+}
+
+/* A plan's move of this number, from 1 to the plan's moves. */
+static inline struct wichteab_move wichteab_plan_move(const uint8_t *plan, uint32_t number)
+{
+    return wichteab_listed_move(plan + 3, number);
+}
+
+/* The moves of a step: its count c. The step begins at wichteab_step_offset in its timetable. */
+static inline uint32_t wichteab_step_moves(const uint8_t *step)
+{
+    return step[0];
+}
+
+/* A step's move of this number, from 1 to wichteab_step_moves. */
+static inline struct wichteab_move wichteab_step_move(const uint8_t *step, uint32_t number)
+{
+    return wichteab_listed_move(step + 1, number);
+}
 
 #ifdef __cplusplus
 }

@@ -66,9 +66,9 @@ static void run_steps(const struct one_case *c)
     expect(wichteab_step_length(first) == 4, "length of step 1");
     expect(wichteab_number(second) == 0 && wichteab_step_offset(second) == 7, "offset of step 2");
     expect(wichteab_step_length(second) == 4, "length of step 2");
-    expect(wichteab_timetable_step(c->bytes, c->length, 0) == WICHTEAB_TIMETABLE_NUMBER, "step 0");
-    expect(wichteab_timetable_step(c->bytes, c->length, 3) == WICHTEAB_TIMETABLE_NUMBER, "step 3");
-    expect(wichteab_timetable_step(c->bytes, c->length, UINT64_MAX) == WICHTEAB_TIMETABLE_NUMBER, "the last number");
+    expect(wichteab_timetable_step(c->bytes, c->length, 0) == WICHTEAB_STEP_NUMBER, "step 0");
+    expect(wichteab_timetable_step(c->bytes, c->length, 3) == WICHTEAB_STEP_NUMBER, "step 3");
+    expect(wichteab_timetable_step(c->bytes, c->length, UINT64_MAX) == WICHTEAB_STEP_NUMBER, "the last number");
     expect(wichteab_timetable_step(c->bytes, c->length - 1, 0) == WICHTEAB_TIMETABLE_LENGTH, "step 0, cut");
 }
 

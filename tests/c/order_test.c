@@ -63,19 +63,10 @@ static void run(const struct order_case *c)
     int unchanged;
     uint64_t answer = check(c->bytes, c->length, &unchanged);
     expect(wichteab_number(answer) == c->number && wichteab_place(answer) == 0 && unchanged, c->name);
-    if (c->length >= 3) {
-        int of_its_length = wichteab_order_length(c->bytes) == c->length;
+    if (c->length > 0) {
+        int of_its_length = wichteab_order_length(c->bytes, c->length) == c->length;
         expect(of_its_length == (c->number != WICHTEAB_ORDER_LENGTH), "wichteab_order_length");
     }
-}
-
-static void run_families(void)
-{
-    expect(strcmp(wichteab_family(WICHTEAB_ORDER_LENGTH), "order") == 0, "family of 10");
-    expect(strcmp(wichteab_family(WICHTEAB_FLOOR_PLAN_BUFFER), "floor") == 0, "family of 23");
-    expect(strcmp(wichteab_family(WICHTEAB_PLAN_MOVE), "plan") == 0, "family of 32");
-    expect(strcmp(wichteab_family(WICHTEAB_TIMETABLE_NUMBER), "timetable") == 0, "family of 45");
-    expect(strcmp(wichteab_family(WICHTEAB_ACCEPTED), "other") == 0, "family of 0");
 }
 
 int main(void)
@@ -89,6 +80,5 @@ int main(void)
         uint64_t answer = check(cases[0].bytes, i, &unchanged);
         expect(answer == WICHTEAB_ORDER_LENGTH && unchanged, "the case book's order, cut");
     }
-    run_families();
     return close_tests();
 }

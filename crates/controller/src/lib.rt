@@ -1,5 +1,6 @@
 // The C interface: include/wichteab.h says the same in C's words. Every function takes byte strings as pointer and length and
-// returns one number; none changes a byte that it was lent to read, and a refusal changes no byte at all.
+// returns one number; none changes a byte that it was lent to read, and a refusal changes no byte at all. The number is an answer, packed, or
+// for the last two functions a length.
 use answers::Fault;
 use floor::FloorVerdict;
 use order::OrderVerdict;
@@ -12,11 +13,13 @@ ghost use mathlib.Core.Path.{_≡_};
 ghost use lib.ListN.{length};
 ghost use Rattle.answers.specs.Answer.{Answer, refusedBy};
 ghost use Rattle.order.specs.Order.{orderAnswer};
+ghost use Rattle.order.specs.RecordLength.{wholeOrderLength};
 ghost use Rattle.floor.specs.FloorAnswer.{floorAnswer};
 ghost use Rattle.plan.specs.Plan.{planAnswer};
 ghost use Rattle.planner.specs.Planner.{PlanMade};
 ghost use Rattle.scheduling.specs.Maker.{makerAnswer, bufferAfter};
 ghost use Rattle.timetable.specs.Timetable.{timetableAnswer, stepAnswer};
+ghost use Rattle.timetable.specs.RecordLength.{wholeTimetableLength};
 ghost use Rattle.controller.specs.Packed.{packed, nothing, oneCount, stepsAndMoves, lengthAndOffset};
 
 // A refusal as one number.
@@ -104,4 +107,20 @@ pub extern "C" fn wichteab_timetable_step(timetable: &[u8], number: u64) -> u64
         StepVerdict::Found { offset, len } => ((len as u64) + (offset as u64) * 65536) * 256,
         StepVerdict::Refused(fault, place) => refusal(fault, place),
     }
+}
+
+// The length of the order that the bytes begin with, by its counts alone; 0 where the bytes end before it does.
+#[no_mangle]
+pub extern "C" fn wichteab_order_length(bytes: &[u8]) -> u64
+    ensures { λ r. ⌜ r ≡ wholeOrderLength (now (bytes .entry)) ⌝ }
+{
+    order::record_length(bytes) as u64
+}
+
+// The length of the timetable that the bytes begin with, by its step count and its count bytes alone; 0 where the bytes end before it does.
+#[no_mangle]
+pub extern "C" fn wichteab_timetable_length(bytes: &[u8]) -> u64
+    ensures { λ r. ⌜ r ≡ wholeTimetableLength (now (bytes .entry)) ⌝ }
+{
+    timetable::record_length(bytes) as u64
 }

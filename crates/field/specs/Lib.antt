@@ -7,3 +7,4 @@ pub mod UnitLaws
 pub mod Packing
 pub mod Writing
 pub mod Head
+pub mod Front

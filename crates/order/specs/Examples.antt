@@ -3,15 +3,19 @@
 --
 --     caseBook                                   the order of "Programs"
 --     case-book-accepted, case-book-read, case-book-written    it is accepted, and describes what the paper says of it, which has it as its record
+--     case-book-length, case-book-cut            it is 14 bytes long, whatever stands behind it, and no order where it is cut short
 --     meets-10, .., meets-14                     an order for each of the numbers
 -- Assumes nothing.
 use mathlib.Core.Path.{_≡_, refl}
-use mathlib.Core.List.{List, [], _∷_}
+use mathlib.Core.List.{List, [], _∷_, _++_}
 use Prim.Native.Nat.{ℕ}
+use lib.ListN.{take}
 use Rattle.answers.specs.Answer.{accepted, refused}
 use Rattle.field.specs.Bits.{bits, number, bitsOf, field, pairs, positions, pairBits, positionBits, pad, padded, bytes, toBytes}
 use Rattle.field.specs.Units.{unitsLength, misfits, unclean}
+use Rattle.field.specs.Front.{wholeLength}
 use Rattle.order.specs.Order.{Order, orderBits, orderRecord, positionCount, edgeCount, rackCount, unitCount, floorOf, startsOf, goalsOf, orderOf, wrongLength, wrongPositions, paddingSet, some, badEdge, precedes, ascending, wrongEdges, repeats, wrongPlaces, wrongRacks, counts, orderAnswer}
+use Rattle.order.specs.RecordLength.{orderLength, wholeOrderLength, order-length-found}
 
 -- document 01, "Programs": n = 4, edges 0-1, 0-2, 1-2, 1-3, 2-3, rack 1 from 0 to 3, rack 2 from 3 to 0
 pub caseBook : List ℕ
@@ -36,6 +40,14 @@ case-book-read = refl
 case-book-written : orderRecord caseBookOrder ≡ caseBook
 unfolding caseBook orderRecord orderBits toBytes bytes padded pad number bits pairBits positionBits
 case-book-written = refl
+
+case-book-length : (rest : List ℕ) → wholeOrderLength (caseBook ++ rest) ≡ 14
+unfolding caseBook wrongLength misfits unitsLength unitCount edgeCount rackCount field number bitsOf bits
+case-book-length rest = order-length-found (caseBook ++ rest) .only caseBook rest refl refl
+
+case-book-cut : (wholeOrderLength (take 13 caseBook) ≡ 0) × (wholeOrderLength (take 2 caseBook) ≡ 0) × (wholeOrderLength [] ≡ 0)
+unfolding caseBook wholeOrderLength wholeLength orderLength unitsLength unitCount edgeCount rackCount field number bitsOf bits
+case-book-cut = (refl, refl, refl)
 
 -- two bytes
 meets-10 : orderAnswer (0x08 ∷ 0x0A ∷ []) ≡ refused 10 0

@@ -2,6 +2,7 @@ pub mod Floor
 pub mod Order
 pub mod Verdict
 pub mod OrderLaws
+pub mod RecordLength
 pub mod Examples
 pub mod RecordOf
 pub mod PlaceLaws

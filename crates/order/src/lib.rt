@@ -1,6 +1,6 @@
 // The order reader: a byte string is judged by 10 to 14 of document 01's table. specs/Order.antt says what an order record is and
-// what each number means; `read` is the entry point. `mark_edges` and `place_racks` give the layers above an accepted order's
-// floor and racks as tables.
+// what each number means; `read` is the entry point. `record_length` says where an order ends that other bytes follow. `mark_edges` and
+// `place_racks` give the layers above an accepted order's floor and racks as tables.
 use answers::Fault;
 ghost use mathlib.Core.Path.{_≡_};
 ghost use mathlib.Core.Bool.{not};
@@ -9,6 +9,7 @@ ghost use lib.ListN.{length};
 ghost use Rattle.field.specs.Bits.{pairs, positions};
 ghost use Rattle.order.specs.Order.{CountsOf, orderAnswer, wrongEdges, wrongPlaces};
 ghost use Rattle.order.specs.Readers.{headAnswer, edgesAnswer};
+ghost use Rattle.order.specs.RecordLength.{wholeOrderLength};
 ghost use Rattle.order.specs.Tables.{marked, placed};
 ghost use Rattle.order.specs.Verdict.{answerOf};
 
@@ -37,6 +38,21 @@ pub fn counts_of(order: &[u8]) -> Counts
         edges: a % 2 * 128 + b / 2,
         racks: b % 2 * 64 + c / 4,
     }
+}
+
+// The length of the order that the bytes begin with, by its counts alone; 0 where the bytes end before it does.
+pub fn record_length(bytes: &[u8]) -> usize
+    ensures { λ r. ⌜ r ≡ wholeOrderLength (now (bytes .entry)) ⌝ }
+{
+    if bytes.len() < 3 {
+        return 0;
+    }
+    let counts = counts_of(bytes);
+    let len = 3 + (12 * (counts.edges + counts.racks) + 7) / 8;
+    if bytes.len() < len {
+        return 0;
+    }
+    len
 }
 
 // 10 to 12. The length comes first: n and the spare bits are judged only where the counts give it.

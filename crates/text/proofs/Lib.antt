@@ -1,5 +1,5 @@
 pub mod Decimal
 pub mod Loops
 pub mod Counts
-pub mod Passing
+pub mod Split
 pub mod Program

@@ -16,10 +16,10 @@ use Rattle.field.specs.RecordLaws.{rest-is}
 use Rattle.field.specs.Writing.{Fits, Wrote, wrote-as}
 use Rattle.timetable.specs.Timetable.{timetableRecord, stepsOf}
 use Rattle.timetable.specs.Reading.{WellPacked}
+use Rattle.timetable.specs.RecordLength.{wholeTimetableLength, timetable-length-found}
 use Rattle.timetable.specs.TimetableRecord.{record-well-packed, stepsOf-record}
 use Rattle.scheduling.specs.Maker.{madeOf, makerAnswer, bufferAfter}
 use Rattle.scheduling.specs.MakerLaws.{MakerGave, maker-gave, maker-record, made-packable, Timetabled}
-use Rattle.text.specs.Front.{recordEnd, recordEnd-is}
 use Rattle.text.specs.Program.{answerText, programText}
 use Rattle.text.specs.Sizes.{timetableText-short}
 use Rattle.text.specs.Split.{orderEnd, orderPart, planPart}
@@ -67,13 +67,13 @@ module _ (s o p B : List ℕ) (eo : o ≡ orderPart s) (ep : p ≡ planPart s) (
     short : length (timetableRecord (madeOf o p)) ≤ 65536
     short = omega (arith, left .1 .short, gave .room, lent)
 
-    end-is : recordEnd b ≡ length (timetableRecord (madeOf o p))
-    end-is = ap recordEnd begins ∙ recordEnd-is (timetableRecord (madeOf o p)) rest (packed .length-right)
+    end-is : wholeTimetableLength b ≡ length (timetableRecord (madeOf o p))
+    end-is = timetable-length-found b .only (timetableRecord (madeOf o p)) rest begins (packed .length-right)
 
-    pub end-fits : recordEnd b ≤ length b
+    pub end-fits : wholeTimetableLength b ≤ length b
     end-fits = omega (arith, end-is, ap length begins, length-append (timetableRecord (madeOf o p)) rest)
 
-    module _ (n : ℕ) (en : n ≡ recordEnd b) where
+    module _ (n : ℕ) (en : n ≡ wholeTimetableLength b) where
       record-is : take n b ≡ timetableRecord (madeOf o p)
       record-is = ap₂ take (en ∙ end-is) begins ∙ take-at (timetableRecord (madeOf o p)) rest (length (timetableRecord (madeOf o p))) refl
 

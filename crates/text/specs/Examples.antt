@@ -8,7 +8,6 @@
 --     room-example        the text of the first case's timetable has room in 40 bytes, so that it can be written
 --     room-refusal        a refusal's line has room in 32 bytes
 --     left-refusal        22 lent bytes after a refusal's line of 19: the three behind it stay
---     end-example         the timetable of the first case ends after 11 bytes, whatever stands behind it
 -- Assumes nothing.
 use Prim.Native.Nat.{ℕ}
 use mathlib.Core.Path.{_≡_, refl}
@@ -20,7 +19,6 @@ use Rattle.field.specs.Writing.{written, Fits}
 use Rattle.timetable.specs.Reading.{moveCount, WellPacked}
 use Rattle.timetable.specs.Timetable.{stepsOf}
 use Rattle.timetable.specs.Inhabited.{timetable₁, steps₁, moves₁, packed₁}
-use Rattle.text.specs.Front.{recordEnd, recordEnd-is}
 use Rattle.text.specs.Text.{digits, decimal, space, newline, arrow, refusedText, refusalLine, moveText, movesText, stepLine, stepLines, stepsText, movesWord, firstLine, timetableText}
 
 -- steps 2 moves 4
@@ -72,6 +70,3 @@ room-refusal = record { room = lit≤ tt }
 pub left-refusal : written (replicate 22 7) 0 (refusalLine 10 0) ≡ refusalLine 10 0 ++ 7 ∷ 7 ∷ 7 ∷ []
 unfolding written refusalLine refusedText space newline decimal digits familyWord within
 left-refusal = refl
-
-pub end-example : (rest : List ℕ) → recordEnd (timetable₁ ++ rest) ≡ 11
-end-example rest = recordEnd-is timetable₁ rest (packed₁ .length-right)

@@ -1,7 +1,6 @@
 pub mod Text
 pub mod TextLaws
 pub mod Sizes
-pub mod Front
 pub mod Split
 pub mod Program
 pub mod Examples

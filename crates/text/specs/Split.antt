@@ -8,13 +8,11 @@
 use Prim.Native.Nat.{ℕ, min}
 use mathlib.Core.List.{List}
 use lib.ListN.{length, take, drop}
-use Rattle.field.specs.Units.{unitsLength}
-use Rattle.order.specs.Order.{unitCount}
+use Rattle.order.specs.RecordLength.{orderLength}
 
--- "The length is 3 bytes plus 12 × (e + m) bits rounded up to bytes." An input that is shorter than its counts say, or than the 3 bytes that
--- hold them, is an order and no plan, so that 10 applies and never 30.
+-- An input that is shorter than its counts say, or than the 3 bytes that hold them, is an order and no plan, so that 10 applies and never 30.
 unfoldable pub orderEnd : List ℕ → ℕ
-orderEnd s = min (unitsLength (unitCount s)) (length s)
+orderEnd s = min (orderLength s) (length s)
 
 unfoldable pub orderPart : List ℕ → List ℕ
 orderPart s = take (orderEnd s) s

@@ -16,7 +16,6 @@ ghost use Rattle.timetable.specs.Timetable.{stepLength, stepCount, stepMoves, s
 ghost use Rattle.timetable.specs.Reading.{WellPacked};
 ghost use Rattle.text.specs.Text.{decimal, moveText, movesText, stepLine, stepLines, firstLine, timetableText, refusalLine};
 ghost use Rattle.text.specs.Split.{orderEnd};
-ghost use Rattle.text.specs.Front.{recordEnd};
 ghost use Rattle.text.specs.Program.{programText};
 
 // One byte.
@@ -156,34 +155,15 @@ pub fn put_timetable(timetable: &[u8], out: &mut [u8], at: usize) -> usize
     put_steps(timetable, steps, out, at)
 }
 
-// Where the order ends in a program's input.
+// Where the order ends in a program's input: the whole input, where that ends before the order does.
 pub fn order_end(input: &[u8]) -> usize
     ensures { λ r. ⌜ r ≡ orderEnd (now (input .entry)) ⌝ }
 {
-    if input.len() < 3 {
-        return input.len();
-    }
-    let counts = order::counts_of(input);
-    let end = 3 + (12 * (counts.edges + counts.racks) + 7) / 8;
-    if input.len() < end {
+    let end = order::record_length(input);
+    if end == 0 {
         return input.len();
     }
     end
-}
-
-// Where the timetable at the front of a buffer ends.
-fn record_end(buffer: &[u8]) -> usize
-    requires { ⌜ recordEnd (now buffer) ≤ length (now buffer) ⌝ }
-    ensures { λ r. ⌜ r ≡ recordEnd (now (buffer .entry)) ⌝ }
-{
-    let count = field::count_at_head(buffer);
-    let mut at = 3;
-    let mut i = 0;
-    while i < count {
-        at += timetable::step_length(buffer[at]);
-        i += 1;
-    }
-    at
 }
 
 // A refusal's line, at the front of `out`.
@@ -203,7 +183,7 @@ pub fn timetable_program(input: &[u8], out: &mut [u8; 524288]) -> usize
     match scheduling::make(&input[..end], &input[end..], &mut buffer) {
         MakerVerdict::Refused(fault, place) => print_refusal(fault, place, out),
         MakerVerdict::Accepted(_) => {
-            let len = record_end(&buffer);
+            let len = timetable::record_length(&buffer);
             put_timetable(&buffer[..len], out, 0)
         }
     }

@@ -5,6 +5,7 @@
 --     bytes₁, packable₁, packed₁     it is a byte string, its steps can be packed, and neither 40 nor 41 applies
 --     string₁                        each of its bytes is below 256, as a lent slice has it
 --     second-stands, second-part     after one step what is left begins at byte 7, with a part that is a step
+--     length₁, cut₁                  it is 11 bytes long, whatever stands behind it, and no timetable where it is cut short
 --     reading₁                       the reading's counts
 --     step-zero, step-one, step-two, step-three    the step reader's answers for 0, 1, 2 and 3; step 2 is 02 04 30 80 at offset 7
 --     second-given, none-given       the part of step 2, and the empty part of step 3
@@ -22,14 +23,16 @@
 -- Assumes nothing.
 use Prim.Native.Nat.{ℕ}
 use mathlib.Core.Path.{_≡_, refl, ap, _∙_}
-use mathlib.Core.List.{List, [], _∷_}
+use mathlib.Core.List.{List, [], _∷_, _++_}
 use lib.Dec.{lit<, lit≤}
+use lib.ListN.{take}
 use Rattle.answers.specs.Answer.{accepted, refused}
 use Rattle.field.specs.Bits.{bits, number, bitsOf, field, positions, pairs, pairBits, pad, padded, bytes, toBytes}
 use Rattle.field.specs.BitLaws.{Bytes, none, more}
 use Rattle.field.specs.RecordLaws.{none₂, more₂}
 use Rattle.field.specs.WholeBytes.{below-each}
 use Rattle.field.specs.Units.{unitsLength, misfits, unclean}
+use Rattle.field.specs.Front.{wholeLength}
 use Rattle.order.specs.Floor.{isPair, among, joined}
 use Rattle.order.specs.Order.{positionCount, edgeCount, rackCount, unitCount, floorOf, startsOf, goalsOf, orderOf, wrongLength, wrongPositions, paddingSet, some, badEdge, precedes, ascending, wrongEdges, repeats, wrongPlaces, wrongRacks, counts, orderAnswer, WellFormed}
 use Rattle.motion.specs.Arrangement.{occupied, vacant}
@@ -40,6 +43,7 @@ use Rattle.motion.specs.Judgement.{misplaced, judged}
 use Rattle.timetable.specs.Timetable.{stepBits, allStepBits, timetableBits, timetableRecord, stepLength, stepCount, wrongSteps, stepParts, partsOf, wrongTimetableLength, stepPadSet, timetablePaddingSet, stepMoves, stepsOf, total, timetableAnswer, lengthOf, offset, stepPart, stepAnswer}
 use Rattle.timetable.specs.Reading.{readingAnswer, WellPacked, partGiven, placeGiven}
 use Rattle.timetable.specs.ReadingLaws.{Stands, stands-at}
+use Rattle.timetable.specs.RecordLength.{stepsLength, timetableLength, wholeTimetableLength, timetable-length-found}
 use Rattle.timetable.specs.SizeLaws.{ByteString}
 use Rattle.timetable.specs.StepRecord.{Part}
 use Rattle.timetable.specs.TimetableRecord.{no-steps, one-step, Packable}
@@ -80,6 +84,13 @@ packable₁ = record {
 pub packed₁ : WellPacked timetable₁
 unfolding wrongTimetableLength timetablePaddingSet wrongSteps some stepPadSet pad partsOf stepParts stepLength stepCount field number bitsOf bits
 packed₁ = record { length-right = refl; padding-clear = refl }
+
+pub length₁ : (rest : List ℕ) → wholeTimetableLength (timetable₁ ++ rest) ≡ 11
+length₁ rest = timetable-length-found (timetable₁ ++ rest) .only timetable₁ rest refl (packed₁ .length-right)
+
+pub cut₁ : (wholeTimetableLength (take 10 timetable₁) ≡ 0) × (wholeTimetableLength (take 7 timetable₁) ≡ 0) × (wholeTimetableLength (take 2 timetable₁) ≡ 0)
+unfolding wholeTimetableLength wholeLength timetableLength stepsLength stepLength stepCount field number bitsOf bits
+cut₁ = (refl, refl, refl)
 
 pub string₁ : ByteString timetable₁
 string₁ = below-each (lit< tt) bytes₁

@@ -1,6 +1,7 @@
 pub mod Timetable
 pub mod Reading
 pub mod StepLaws
+pub mod RecordLength
 pub mod ReadingLaws
 pub mod Checking
 pub mod StepRecord

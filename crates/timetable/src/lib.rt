@@ -1,7 +1,7 @@
 // The timetable checker and the step reader: any byte string is judged by 40 and 41 of document 01's table, for an order by 10 to 14, 42
 // and 43 too, and a step of it is handed out (45). specs/Timetable.antt says what a timetable record is and what each number means;
 // specs/Reading.antt and specs/Checking.antt give the verdicts document 01's numbers and values. `check`, `read`, `find_step` and `step`
-// are the entry points.
+// are the entry points; `record_length` says where a timetable ends that other bytes follow.
 use answers::Fault;
 use order::OrderVerdict;
 ghost use mathlib.Core.Path.{_≡_};
@@ -17,6 +17,7 @@ ghost use Rattle.trains.specs.StepsOn.{replayStepsOn};
 ghost use Rattle.timetable.specs.Timetable.{stepLength, stepPadSet, wrongTimetableLength, stepCount, stepMoves, stepsOf, timetableAnswer, offset, stepAnswer};
 ghost use Rattle.timetable.specs.Reading.{StepSize, stepsAnswer, readingAnswer, numberAnswer, partGiven, placeGiven, answerOfReading, answerOfStep};
 ghost use Rattle.timetable.specs.Checking.{tableAnswer, answerOfCheck};
+ghost use Rattle.timetable.specs.RecordLength.{wholeTimetableLength};
 
 // The verdict on a timetable's structure, with the counts of an accepted one.
 pub enum TimetableReading {
@@ -41,6 +42,30 @@ pub fn step_length(c: u8) -> usize
     ensures { λ r. ⌜ StepSize c r ⌝ }
 {
     1 + (12 * field::wide(c) + 7) / 8
+}
+
+// The length of the timetable that the bytes begin with, by its step count and its count bytes alone; 0 where the bytes end before it does.
+pub fn record_length(bytes: &[u8]) -> usize
+    ensures { λ r. ⌜ r ≡ wholeTimetableLength (now (bytes .entry)) ⌝ }
+{
+    if bytes.len() < 3 {
+        return 0;
+    }
+    let count = field::count_at_head(bytes);
+    let mut end = 3;
+    let mut i = 0;
+    while i < count {
+        if bytes.len() <= end {
+            return 0;
+        }
+        let size = step_length(bytes[end]);
+        if bytes.len() - end < size {
+            return 0;
+        }
+        end += size;
+        i += 1;
+    }
+    end
 }
 
 // Whether a pad bit of a step is set. The step is the whole part, from its count byte to its pad.

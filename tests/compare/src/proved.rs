@@ -37,6 +37,10 @@ mod symbols {
             buffer: *mut u8,
             buffer_length: usize,
         ) -> u64;
+        #[cfg(feature = "order_length")]
+        pub fn wichteab_order_length(bytes: *const u8, length: usize) -> u64;
+        #[cfg(feature = "timetable_length")]
+        pub fn wichteab_timetable_length(bytes: *const u8, length: usize) -> u64;
         #[cfg(feature = "inspection")]
         pub fn wichteab_inspect_breakdown(
             order: *const u8,
@@ -103,6 +107,16 @@ pub fn timetable_make(order: &[u8], plan: &[u8], buffer: &mut [u8]) -> u64 {
 #[cfg(feature = "timetable_step")]
 pub fn timetable_step(timetable: &[u8], number: u64) -> u64 {
     unsafe { symbols::wichteab_timetable_step(timetable.as_ptr(), timetable.len(), number) }
+}
+
+#[cfg(feature = "order_length")]
+pub fn order_length(bytes: &[u8]) -> u64 {
+    unsafe { symbols::wichteab_order_length(bytes.as_ptr(), bytes.len()) }
+}
+
+#[cfg(feature = "timetable_length")]
+pub fn timetable_length(bytes: &[u8]) -> u64 {
+    unsafe { symbols::wichteab_timetable_length(bytes.as_ptr(), bytes.len()) }
 }
 
 #[cfg(feature = "inspection")]

@@ -25,6 +25,16 @@ pub fn step_length(c: u8) -> usize {
     1 + packed_length(usize::from(c))
 }
 
+/// Where the timetable ends that the bytes begin with, "after its last step"; none if they end before it does.
+pub fn length(bytes: &[u8]) -> Option<usize> {
+    let steps = head(bytes)? >> 2;
+    let mut rest = &bytes[3..];
+    for _ in 0..steps {
+        rest = rest.get(step_length(*rest.first()?)..)?;
+    }
+    Some(bytes.len() - rest.len())
+}
+
 /// The lower of 40 and 41 that applies, else the counts.
 pub fn read(record: &[u8]) -> Answer<Counts> {
     // 40: "timetable under 3 bytes, a step running past its end, or bytes left over"

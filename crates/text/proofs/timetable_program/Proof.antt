@@ -44,24 +44,23 @@ print-refusal-requires c κs = search needs
 enum-told : tie.Need-enum-told
 enum-told c = search needs
 
-slice-aggregate-record-end : tie.Need-slice-aggregate-record-end
-slice-aggregate-record-end c = search needs
+slice-aggregate-record-length : tie.Need-slice-aggregate-record-length
+slice-aggregate-record-length c = search needs
 
-record-end-requires : tie.Need-record-end-requires
-record-end-requires c κs =
-    end-fits (c .before .before .before .before .before .before .before .before .before .before .args .input .now) _ _ _ (order-is (c .before .before .before .before .before .before .before .before .before .before .args .input .now) (c .before .before .before .before .before .before .before .before .order-end .result) (c .before .before .before .before .before .before .before .before .order-end .ensures)) (plan-is (c .before .before .before .before .before .before .before .before .before .before .args .input .now) (c .before .before .before .before .before .before .before .before .order-end .result) (c .before .before .before .before .before .before .before .before .order-end .ensures)) (length-replicate {A = ℕ} 65536 0) _ (ap answerOf (sym (c .before .enum-told .given .1)) ∙ c .before .before .before .before .make .ensures .0) (c .before .before .before .before .make .last .1 .1 .0) (c .before .before .before .before .make .ensures .1)
+record-length-requires : tie.Need-record-length-requires
+record-length-requires c κs = search needs
 
 array-share-prefix-buffer : tie.Need-array-share-prefix-buffer
 array-share-prefix-buffer c =
-    subst (λ (n : ℕ). n ≤ length (c .before .before .before .before .before .make .last .1 .1 .0)) (sym (c .record-end .ensures)) (end-fits (c .before .before .before .before .before .before .before .before .before .before .before .args .input .now) _ _ _ (order-is (c .before .before .before .before .before .before .before .before .before .before .before .args .input .now) (c .before .before .before .before .before .before .before .before .before .order-end .result) (c .before .before .before .before .before .before .before .before .before .order-end .ensures)) (plan-is (c .before .before .before .before .before .before .before .before .before .before .before .args .input .now) (c .before .before .before .before .before .before .before .before .before .order-end .result) (c .before .before .before .before .before .before .before .before .before .order-end .ensures)) (length-replicate {A = ℕ} 65536 0) _ (ap answerOf (sym (c .before .before .enum-told .given .1)) ∙ c .before .before .before .before .before .make .ensures .0) (c .before .before .before .before .before .make .last .1 .1 .0) (c .before .before .before .before .before .make .ensures .1))
+    subst (λ (n : ℕ). n ≤ length (c .before .before .before .before .before .make .last .1 .1 .0)) (sym (c .record-length .ensures)) (end-fits (c .before .before .before .before .before .before .before .before .before .before .before .args .input .now) _ _ _ (order-is (c .before .before .before .before .before .before .before .before .before .before .before .args .input .now) (c .before .before .before .before .before .before .before .before .before .order-end .result) (c .before .before .before .before .before .before .before .before .before .order-end .ensures)) (plan-is (c .before .before .before .before .before .before .before .before .before .before .before .args .input .now) (c .before .before .before .before .before .before .before .before .before .order-end .result) (c .before .before .before .before .before .before .before .before .before .order-end .ensures)) (length-replicate {A = ℕ} 65536 0) _ (ap answerOf (sym (c .before .before .enum-told .given .1)) ∙ c .before .before .before .before .before .make .ensures .0) (c .before .before .before .before .before .make .last .1 .1 .0) (c .before .before .before .before .before .make .ensures .1))
 
 slice-aggregate-put-timetable : tie.Need-slice-aggregate-put-timetable
 slice-aggregate-put-timetable c =
-    sym (length-take-le (c .before .record-end .result) (c .before .before .before .before .before .before .make .last .1 .1 .0) (subst (λ (n : ℕ). n ≤ length (c .before .before .before .before .before .before .make .last .1 .1 .0)) (sym (c .before .record-end .ensures)) (end-fits (c .before .before .before .before .before .before .before .before .before .before .before .before .args .input .now) _ _ _ (order-is (c .before .before .before .before .before .before .before .before .before .before .before .before .args .input .now) (c .before .before .before .before .before .before .before .before .before .before .order-end .result) (c .before .before .before .before .before .before .before .before .before .before .order-end .ensures)) (plan-is (c .before .before .before .before .before .before .before .before .before .before .before .before .args .input .now) (c .before .before .before .before .before .before .before .before .before .before .order-end .result) (c .before .before .before .before .before .before .before .before .before .before .order-end .ensures)) (length-replicate {A = ℕ} 65536 0) _ (ap answerOf (sym (c .before .before .before .enum-told .given .1)) ∙ c .before .before .before .before .before .before .make .ensures .0) (c .before .before .before .before .before .before .make .last .1 .1 .0) (c .before .before .before .before .before .before .make .ensures .1))))
+    sym (length-take-le (c .before .record-length .result) (c .before .before .before .before .before .before .make .last .1 .1 .0) (subst (λ (n : ℕ). n ≤ length (c .before .before .before .before .before .before .make .last .1 .1 .0)) (sym (c .before .record-length .ensures)) (end-fits (c .before .before .before .before .before .before .before .before .before .before .before .before .args .input .now) _ _ _ (order-is (c .before .before .before .before .before .before .before .before .before .before .before .before .args .input .now) (c .before .before .before .before .before .before .before .before .before .before .order-end .result) (c .before .before .before .before .before .before .before .before .before .before .order-end .ensures)) (plan-is (c .before .before .before .before .before .before .before .before .before .before .before .before .args .input .now) (c .before .before .before .before .before .before .before .before .before .before .order-end .result) (c .before .before .before .before .before .before .before .before .before .before .order-end .ensures)) (length-replicate {A = ℕ} 65536 0) _ (ap answerOf (sym (c .before .before .before .enum-told .given .1)) ∙ c .before .before .before .before .before .before .make .ensures .0) (c .before .before .before .before .before .before .make .last .1 .1 .0) (c .before .before .before .before .before .before .make .ensures .1))))
 
 put-timetable-requires : tie.Need-put-timetable-requires
 put-timetable-requires c κs =
-    (made-packed (c .before .before .before .before .before .before .before .before .before .before .before .before .before .args .input .now) _ _ _ (order-is (c .before .before .before .before .before .before .before .before .before .before .before .before .before .args .input .now) (c .before .before .before .before .before .before .before .before .before .before .before .order-end .result) (c .before .before .before .before .before .before .before .before .before .before .before .order-end .ensures)) (plan-is (c .before .before .before .before .before .before .before .before .before .before .before .before .before .args .input .now) (c .before .before .before .before .before .before .before .before .before .before .before .order-end .result) (c .before .before .before .before .before .before .before .before .before .before .before .order-end .ensures)) (length-replicate {A = ℕ} 65536 0) _ (ap answerOf (sym (c .before .before .before .before .enum-told .given .1)) ∙ c .before .before .before .before .before .before .before .make .ensures .0) (c .before .before .before .before .before .before .before .make .last .1 .1 .0) (c .before .before .before .before .before .before .before .make .ensures .1) (c .before .before .record-end .result) (c .before .before .record-end .ensures), made-fits (c .before .before .before .before .before .before .before .before .before .before .before .before .before .args .input .now) _ _ _ (order-is (c .before .before .before .before .before .before .before .before .before .before .before .before .before .args .input .now) (c .before .before .before .before .before .before .before .before .before .before .before .order-end .result) (c .before .before .before .before .before .before .before .before .before .before .before .order-end .ensures)) (plan-is (c .before .before .before .before .before .before .before .before .before .before .before .before .before .args .input .now) (c .before .before .before .before .before .before .before .before .before .before .before .order-end .result) (c .before .before .before .before .before .before .before .before .before .before .before .order-end .ensures)) (length-replicate {A = ℕ} 65536 0) _ (ap answerOf (sym (c .before .before .before .before .enum-told .given .1)) ∙ c .before .before .before .before .before .before .before .make .ensures .0) (c .before .before .before .before .before .before .before .make .last .1 .1 .0) (c .before .before .before .before .before .before .before .make .ensures .1) (c .before .before .record-end .result) (c .before .before .record-end .ensures) (c .before .before .before .before .before .before .before .before .before .before .before .before .before .args .out .now) (omega arith))
+    (made-packed (c .before .before .before .before .before .before .before .before .before .before .before .before .before .args .input .now) _ _ _ (order-is (c .before .before .before .before .before .before .before .before .before .before .before .before .before .args .input .now) (c .before .before .before .before .before .before .before .before .before .before .before .order-end .result) (c .before .before .before .before .before .before .before .before .before .before .before .order-end .ensures)) (plan-is (c .before .before .before .before .before .before .before .before .before .before .before .before .before .args .input .now) (c .before .before .before .before .before .before .before .before .before .before .before .order-end .result) (c .before .before .before .before .before .before .before .before .before .before .before .order-end .ensures)) (length-replicate {A = ℕ} 65536 0) _ (ap answerOf (sym (c .before .before .before .before .enum-told .given .1)) ∙ c .before .before .before .before .before .before .before .make .ensures .0) (c .before .before .before .before .before .before .before .make .last .1 .1 .0) (c .before .before .before .before .before .before .before .make .ensures .1) (c .before .before .record-length .result) (c .before .before .record-length .ensures), made-fits (c .before .before .before .before .before .before .before .before .before .before .before .before .before .args .input .now) _ _ _ (order-is (c .before .before .before .before .before .before .before .before .before .before .before .before .before .args .input .now) (c .before .before .before .before .before .before .before .before .before .before .before .order-end .result) (c .before .before .before .before .before .before .before .before .before .before .before .order-end .ensures)) (plan-is (c .before .before .before .before .before .before .before .before .before .before .before .before .before .args .input .now) (c .before .before .before .before .before .before .before .before .before .before .before .order-end .result) (c .before .before .before .before .before .before .before .before .before .before .before .order-end .ensures)) (length-replicate {A = ℕ} 65536 0) _ (ap answerOf (sym (c .before .before .before .before .enum-told .given .1)) ∙ c .before .before .before .before .before .before .before .make .ensures .0) (c .before .before .before .before .before .before .before .make .last .1 .1 .0) (c .before .before .before .before .before .before .before .make .ensures .1) (c .before .before .record-length .result) (c .before .before .record-length .ensures) (c .before .before .before .before .before .before .before .before .before .before .before .before .before .args .out .now) (omega arith))
 
 returns : tie.Need-returns
 returns c =
@@ -69,7 +68,7 @@ returns c =
 
 returns-2 : tie.Need-returns-2
 returns-2 c =
-    wrote-as (made-text (c .before .before .before .before .before .before .before .before .before .before .before .before .before .before .args .input .now) _ _ _ (order-is (c .before .before .before .before .before .before .before .before .before .before .before .before .before .before .args .input .now) (c .before .before .before .before .before .before .before .before .before .before .before .before .order-end .result) (c .before .before .before .before .before .before .before .before .before .before .before .before .order-end .ensures)) (plan-is (c .before .before .before .before .before .before .before .before .before .before .before .before .before .before .args .input .now) (c .before .before .before .before .before .before .before .before .before .before .before .before .order-end .result) (c .before .before .before .before .before .before .before .before .before .before .before .before .order-end .ensures)) (length-replicate {A = ℕ} 65536 0) _ (ap answerOf (sym (c .before .before .before .before .before .enum-told .given .1)) ∙ c .before .before .before .before .before .before .before .before .make .ensures .0) (c .before .before .before .before .before .before .before .before .make .last .1 .1 .0) (c .before .before .before .before .before .before .before .before .make .ensures .1) (c .before .before .before .record-end .result) (c .before .before .before .record-end .ensures)) (c .put-timetable .ensures)
+    wrote-as (made-text (c .before .before .before .before .before .before .before .before .before .before .before .before .before .before .args .input .now) _ _ _ (order-is (c .before .before .before .before .before .before .before .before .before .before .before .before .before .before .args .input .now) (c .before .before .before .before .before .before .before .before .before .before .before .before .order-end .result) (c .before .before .before .before .before .before .before .before .before .before .before .before .order-end .ensures)) (plan-is (c .before .before .before .before .before .before .before .before .before .before .before .before .before .before .args .input .now) (c .before .before .before .before .before .before .before .before .before .before .before .before .order-end .result) (c .before .before .before .before .before .before .before .before .before .before .before .before .order-end .ensures)) (length-replicate {A = ℕ} 65536 0) _ (ap answerOf (sym (c .before .before .before .before .before .enum-told .given .1)) ∙ c .before .before .before .before .before .before .before .before .make .ensures .0) (c .before .before .before .before .before .before .before .before .make .last .1 .1 .0) (c .before .before .before .before .before .before .before .before .make .ensures .1) (c .before .before .before .record-length .result) (c .before .before .before .record-length .ensures)) (c .put-timetable .ensures)
 
 pub timetable-program-spec : {M : Type 1} → statement M
 timetable-program-spec =
@@ -85,8 +84,8 @@ timetable-program-spec =
     enum-known-fault
     print-refusal-requires
     enum-told
-    slice-aggregate-record-end
-    record-end-requires
+    slice-aggregate-record-length
+    record-length-requires
     array-share-prefix-buffer
     slice-aggregate-put-timetable
     put-timetable-requires

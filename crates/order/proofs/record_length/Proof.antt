@@ -1,0 +1,42 @@
+-- `order::record_length` meets its contract: the length by the counts, or none. Assumes nothing.
+use mathlib.Core.Path.{sym}
+use native.Mathlib.Omega.{arith}
+use Rattle.field.specs.Units.{unitsLength}
+use Rattle.field.specs.Front.{whole-as, whole-none}
+use Rattle.order.specs.Order.{unitCount}
+use Rattle.order.specs.RecordLength.{orderLength, wholeOrderLength}
+use borrow.Author.Needs.{needs}
+use Rattle.order.proofs.record_length.Statement.{statement}
+use Rattle.order.proofs.record_length.Tie as tie
+
+returns : tie.Need-returns
+unfolding wholeOrderLength orderLength unitsLength
+returns c = sym (whole-none _ _ (omega arith))
+
+counts-of-requires : tie.Need-counts-of-requires
+counts-of-requires c κs = search needs
+
+add-len : tie.Need-add-len
+add-len c = search needs
+
+mul-len : tie.Need-mul-len
+mul-len c = search needs
+
+add-len-2 : tie.Need-add-len-2
+add-len-2 c = search needs
+
+add-len-3 : tie.Need-add-len-3
+add-len-3 c = search needs
+
+returns-2 : tie.Need-returns-2
+unfolding wholeOrderLength orderLength unitsLength unitCount
+returns-2 c = sym (whole-none _ _ (omega arith))
+
+returns-3 : tie.Need-returns-3
+unfolding wholeOrderLength orderLength unitsLength unitCount
+returns-3 c = whole-as _ _ _ (omega arith) (omega arith)
+
+pub record-length-spec : {M : Type 1} → statement M
+record-length-spec =
+    tie.close
+    (tie.spec returns counts-of-requires add-len mul-len add-len-2 add-len-3 returns-2 returns-3)

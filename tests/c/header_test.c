@@ -1,0 +1,104 @@
+/* What the header itself has: the version, the numbers with their words, and the helpers that read records. */
+#include <string.h>
+
+#include "expect.h"
+#include "wichteab.h"
+
+struct fault {
+    uint32_t constant;
+    uint32_t number;
+    const char *family;
+};
+
+static const struct fault faults[] = {
+    {WICHTEAB_ORDER_LENGTH, 10, "order"},
+    {WICHTEAB_ORDER_POSITIONS, 11, "order"},
+    {WICHTEAB_ORDER_PADDING, 12, "order"},
+    {WICHTEAB_ORDER_EDGE, 13, "order"},
+    {WICHTEAB_ORDER_RACK, 14, "order"},
+    {WICHTEAB_FLOOR_CROWDED, 20, "floor"},
+    {WICHTEAB_FLOOR_NOT_BICONNECTED, 21, "floor"},
+    {WICHTEAB_FLOOR_RING, 22, "floor"},
+    {WICHTEAB_PLAN_BUFFER, 23, "floor"},
+    {WICHTEAB_PLAN_LENGTH, 30, "plan"},
+    {WICHTEAB_PLAN_PADDING, 31, "plan"},
+    {WICHTEAB_PLAN_MOVE, 32, "plan"},
+    {WICHTEAB_PLAN_GOAL, 33, "plan"},
+    {WICHTEAB_TIMETABLE_LENGTH, 40, "timetable"},
+    {WICHTEAB_TIMETABLE_PADDING, 41, "timetable"},
+    {WICHTEAB_TIMETABLE_STEP, 42, "timetable"},
+    {WICHTEAB_TIMETABLE_GOAL, 43, "timetable"},
+    {WICHTEAB_TIMETABLE_BUFFER, 44, "timetable"},
+    {WICHTEAB_STEP_NUMBER, 45, "timetable"},
+};
+#define FAULTS (sizeof faults / sizeof faults[0])
+
+static int listed(uint32_t number)
+{
+    size_t i;
+    for (i = 0; i < FAULTS; i++) {
+        if (faults[i].number == number) {
+            return 1;
+        }
+    }
+    return 0;
+}
+
+/* Each number has its own sentence, and a number that is not listed the one of the unknown. */
+static void run_words(void)
+{
+    const char *unknown = wichteab_reason(255);
+    uint32_t number = 1;
+    size_t i;
+    for (i = 0; i < FAULTS; i++) {
+        const char *reason = wichteab_reason(faults[i].constant);
+        expect(faults[i].constant == faults[i].number, "a constant and its number");
+        expect(strcmp(wichteab_family(faults[i].constant), faults[i].family) == 0, "a family");
+        expect(strcmp(reason, unknown) != 0 && reason[strlen(reason) - 1] == '.', "a reason");
+    }
+    expect(strcmp(wichteab_reason(WICHTEAB_ACCEPTED), "Accepted.") == 0, "the reason of 0");
+    while (number < 256 && (listed(number) || strcmp(wichteab_reason(number), unknown) == 0)) {
+        number++;
+    }
+    expect(number == 256, "the reason of a number that is not listed");
+    expect(strcmp(wichteab_family(WICHTEAB_ACCEPTED), "other") == 0, "the family of 0");
+    expect(strcmp(wichteab_family(50), "other") == 0, "the family of 50");
+}
+
+static void run_version(void)
+{
+    char numbers[40];
+    sprintf(numbers, "%d.%d.%d", WICHTEAB_VERSION_MAJOR, WICHTEAB_VERSION_MINOR, WICHTEAB_VERSION_PATCH);
+    expect(strcmp(numbers, WICHTEAB_VERSION) == 0, "the version's numbers are its string's");
+}
+
+static int is(struct wichteab_move move, unsigned left, unsigned entered)
+{
+    return move.left == left && move.entered == entered;
+}
+
+/* The case book's order, plan and timetable, read by the helpers. */
+static void run_records(void)
+{
+    static const uint8_t order[] = {0x08, 0x0A, 0x08, 0x00, 0x10, 0x02, 0x04, 0x20, 0x43, 0x08, 0x30, 0x03, 0x0C, 0x00};
+    static const uint8_t plan[] = {0x00, 0x00, 0x10, 0x00, 0x10, 0xC2, 0x08, 0x00, 0x43};
+    static const uint8_t timetable[] = {0x00, 0x00, 0x08, 0x02, 0x00, 0x10, 0xC2, 0x02, 0x04, 0x30, 0x80};
+    static const uint8_t ends[] = {0x03, 0x03, 0xFF, 0xC0, 0xFF, 0xF0}; /* a step of 0>63, 63>0, 63>63 */
+    const uint8_t *second = timetable + wichteab_step_offset(wichteab_timetable_step(timetable, sizeof timetable, 2));
+    expect(wichteab_order_positions(order) == 4, "wichteab_order_positions");
+    expect(is(wichteab_plan_move(plan, 1), 0, 1) && is(wichteab_plan_move(plan, 2), 3, 2), "moves 1 and 2 of the plan");
+    expect(is(wichteab_plan_move(plan, 3), 2, 0) && is(wichteab_plan_move(plan, 4), 1, 3), "moves 3 and 4 of the plan");
+    expect(wichteab_step_moves(second) == 2, "the moves of step 2");
+    expect(is(wichteab_step_move(second, 1), 1, 3) && is(wichteab_step_move(second, 2), 2, 0), "step 2");
+    expect(wichteab_step_moves(ends) == 3 && is(wichteab_step_move(ends, 1), 0, 63), "the first of three");
+    expect(is(wichteab_step_move(ends, 2), 63, 0), "the second of three");
+    expect(is(wichteab_step_move(ends, 3), 63, 63), "the third of three");
+}
+
+int main(void)
+{
+    run_version();
+    run_words();
+    run_records();
+    return close_tests();
+}

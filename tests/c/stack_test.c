@@ -1,0 +1,270 @@
+/*
+ * The header says that 512 KiB of stack are enough for every exported function. Each one runs here on a thread that
+ * has just that, below it a page that may not be touched, on floors of 64 positions: the 8 by 8 grid and a ring with
+ * one handle, both with 62 racks, and a train of 63. It has to give what it gives on the main thread. How much of the
+ * stack was touched is printed; some KiB of it are the thread's own start.
+ */
+#define _DEFAULT_SOURCE
+#include <pthread.h>
+#include <stdlib.h>
+#include <string.h>
+#include <sys/mman.h>
+
+#include "expect.h"
+#include "wichteab.h"
+
+#define STACK (512 * 1024)
+#define GUARD (64 * 1024)
+#define POSITIONS 64
+#define MOST_MOVES (8 * POSITIONS * POSITIONS * POSITIONS)
+
+/* A record written from its fields, most significant bit first. */
+struct record {
+    uint8_t bytes[WICHTEAB_ORDER_LONGEST];
+    size_t bits;
+};
+
+static struct record order;
+static size_t order_length;
+static uint8_t plan[12 * POSITIONS * POSITIONS * POSITIONS + 3], timetable[3 * MOST_MOVES + 3];
+static size_t plan_length, timetable_length;
+
+static void begin(struct record *record)
+{
+    memset(record, 0, sizeof *record);
+}
+
+static void put(struct record *record, unsigned value, unsigned width)
+{
+    while (width-- > 0) {
+        record->bytes[record->bits / 8] |= (uint8_t)((value >> width & 1) << (7 - record->bits % 8));
+        record->bits++;
+    }
+}
+
+static size_t length_of(const struct record *record)
+{
+    return (record->bits + 7) / 8;
+}
+
+/* The order's counts; edges, starts and goals are put behind them. */
+static void begin_order(unsigned edges, unsigned racks)
+{
+    begin(&order);
+    put(&order, POSITIONS, 7);
+    put(&order, edges, 8);
+    put(&order, racks, 7);
+    put(&order, 0, 2);
+}
+
+static void put_pair(struct record *record, unsigned first, unsigned second)
+{
+    put(record, first, 6);
+    put(record, second, 6);
+}
+
+/* The 112 edges of the 8 by 8 grid, positions row by row. */
+static void put_grid(void)
+{
+    unsigned at;
+    for (at = 0; at < POSITIONS; at++) {
+        if (at % 8 < 7) {
+            put_pair(&order, at, at + 1);
+        }
+        if (at < POSITIONS - 8) {
+            put_pair(&order, at, at + 8);
+        }
+    }
+}
+
+/* Positions 0 to 62 in a ring, and 63 beside it, joined to 0 and 2. */
+static void put_ring_and_handle(void)
+{
+    unsigned at;
+    put_pair(&order, 0, 1);
+    put_pair(&order, 0, 62);
+    put_pair(&order, 0, 63);
+    for (at = 1; at < 62; at++) {
+        put_pair(&order, at, at + 1);
+        if (at == 2) {
+            put_pair(&order, 2, 63);
+        }
+    }
+}
+
+/* 62 racks at 0 to 61; the goal of rack 1 is the last position, and so on downwards. */
+static void put_racks_turned_round(void)
+{
+    unsigned rack;
+    for (rack = 0; rack < 62; rack++) {
+        put(&order, rack, 6);
+    }
+    for (rack = 0; rack < 62; rack++) {
+        put(&order, POSITIONS - 1 - rack, 6);
+    }
+    order_length = length_of(&order);
+}
+
+/* The position of this number on the way through the grid, row after row, there and back. */
+static unsigned on_the_way(unsigned number)
+{
+    unsigned row = number / 8, column = number % 8;
+    return 8 * row + (row % 2 == 0 ? column : 7 - column);
+}
+
+/* 63 racks, each going one place along the way in one step: the first mover's chain has all of them. */
+static void put_train(void)
+{
+    struct record step;
+    unsigned number, at;
+    begin_order(112, 63);
+    put_grid();
+    begin(&step);
+    put(&step, 1, 22);
+    put(&step, 0, 2);
+    put(&step, 63, 8);
+    for (number = 0; number < 63; number++) {
+        put(&order, on_the_way(number), 6);
+    }
+    for (number = 1; number < 64; number++) {
+        put(&order, on_the_way(number), 6);
+    }
+    for (at = 0; at < POSITIONS; at++) {
+        number = on_the_way(at); /* the way there is its own way back */
+        if (number < 63) {
+            put_pair(&step, at, on_the_way(number + 1));
+        }
+    }
+    order_length = length_of(&order);
+    timetable_length = length_of(&step);
+    memcpy(timetable, step.bytes, timetable_length);
+}
+
+static uint64_t order_check(void)
+{
+    return wichteab_order_check(order.bytes, order_length);
+}
+
+static uint64_t order_end(void)
+{
+    return wichteab_order_length(order.bytes, order_length);
+}
+
+static uint64_t floor_check(void)
+{
+    return wichteab_floor_check(order.bytes, order_length);
+}
+
+static uint64_t plan_make(void)
+{
+    return wichteab_plan_make(order.bytes, order_length, plan, sizeof plan);
+}
+
+static uint64_t plan_check(void)
+{
+    return wichteab_plan_check(order.bytes, order_length, plan, plan_length);
+}
+
+static uint64_t timetable_make(void)
+{
+    return wichteab_timetable_make(order.bytes, order_length, plan, plan_length, timetable, sizeof timetable);
+}
+
+static uint64_t timetable_end(void)
+{
+    return wichteab_timetable_length(timetable, sizeof timetable);
+}
+
+static uint64_t timetable_check(void)
+{
+    return wichteab_timetable_check(order.bytes, order_length, timetable, timetable_length);
+}
+
+static uint64_t timetable_step(void)
+{
+    return wichteab_timetable_step(timetable, timetable_length, 1);
+}
+
+/* A call and what it gave. */
+struct call {
+    uint64_t (*function)(void);
+    uint64_t result;
+};
+
+static void *make_call(void *argument)
+{
+    struct call *call = (struct call *)argument;
+    call->result = call->function();
+    return NULL;
+}
+
+/* What the function gives on a thread with 512 KiB of stack. */
+static uint64_t on_small_stack(uint64_t (*function)(void), const char *name)
+{
+    struct call call = {function, 0};
+    uint8_t *stack = (uint8_t *)mmap(NULL, GUARD + STACK, PROT_READ | PROT_WRITE, MAP_PRIVATE | MAP_ANONYMOUS, -1, 0);
+    size_t touched = STACK;
+    pthread_attr_t attributes;
+    pthread_t thread;
+    if (stack == (uint8_t *)MAP_FAILED || mprotect(stack, GUARD, PROT_NONE) != 0) {
+        abort();
+    }
+    stack += GUARD;
+    memset(stack, FILL, STACK);
+    if (pthread_attr_init(&attributes) != 0 || pthread_attr_setstack(&attributes, stack, STACK) != 0 ||
+        pthread_create(&thread, &attributes, make_call, &call) != 0 || pthread_join(thread, NULL) != 0) {
+        abort();
+    }
+    while (touched > 0 && stack[STACK - touched] == FILL) {
+        touched--;
+    }
+    printf("%s: %u KiB\n", name, (unsigned)(touched + 1023) / 1024);
+    fflush(stdout);
+    pthread_attr_destroy(&attributes);
+    munmap(stack - GUARD, GUARD + STACK);
+    return call.result;
+}
+
+/* The same on both stacks; what it gave. */
+static uint64_t run(uint64_t (*function)(void), const char *name)
+{
+    uint64_t result = on_small_stack(function, name);
+    expect(result == function(), name);
+    return result;
+}
+
+/* Every function in turn on one order that can be planned. */
+static void run_all(void)
+{
+    uint64_t planned, checked;
+    expect(run(order_check, "wichteab_order_check") == 0, "a well-formed order");
+    expect(run(order_end, "wichteab_order_length") == order_length, "of its length");
+    expect(run(floor_check, "wichteab_floor_check") == 0, "that can be planned");
+    planned = run(plan_make, "wichteab_plan_make");
+    plan_length = wichteab_plan_length(wichteab_plan_moves(planned));
+    expect(wichteab_number(planned) == 0, "planned");
+    expect(run(plan_check, "wichteab_plan_check") == planned, "and its plan accepted");
+    expect(wichteab_number(run(timetable_make, "wichteab_timetable_make")) == 0, "timetabled");
+    timetable_length = (size_t)run(timetable_end, "wichteab_timetable_length");
+    checked = run(timetable_check, "wichteab_timetable_check");
+    expect(wichteab_number(checked) == 0, "and its timetable accepted");
+    expect(wichteab_timetable_moves(checked) == wichteab_plan_moves(planned), "with the plan's moves");
+    expect(wichteab_number(run(timetable_step, "wichteab_timetable_step")) == 0, "with a first step");
+}
+
+int main(void)
+{
+    uint64_t answer;
+    begin_order(112, 62);
+    put_grid();
+    put_racks_turned_round();
+    run_all();
+    begin_order(65, 62);
+    put_ring_and_handle();
+    put_racks_turned_round();
+    run_all();
+    put_train();
+    answer = run(timetable_check, "wichteab_timetable_check, a train of 63");
+    expect(wichteab_number(answer) == 0 && wichteab_timetable_moves(answer) == 63, "the train is accepted");
+    return close_tests();
+}

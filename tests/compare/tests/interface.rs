@@ -1,0 +1,134 @@
+//! What a person and a C programmer are given, held to sources that are not the product: the header's numbers to
+//! the faults of the code, the order in examples/ to its fields, and what the examples are expected to print to
+//! the second implementation. Where an expectation is out of date, the failure prints the text that is due.
+
+use std::collections::BTreeMap;
+use std::fs;
+use std::path::{Path, PathBuf};
+
+use compare::floors::{self, Floor};
+use compare::packed;
+use compare::proved;
+use compare::write::Order;
+use second::program::timetable_program;
+
+/// A file of the repository.
+fn file(name: &str) -> Vec<u8> {
+    let path: PathBuf = Path::new(env!("CARGO_MANIFEST_DIR")).join("../..").join(name);
+    fs::read(&path).unwrap_or_else(|error| panic!("{}: {error}", path.display()))
+}
+
+fn text(name: &str) -> String {
+    String::from_utf8(file(name)).expect("ASCII")
+}
+
+/// `NotBiconnected` as `NOT_BICONNECTED`.
+fn upper_snake(name: &str) -> String {
+    let mut upper = String::new();
+    for letter in name.chars() {
+        if letter.is_uppercase() && !upper.is_empty() {
+            upper.push('_');
+        }
+        upper.push(letter.to_ascii_uppercase());
+    }
+    upper
+}
+
+/// The lines of a text that read `PREFIX name MIDDLE number`, with what follows the number up to a comma or space.
+fn numbers(text: &str, prefix: &str, middle: &str) -> BTreeMap<String, u32> {
+    text.lines()
+        .filter_map(|line| {
+            let (name, rest) = line.trim().strip_prefix(prefix)?.split_once(middle)?;
+            let digits: String = rest.chars().take_while(char::is_ascii_digit).collect();
+            Some((name.to_string(), digits.parse().ok()?))
+        })
+        .collect()
+}
+
+#[test]
+fn the_headers_numbers_are_the_faults_of_the_code() {
+    let faults = numbers(&text("crates/answers/src/lib.rt"), "Fault::", " => ");
+    let mut expected: BTreeMap<String, u32> =
+        faults.iter().map(|(name, &number)| (upper_snake(name), number)).collect();
+    expected.insert("ACCEPTED".to_string(), 0);
+    assert!(faults.len() >= 19, "only {} faults were found", faults.len());
+    assert_eq!(numbers(&text("include/wichteab.h"), "WICHTEAB_", " = "), expected);
+}
+
+/// The case book's order: the floor F, rack 1 from 0 to 3, rack 2 from 3 to 0.
+fn casebook() -> Order {
+    let edges = vec![(0, 1), (0, 2), (1, 2), (1, 3), (2, 3)];
+    Order { n: 4, edges, starts: vec![0, 3], goals: vec![3, 0], spare: 0, pad: 0 }
+}
+
+/// 4 by 4 positions, numbered row by row, side neighbours joined. Racks 1 to 14 stand at 0 to 13; 14 and 15 are vacant.
+/// Rack 6 is called from the middle of the floor, position 5, to the corner 15, and every other rack is to stand where
+/// it stood.
+fn four_by_four() -> Order {
+    let Floor { n, edges } = floors::grid(4, 4);
+    let starts: Vec<u8> = (0..14).collect();
+    let mut goals = starts.clone();
+    goals[5] = 15;
+    Order { n, edges, starts, goals, spare: 0, pad: 0 }
+}
+
+#[test]
+fn the_orders_in_examples_are_the_records_of_their_fields() {
+    assert_eq!(file("examples/casebook.order"), casebook().record());
+    assert_eq!(file("examples/four_by_four.order"), four_by_four().record());
+}
+
+/// The proved planner's plan, judged by the second implementation.
+fn plan(order: &[u8]) -> Vec<u8> {
+    let before = vec![0x55; 65_536];
+    let mut buffer = before.clone();
+    let answer = packed::to_count(proved::plan_make(order, &mut buffer));
+    assert_eq!(second::planning::fault(order, &before, &buffer, answer), None);
+    buffer.truncate(second::plan::length(answer.expect("planned") as usize));
+    buffer
+}
+
+/// What examples/order.c prints.
+fn described(order: &Order) -> String {
+    let (n, e, m) = (order.n, order.edges.len(), order.starts.len());
+    let edges: Vec<String> = order.edges.iter().map(|(a, b)| format!("{a}-{b}")).collect();
+    let mut lines = format!("positions {n} edges {e} racks {m} vacant {}\n{}\n", n - m, edges.join(" "));
+    for (index, (start, goal)) in order.starts.iter().zip(&order.goals).enumerate() {
+        lines += &format!("rack {} from {start} to {goal}\n", index + 1);
+    }
+    lines
+}
+
+#[test]
+fn what_examples_run_prints() {
+    let one = |name: &str, order: &Order| {
+        let record = order.record();
+        let timetable = timetable_program(&[record.clone(), plan(&record)].concat());
+        format!("{name}\n{}\n{timetable}", described(order))
+    };
+    let expected =
+        [one("examples/casebook.order", &casebook()), one("examples/four_by_four.order", &four_by_four())]
+            .join("\n");
+    assert!(text("examples/run.expected") == expected, "examples/run.expected is due to read:\n{expected}");
+}
+
+#[test]
+fn what_the_delivery_example_prints() {
+    let order = four_by_four().record();
+    let plan = plan(&order);
+    let k = second::plan::check(&order, &plan).expect("accepted");
+    let mut timetable = vec![0; 3 * k as usize + 3];
+    let s = second::making::make(&order, &plan, &mut timetable).expect("made");
+    let end = second::timetable::length(&timetable).expect("whole");
+    let counts = second::timetable::check(&order, &timetable[..end]).expect("accepted");
+    let expected = format!(
+        "plan: moves {k} bytes {}\ntimetable: steps {s} bytes {end}\nchecked: steps {} moves {}\n",
+        plan.len(),
+        counts.steps,
+        counts.moves
+    );
+    assert!(
+        text("examples/delivery.expected") == expected,
+        "examples/delivery.expected is due to read:\n{expected}"
+    );
+}
