@@ -1,4 +1,5 @@
 pub mod Writing
+pub mod Leaving
 pub mod Passing
 pub mod Windowing
 pub mod Making

@@ -5,17 +5,20 @@
 --     rowMoves t i           the moves of row i
 --     rows t i k             the moves of the k rows from row i on
 --     EntriesFit t           every entry is a position, plus 1, or 0
+--     Left t m               m has for each row the set of the positions that its moves leave
+--     KeepsLeft t m t′ m′    where that holds of t and m, it holds of t′ and m′
 --     stepBytes ms           a step of the timetable record, as bytes
 --     stepsBytes l           steps of the timetable record, one after another
---     countWith n e          how many moves a step of n moves has with the entry e
---     bufferWith s at n p e  the byte string s with the move of the entry e of position p behind the n moves of the step that begins at byte `at`
 -- Assumes nothing.
-use Prim.Native.Nat.{ℕ, zero, suc, _+_, _-_, _*_, _≤_}
+use Prim.Native.Nat.{ℕ, zero, suc, _+_, _-_, _*_, _≤_, _<_}
 use mathlib.Core.Bool.{cond}
 use mathlib.Core.List.{List, [], _∷_, _++_}
-use lib.ListN.{length, getD, take, drop}
+use mathlib.Core.Logic.{_↔_, _≢_}
+use mathlib.Core.Path.{_≡_}
+use lib.ListN.{length, getD}
 use lib.Dec.{eqb}
-use Rattle.field.specs.Packing.{pack, putPair}
+use Rattle.field.specs.Packing.{pack}
+use Rattle.sets.specs.Sets.{Has}
 
 unfoldable pub rowFrom : List ℕ → ℕ → ℕ → ℕ → List (ℕ × ℕ)
 rowFrom t i p zero = []
@@ -41,8 +44,11 @@ stepsBytes (ms ∷ l) = stepBytes ms ++ stepsBytes l
 pub record EntriesFit (t : List ℕ) : Type 0 where
   pub at-most : (i : ℕ) → getD t i 0 ≤ 64
 
-unfoldable pub countWith : ℕ → ℕ → ℕ
-countWith n e = cond (eqb e 0) n (n + 1)
+-- so that a row's moves are found without looking at the entries in between
+pub record Left (t m : List ℕ) : Type 0 where
+  pub entries : length t ≡ 262144
+  pub sets : length m ≡ 4096
+  pub has : (i p : ℕ) → i < 4096 → Has (getD m i 0) p ↔ ((p < 64) × (getD t (i * 64 + p) 0 ≢ 0))
 
-unfoldable pub bufferWith : List ℕ → ℕ → ℕ → ℕ → ℕ → List ℕ
-bufferWith s at n p e = cond (eqb e 0) s (take (at + 1) s ++ putPair (drop (at + 1) s) n p (e - 1))
+abbrev pub KeepsLeft : List ℕ → List ℕ → List ℕ → List ℕ → Type 0
+KeepsLeft t m t′ m′ = Left t m → Left t′ m′

@@ -14,34 +14,30 @@ ghost use Rattle.plan.specs.Verdict.{answerOf as planAnswerOf};
 ghost use Rattle.scheduling.specs.Filling.{noted, Filled, latest};
 ghost use Rattle.scheduling.specs.Windows.{rowsOf, windowSteps, allSteps};
 ghost use Rattle.scheduling.specs.Maker.{makerAnswer, bufferAfter, answerOf};
-ghost use Rattle.scheduling.specs.Rows.{EntriesFit, rowMoves, rows, stepBytes, stepsBytes, countWith, bufferWith};
+ghost use Rattle.scheduling.specs.Rows.{EntriesFit, Left, KeepsLeft, rowMoves, rows, stepBytes, stepsBytes};
 
-// Writes the move of an entry of a row behind the `count` moves that its step has so far, and says how many it has then. An entry of 0 is no
-// move.
-fn write_entry(entry: usize, p: usize, buffer: &mut [u8], at: usize, count: usize) -> usize
-    requires { ⌜ (entry ≤ 64) × (p < 64) × (count < 64) × (at + 1 + (12 * countWith count entry + 7) / 8 ≤ length (now buffer)) ⌝ }
-    ensures { λ r. ⌜ (r ≡ countWith count entry) × (now (buffer .exit) ≡ bufferWith (now (buffer .entry)) at count p entry) ⌝ }
-{
-    if entry == 0 {
-        return count;
-    }
-    field::put_pair(&mut buffer[at + 1..], count, p, entry - 1);
-    count + 1
-}
-
-// Writes the step that a row of the window holds from byte `at` on, and says where the next one begins. The count is known last, and
-// written last.
-fn write_step(window: &[u8; 262144], row: usize, buffer: &mut [u8], at: usize) -> usize
-    requires { ⌜ (row < 4096) × (Fits (now buffer) at (stepBytes (rowMoves (now window) row)) × EntriesFit (now window)) ⌝ }
+// Writes the step that a row of the window holds from byte `at` on, and says where the next one begins. Only the entries of the positions that
+// its moves leave are read, the lowest first. The count is known last, and written last.
+fn write_step(
+    window: &[u8; 262144],
+    leaving: &[u64; 4096],
+    row: usize,
+    buffer: &mut [u8],
+    at: usize,
+) -> usize
+    requires { ⌜ (row < 4096) × Fits (now buffer) at (stepBytes (rowMoves (now window) row)) ⌝ }
+    requires { ⌜ EntriesFit (now window) × Left (now window) (now leaving) ⌝ }
     ensures { λ r. ⌜ Wrote (now (buffer .entry)) at (stepBytes (rowMoves (now (window .entry)) row)) (now (buffer .exit)) r ⌝ }
 {
     let base = row * 64;
     let mut count = 0;
-    let mut p = 0;
-    while p < 64 {
+    let mut rest = leaving[row];
+    while rest != 0 {
+        let p = sets::lowest(rest);
         let entry = field::wide(window[base + p]);
-        count = write_entry(entry, p, buffer, at, count);
-        p += 1;
+        field::put_pair(&mut buffer[at + 1..], count, p, entry - 1);
+        count += 1;
+        rest = sets::without(rest, p);
     }
     buffer[at] = count as u8;
     at + 1 + (12 * count + 7) / 8
@@ -58,9 +54,17 @@ fn later(x: usize, y: usize) -> usize
 }
 
 // Enters the move from a to b, of step t, into the window of the 4096 steps after step `first`, if that has its step.
-fn note(window: &mut [u8; 262144], first: usize, t: usize, a: usize, b: usize)
+fn note(
+    window: &mut [u8; 262144],
+    leaving: &mut [u64; 4096],
+    first: usize,
+    t: usize,
+    a: usize,
+    b: usize,
+)
     requires { ⌜ (a < 64) × (b < 64) ⌝ }
     ensures { λ _. ⌜ now (window .exit) ≡ noted first (now (window .entry)) t a b ⌝ }
+    ensures { λ _. ⌜ KeepsLeft (now (window .entry)) (now (leaving .entry)) (now (window .exit)) (now (leaving .exit)) ⌝ }
 {
     if t <= first {
         return;
@@ -68,14 +72,22 @@ fn note(window: &mut [u8; 262144], first: usize, t: usize, a: usize, b: usize)
     let row = t - 1 - first;
     if row < 4096 {
         window[row * 64 + a] = (b + 1) as u8;
+        leaving[row] = sets::with(leaving[row], a);
     }
 }
 
 // One pass over the k moves of a plan's tail: enters those of the 4096 steps after step `first` into the window, and gives the greatest step.
 // A rack's last step is kept where it now stands, so that no arrangement is needed.
-fn fill(tail: &[u8], k: usize, first: usize, window: &mut [u8; 262144]) -> usize
+fn fill(
+    tail: &[u8],
+    k: usize,
+    first: usize,
+    window: &mut [u8; 262144],
+    leaving: &mut [u64; 4096],
+) -> usize
     requires { ⌜ (k < 2 ^ 22) × (12 * k ≤ 8 * length (now tail)) ⌝ }
     ensures { λ r. ⌜ Filled first (now (window .entry)) (pairs (now (tail .entry)) 0 k) r (now (window .exit)) ⌝ }
+    ensures { λ _. ⌜ KeepsLeft (now (window .entry)) (now (leaving .entry)) (now (window .exit)) (now (leaving .exit)) ⌝ }
 {
     let mut arrived = [0usize; 64];
     let mut left = [0usize; 64];
@@ -88,7 +100,7 @@ fn fill(tail: &[u8], k: usize, first: usize, window: &mut [u8; 262144]) -> usize
         let t = later(arrived[a] + 1, left[b]);
         arrived[b] = t;
         left[a] = t;
-        note(window, first, t, a, b);
+        note(window, leaving, first, t, a, b);
         greatest = later(greatest, t);
         j += 1;
     }
@@ -109,14 +121,21 @@ fn rows_of(s: usize, first: usize) -> usize
 }
 
 // Writes the steps of the window's first n rows from byte `at` on, and says where the next step begins.
-fn write_window(window: &[u8; 262144], n: usize, buffer: &mut [u8], at: usize) -> usize
-    requires { ⌜ (n ≤ 4096) × (Fits (now buffer) at (stepsBytes (rows (now window) 0 n)) × EntriesFit (now window)) ⌝ }
+fn write_window(
+    window: &[u8; 262144],
+    leaving: &[u64; 4096],
+    n: usize,
+    buffer: &mut [u8],
+    at: usize,
+) -> usize
+    requires { ⌜ (n ≤ 4096) × Fits (now buffer) at (stepsBytes (rows (now window) 0 n)) ⌝ }
+    requires { ⌜ EntriesFit (now window) × Left (now window) (now leaving) ⌝ }
     ensures { λ r. ⌜ Wrote (now (buffer .entry)) at (stepsBytes (rows (now (window .entry)) 0 n)) (now (buffer .exit)) r ⌝ }
 {
     let mut next = at;
     let mut row = 0;
     while row < n {
-        next = write_step(window, row, buffer, next);
+        next = write_step(window, leaving, row, buffer, next);
         row += 1;
     }
     next
@@ -134,9 +153,10 @@ fn make_window(tail: &[u8], k: usize, first: usize, buffer: &mut [u8], at: usize
     ensures { λ r. ⌜ (r .steps ≡ latest (pairs (now (tail .entry)) 0 k)) × Wrote (now (buffer .entry)) at (stepsBytes (windowSteps (pairs (now (tail .entry)) 0 k) first)) (now (buffer .exit)) (r .next) ⌝ }
 {
     let mut window = [0u8; 262144];
-    let s = fill(tail, k, first, &mut window);
+    let mut leaving = [0u64; 4096];
+    let s = fill(tail, k, first, &mut window, &mut leaving);
     let n = rows_of(s, first);
-    let next = write_window(&window, n, buffer, at);
+    let next = write_window(&window, &leaving, n, buffer, at);
     Progress { steps: s, next }
 }
 

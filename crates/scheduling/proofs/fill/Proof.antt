@@ -2,19 +2,22 @@
 use Prim.Native.Nat.{_≤_, _-_}
 use native.Mathlib.Omega.{arith}
 use borrow.Author.Needs.{needs}
+use Rattle.scheduling.specs.Rows.{KeepsLeft}
 use Rattle.scheduling.proofs.Passing.{ToPass, pass-first, pass-next, pass-last}
 use Rattle.scheduling.proofs.fill.Statement.{statement}
 use Rattle.scheduling.proofs.fill.Tie as tie
 
 abbrev Inv-loop : tie.InvT-loop
-Inv-loop tail k first window₀ arrived₀ left₀ greatest₀ j₀ window arrived left greatest j =
-    (j ≤ k) × ToPass tail k first window₀ window arrived left greatest j
+Inv-loop tail k first window₀ leaving₀ arrived₀ left₀ greatest₀ j₀ window leaving arrived left greatest j =
+    (j ≤ k) × ToPass tail k first window₀ window arrived left greatest j × KeepsLeft window₀ leaving₀ window leaving
 
 abbrev μ-loop : tie.MeasureT-loop
-μ-loop tail k first window₀ arrived₀ left₀ greatest₀ j₀ window arrived left greatest j = k - j
+μ-loop tail k first window₀ leaving₀ arrived₀ left₀ greatest₀ j₀ window leaving arrived left greatest j = k - j
 
 loop-holds : tie.Need-loop-holds Inv-loop μ-loop
-loop-holds c = (omega arith, pass-first (c .before .args .tail .now) (c .before .args .k) (c .before .args .first) (c .before .args .window .now))
+loop-holds c =
+    let s = c .before .args in
+    (omega arith, pass-first (s .tail .now) (s .k) (s .first) (s .window .now), λ left. left)
 
 pair-at-requires : tie.Need-pair-at-requires Inv-loop μ-loop
 pair-at-requires c κs = omega arith
@@ -62,10 +65,27 @@ loop-less : tie.Need-loop-less Inv-loop μ-loop
 loop-less c = omega arith
 
 loop-again : tie.Need-loop-again Inv-loop μ-loop
-loop-again c = (omega arith, pass-next (c .before .before .before .before .before .before .before .before .args .tail .now) (c .before .before .before .before .before .before .before .before .args .k) (c .before .before .before .before .before .before .before .before .args .first) (c .before .before .before .before .before .before .before .before .args .window .now) (c .before .before .before .before .before .before .loop .window) (c .before .before .before .before .before .before .loop .arrived) (c .before .before .before .before .before .before .loop .left) (c .before .before .before .before .before .before .loop .greatest) (c .before .before .before .before .before .before .loop .j) (c .before .before .before .before .before .before .loop .inv .1) (omega arith) (c .before .before .before .before .pair-at .result .first) (c .before .before .before .before .pair-at .result .second) (c .before .before .before .before .pair-at .ensures .first-is) (c .before .before .before .before .pair-at .ensures .second-is) (c .before .before .before .later .result) (c .before .before .before .later .ensures) (c .before .note .last .0) (c .before .note .ensures) (c .later2 .result) (c .later2 .ensures))
+loop-again c =
+    let step = c .before .before .before .before in
+    let turn = step .before .before .before in
+    let s = turn .before .before .args in
+    let l = turn .loop in
+    let pair = step .before .pair-at in
+    let note = c .before .note in (
+      omega arith,
+      pass-next (s .tail .now) (s .k) (s .first) (s .window .now) (l .window) (l .arrived) (l .left) (l .greatest) (l .j) (l .inv .1) (omega arith)
+          (pair .result .first) (pair .result .second) (pair .ensures .first-is) (pair .ensures .second-is) (step .later .result) (step .later .ensures)
+          (note .last .0) (note .ensures .0) (c .later2 .result) (c .later2 .ensures),
+      λ left. note .ensures .1 (l .inv .2 left),
+    )
 
 returns : tie.Need-returns Inv-loop μ-loop
-returns c = pass-last (c .before .before .before .args .tail .now) (c .before .before .before .args .k) (c .before .before .before .args .first) (c .before .before .before .args .window .now) (c .before .loop .window) (c .before .loop .arrived) (c .before .loop .left) (c .before .loop .greatest) (c .before .loop .j) (c .before .loop .inv .1) (omega arith)
+returns c =
+    let s = c .before .before .before .args in
+    let l = c .before .loop in (
+      pass-last (s .tail .now) (s .k) (s .first) (s .window .now) (l .window) (l .arrived) (l .left) (l .greatest) (l .j) (l .inv .1) (omega arith),
+      l .inv .2,
+    )
 
 pub fill-spec : {M : Type 1} → statement M
 fill-spec =

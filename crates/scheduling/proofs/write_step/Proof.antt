@@ -1,26 +1,39 @@
--- `scheduling::write_step` meets its contract. The loop's invariant: the moves of the entries passed are packed behind the place of the count.
--- Assumes nothing.
+-- `scheduling::write_step` meets its contract. The loop's invariant: the moves of the entries passed are packed behind the place of the count, and
+-- `rest` has the positions that the others leave. Assumes nothing.
 use Prim.Native.Nat.{_≤_, _-_, _+_, _*_}
 use native.Mathlib.Omega.{arith}
 use borrow.Author.Needs.{needs}
+use lib.Count.{ones}
 use lib.ListN.{length-set}
-use mathlib.Core.Path.{_∙_}
-use Rattle.scheduling.proofs.Writing.{Writing, writing-first, writing-next-at, writing-last, entry-fits-at, count-few, count-at-most, at-inside, length-same, writing-all}
+use mathlib.Core.Path.{_≡_, sym, _∙_}
+use Rattle.sets.specs.CountLaws.{ones-without}
+use Rattle.scheduling.proofs.Writing.{part-room, Rest, rest-first, rest-small, rest-some, rest-room, rest-few, rest-next, rest-last}
+use Rattle.scheduling.proofs.Writing.{writing-last, count-at-most, at-inside, length-same}
 use Rattle.scheduling.proofs.write_step.Statement.{statement}
 use Rattle.scheduling.proofs.write_step.Tie as tie
 
 abbrev Inv-loop : tie.InvT-loop
-Inv-loop window row buffer₀ at base count₀ p₀ buffer count p = (p ≤ 64) × Writing window row buffer₀ at p count buffer
+Inv-loop window leaving row buffer₀ at base count₀ rest₀ buffer count rest = Rest window row buffer₀ at rest count buffer
 
 abbrev μ-loop : tie.MeasureT-loop
-μ-loop window row buffer₀ at base count₀ p₀ buffer count p = 64 - p
+μ-loop window leaving row buffer₀ at base count₀ rest₀ buffer count rest = ones rest
 
 mul-base : tie.Need-mul-base Inv-loop μ-loop
 mul-base c = omega arith
 
+mul-rest : tie.Need-mul-rest Inv-loop μ-loop
+mul-rest c = omega arith
+
+element-copy-out-rest : tie.Need-element-copy-out-rest Inv-loop μ-loop
+element-copy-out-rest c = omega arith
+
 loop-holds : tie.Need-loop-holds Inv-loop μ-loop
 loop-holds c =
-    (omega arith, writing-first (c .before .args .window .now) (c .before .args .row) (c .before .args .buffer .now) (c .before .args .at))
+    let s = c .before .before in
+    rest-first (s .args .window .now) (s .args .row) (s .args .buffer .now) (s .args .at) _ (s .pre .1 .1) (s .pre .0 .0)
+
+lowest-requires : tie.Need-lowest-requires Inv-loop μ-loop
+lowest-requires c κs = omega arith
 
 add-wide : tie.Need-add-wide Inv-loop μ-loop
 add-wide c = omega arith
@@ -31,51 +44,143 @@ element-copy-out-wide c = omega arith
 wide-requires : tie.Need-wide-requires Inv-loop μ-loop
 wide-requires c κs = search needs
 
-write-entry-requires : tie.Need-write-entry-requires Inv-loop μ-loop
-write-entry-requires c κs =
-    (omega (arith, c .before .before .before .before .before .before .pre .1 .1 .at-most (c .before .before .before .before .before .before .args .row * 64 + c .before .before .before .before .loop .p)), omega arith, count-few (c .before .before .before .before .before .before .args .window .now) (c .before .before .before .before .before .before .args .row) (c .before .before .before .before .before .before .args .buffer .now) (c .before .before .before .before .before .before .args .at) (c .before .before .before .before .before .before .pre .1 .0) (c .before .before .before .before .loop .p) (c .before .before .before .before .loop .count) (c .before .before .before .before .loop .buffer) (c .before .before .before .before .loop .inv .1) (omega arith), entry-fits-at (c .before .before .before .before .before .before .args .window .now) (c .before .before .before .before .before .before .args .row) (c .before .before .before .before .before .before .args .buffer .now) (c .before .before .before .before .before .before .args .at) (c .before .before .before .before .before .before .pre .1 .0) (c .before .before .before .before .loop .p) (c .before .before .before .before .loop .count) (c .before .before .before .before .loop .buffer) (c .before .before .before .before .loop .inv .1) (omega arith) (c .before .wide .result) (c .before .wide .ensures .0))
+add-put-pair : tie.Need-add-put-pair Inv-loop μ-loop
+add-put-pair c =
+    let low = c .before .before in
+    let turn = low .before .before in
+    let s = turn .before .before .before in
+    let least = low .lowest .ensures in
+    omega (arith, rest-room _ _ _ _ _ _ _ (turn .loop .inv) (low .lowest .result) (least .1 .0) (least .1 .1) (s .pre .0 .1))
 
-add-p : tie.Need-add-p Inv-loop μ-loop
-add-p c = omega arith
+sub-put-pair : tie.Need-sub-put-pair Inv-loop μ-loop
+sub-put-pair c =
+    let low = c .before .before in
+    let turn = low .before .before in
+    let s = turn .before .before .before in
+    let least = low .lowest .ensures in
+    omega (arith, rest-room _ _ _ _ _ _ _ (turn .loop .inv) (low .lowest .result) (least .1 .0) (least .1 .1) (s .pre .0 .1))
+
+part-put-pair-start : tie.Need-part-put-pair-start Inv-loop μ-loop
+part-put-pair-start c =
+    let low = c .before .before in
+    let turn = low .before .before in
+    let s = turn .before .before .before in
+    let least = low .lowest .ensures in
+    omega (arith, rest-room _ _ _ _ _ _ _ (turn .loop .inv) (low .lowest .result) (least .1 .0) (least .1 .1) (s .pre .0 .1))
+
+part-put-pair-end : tie.Need-part-put-pair-end Inv-loop μ-loop
+part-put-pair-end c =
+    let low = c .before .before in
+    let turn = low .before .before in
+    let s = turn .before .before .before in
+    let least = low .lowest .ensures in
+    omega (arith, rest-room _ _ _ _ _ _ _ (turn .loop .inv) (low .lowest .result) (least .1 .0) (least .1 .1) (s .pre .0 .1))
+
+sub-put-pair-2 : tie.Need-sub-put-pair-2 Inv-loop μ-loop
+sub-put-pair-2 c =
+    let wide = c .before in
+    let low = wide .before .before in
+    let turn = low .before .before in
+    let least = low .lowest .ensures in
+    let some : (wide .wide .result ≡ 0 → ⊥) =
+    λ z. rest-some _ _ _ _ _ _ _ (turn .loop .inv) (low .lowest .result) (least .1 .0) (least .1 .1) (sym (wide .wide .ensures .0) ∙ z) in
+    omega arith
+
+put-pair-requires : tie.Need-put-pair-requires Inv-loop μ-loop
+put-pair-requires c κs =
+    let wide = c .before in
+    let low = wide .before .before in
+    let turn = low .before .before in
+    let s = turn .before .before .before in
+    let least = low .lowest .ensures in (
+      least .0,
+      omega (arith, s .pre .1 .0 .at-most (s .args .row * 64 + low .lowest .result), wide .wide .ensures .0),
+      part-room (turn .loop .buffer) _ _ (low .lowest .result) 0
+          (rest-room _ _ _ _ _ _ _ (turn .loop .inv) (low .lowest .result) (least .1 .0) (least .1 .1) (s .pre .0 .1)),
+    )
+
+add-count : tie.Need-add-count Inv-loop μ-loop
+add-count c =
+    let low = c .before .before .before .before .before .before in
+    let turn = low .before .before in
+    let s = turn .before .before .before in
+    let least = low .lowest .ensures in
+    omega (arith, rest-few _ _ _ _ _ _ _ (turn .loop .inv) (low .lowest .result) (least .1 .0) (least .1 .1) (s .pre .0 .1))
+
+without-requires : tie.Need-without-requires Inv-loop μ-loop
+without-requires c κs = omega arith
 
 loop-less : tie.Need-loop-less Inv-loop μ-loop
-loop-less c = omega arith
+loop-less c =
+    let low = c .before .before .before .before .before .before .before in
+    ones-without (low .lowest .result) _ _ (low .lowest .ensures .1 .0) (c .without .ensures)
 
 loop-again : tie.Need-loop-again Inv-loop μ-loop
 loop-again c =
-    (omega arith, writing-next-at (c .before .before .before .before .before .before .before .before .before .args .window .now) (c .before .before .before .before .before .before .before .before .before .args .row) (c .before .before .before .before .before .before .before .before .before .args .buffer .now) (c .before .before .before .before .before .before .before .before .before .args .at) (c .before .before .before .before .before .before .before .before .before .pre .1 .0) (c .before .before .before .before .before .before .before .loop .p) (c .before .before .before .before .before .before .before .loop .count) (c .before .before .before .before .before .before .before .loop .buffer) (c .before .before .before .before .before .before .before .loop .inv .1) (omega arith) (c .before .before .before .before .wide .result) (c .before .before .before .before .wide .ensures .0) (c .before .before .write-entry .result) (c .before .before .write-entry .last .1 .1 .0) (c .before .before .write-entry .ensures .0) (c .before .before .write-entry .ensures .1))
+    let put = c .before .before .before in
+    let wide = put .before .before in
+    let low = wide .before .before in
+    let turn = low .before .before in
+    let s = turn .before .before .before in
+    let least = low .lowest .ensures in
+    rest-next _ _ _ _ _ _ _ (turn .loop .inv) (low .lowest .result) (least .1 .0) (least .1 .1) (s .pre .0 .1)
+    (wide .wide .result) (wide .wide .ensures .0) (put .put-pair .last .0) (put .put-pair .ensures) (c .without .result) (c .without .ensures)
 
 cast-buffer : tie.Need-cast-buffer Inv-loop μ-loop
 cast-buffer c =
-    omega (arith, count-at-most (c .before .before .before .args .window .now) (c .before .before .before .args .row) (c .before .before .before .args .buffer .now) (c .before .before .before .args .at) (c .before .before .before .pre .1 .0) (c .before .loop .count) (c .before .loop .buffer) (writing-all (c .before .before .before .args .window .now) (c .before .before .before .args .row) (c .before .before .before .args .buffer .now) (c .before .before .before .args .at) (c .before .loop .p) (c .before .loop .count) (c .before .loop .buffer) (c .before .loop .inv .1) (omega arith) (omega arith)))
+    let s = c .before .before .before .before in
+    let l = c .before .loop in
+    omega (arith, count-at-most _ _ _ _ (s .pre .0 .1) (l .count) (l .buffer) (rest-last _ _ _ _ _ _ _ (l .inv) (omega arith)))
 
 slice-write-buffer : tie.Need-slice-write-buffer Inv-loop μ-loop
 slice-write-buffer c =
-    at-inside (c .before .before .before .args .window .now) (c .before .before .before .args .row) (c .before .before .before .args .buffer .now) (c .before .before .before .args .at) (c .before .before .before .pre .1 .0) (c .before .loop .count) (c .before .loop .buffer) (writing-all (c .before .before .before .args .window .now) (c .before .before .before .args .row) (c .before .before .before .args .buffer .now) (c .before .before .before .args .at) (c .before .loop .p) (c .before .loop .count) (c .before .loop .buffer) (c .before .loop .inv .1) (omega arith) (omega arith))
+    let s = c .before .before .before .before in
+    let l = c .before .loop in
+    at-inside _ _ _ _ (s .pre .0 .1) (l .count) (l .buffer) (rest-last _ _ _ _ _ _ _ (l .inv) (omega arith))
 
 add-result : tie.Need-add-result Inv-loop μ-loop
 add-result c =
-    omega (arith, at-inside (c .before .before .before .args .window .now) (c .before .before .before .args .row) (c .before .before .before .args .buffer .now) (c .before .before .before .args .at) (c .before .before .before .pre .1 .0) (c .before .loop .count) (c .before .loop .buffer) (writing-all (c .before .before .before .args .window .now) (c .before .before .before .args .row) (c .before .before .before .args .buffer .now) (c .before .before .before .args .at) (c .before .loop .p) (c .before .loop .count) (c .before .loop .buffer) (c .before .loop .inv .1) (omega arith) (omega arith)), length-same (c .before .before .before .args .window .now) (c .before .before .before .args .row) (c .before .before .before .args .buffer .now) (c .before .before .before .args .at) (c .before .before .before .pre .1 .0) (c .before .loop .count) (c .before .loop .buffer) (writing-all (c .before .before .before .args .window .now) (c .before .before .before .args .row) (c .before .before .before .args .buffer .now) (c .before .before .before .args .at) (c .before .loop .p) (c .before .loop .count) (c .before .loop .buffer) (c .before .loop .inv .1) (omega arith) (omega arith)))
+    let s = c .before .before .before .before in
+    let l = c .before .loop in
+    let all = rest-last _ _ _ _ _ _ _ (l .inv) (omega arith) in
+    omega (arith, at-inside _ _ _ _ (s .pre .0 .1) (l .count) (l .buffer) all, length-same _ _ _ _ (s .pre .0 .1) (l .count) (l .buffer) all)
 
 mul-result : tie.Need-mul-result Inv-loop μ-loop
 mul-result c =
-    omega (arith, count-at-most (c .before .before .before .args .window .now) (c .before .before .before .args .row) (c .before .before .before .args .buffer .now) (c .before .before .before .args .at) (c .before .before .before .pre .1 .0) (c .before .loop .count) (c .before .loop .buffer) (writing-all (c .before .before .before .args .window .now) (c .before .before .before .args .row) (c .before .before .before .args .buffer .now) (c .before .before .before .args .at) (c .before .loop .p) (c .before .loop .count) (c .before .loop .buffer) (c .before .loop .inv .1) (omega arith) (omega arith)))
+    let s = c .before .before .before .before in
+    let l = c .before .loop in
+    omega (arith, count-at-most _ _ _ _ (s .pre .0 .1) (l .count) (l .buffer) (rest-last _ _ _ _ _ _ _ (l .inv) (omega arith)))
 
 add-result-2 : tie.Need-add-result-2 Inv-loop μ-loop
 add-result-2 c =
-    omega (arith, count-at-most (c .before .before .before .args .window .now) (c .before .before .before .args .row) (c .before .before .before .args .buffer .now) (c .before .before .before .args .at) (c .before .before .before .pre .1 .0) (c .before .loop .count) (c .before .loop .buffer) (writing-all (c .before .before .before .args .window .now) (c .before .before .before .args .row) (c .before .before .before .args .buffer .now) (c .before .before .before .args .at) (c .before .loop .p) (c .before .loop .count) (c .before .loop .buffer) (c .before .loop .inv .1) (omega arith) (omega arith)))
+    let s = c .before .before .before .before in
+    let l = c .before .loop in
+    omega (arith, count-at-most _ _ _ _ (s .pre .0 .1) (l .count) (l .buffer) (rest-last _ _ _ _ _ _ _ (l .inv) (omega arith)))
 
 add-result-3 : tie.Need-add-result-3 Inv-loop μ-loop
 add-result-3 c =
-    omega (arith, at-inside (c .before .before .before .args .window .now) (c .before .before .before .args .row) (c .before .before .before .args .buffer .now) (c .before .before .before .args .at) (c .before .before .before .pre .1 .0) (c .before .loop .count) (c .before .loop .buffer) (writing-all (c .before .before .before .args .window .now) (c .before .before .before .args .row) (c .before .before .before .args .buffer .now) (c .before .before .before .args .at) (c .before .loop .p) (c .before .loop .count) (c .before .loop .buffer) (c .before .loop .inv .1) (omega arith) (omega arith)), length-same (c .before .before .before .args .window .now) (c .before .before .before .args .row) (c .before .before .before .args .buffer .now) (c .before .before .before .args .at) (c .before .before .before .pre .1 .0) (c .before .loop .count) (c .before .loop .buffer) (writing-all (c .before .before .before .args .window .now) (c .before .before .before .args .row) (c .before .before .before .args .buffer .now) (c .before .before .before .args .at) (c .before .loop .p) (c .before .loop .count) (c .before .loop .buffer) (c .before .loop .inv .1) (omega arith) (omega arith)), count-at-most (c .before .before .before .args .window .now) (c .before .before .before .args .row) (c .before .before .before .args .buffer .now) (c .before .before .before .args .at) (c .before .before .before .pre .1 .0) (c .before .loop .count) (c .before .loop .buffer) (writing-all (c .before .before .before .args .window .now) (c .before .before .before .args .row) (c .before .before .before .args .buffer .now) (c .before .before .before .args .at) (c .before .loop .p) (c .before .loop .count) (c .before .loop .buffer) (c .before .loop .inv .1) (omega arith) (omega arith)))
+    let s = c .before .before .before .before in
+    let l = c .before .loop in
+    let all = rest-last _ _ _ _ _ _ _ (l .inv) (omega arith) in
+    omega (
+      arith,
+      at-inside _ _ _ _ (s .pre .0 .1) (l .count) (l .buffer) all,
+      length-same _ _ _ _ (s .pre .0 .1) (l .count) (l .buffer) all,
+      count-at-most _ _ _ _ (s .pre .0 .1) (l .count) (l .buffer) all,
+    )
 
 same-length : tie.Need-same-length Inv-loop μ-loop
 same-length c =
-    length-set (c .before .loop .buffer) (c .before .before .before .args .at) (c .before .loop .count) ∙ length-same (c .before .before .before .args .window .now) (c .before .before .before .args .row) (c .before .before .before .args .buffer .now) (c .before .before .before .args .at) (c .before .before .before .pre .1 .0) (c .before .loop .count) (c .before .loop .buffer) (writing-all (c .before .before .before .args .window .now) (c .before .before .before .args .row) (c .before .before .before .args .buffer .now) (c .before .before .before .args .at) (c .before .loop .p) (c .before .loop .count) (c .before .loop .buffer) (c .before .loop .inv .1) (omega arith) (omega arith))
+    let s = c .before .before .before .before in
+    let l = c .before .loop in
+    length-set (l .buffer) (s .args .at) (l .count)
+    ∙ length-same _ _ _ _ (s .pre .0 .1) (l .count) (l .buffer) (rest-last _ _ _ _ _ _ _ (l .inv) (omega arith))
 
 returns : tie.Need-returns Inv-loop μ-loop
 returns c =
-    writing-last (c .before .before .before .args .window .now) (c .before .before .before .args .row) (c .before .before .before .args .buffer .now) (c .before .before .before .args .at) (c .before .before .before .pre .1 .0) (c .before .loop .count) (c .before .loop .buffer) (writing-all (c .before .before .before .args .window .now) (c .before .before .before .args .row) (c .before .before .before .args .buffer .now) (c .before .before .before .args .at) (c .before .loop .p) (c .before .loop .count) (c .before .loop .buffer) (c .before .loop .inv .1) (omega arith) (omega arith))
+    let s = c .before .before .before .before in
+    let l = c .before .loop in
+    writing-last _ _ _ _ (s .pre .0 .1) (l .count) (l .buffer) (rest-last _ _ _ _ _ _ _ (l .inv) (omega arith))
 
 pub write-step-spec : {M : Type 1} → statement M
 write-step-spec =
@@ -84,12 +189,21 @@ write-step-spec =
     Inv-loop
     μ-loop
     mul-base
+    mul-rest
+    element-copy-out-rest
     loop-holds
+    lowest-requires
     add-wide
     element-copy-out-wide
     wide-requires
-    write-entry-requires
-    add-p
+    add-put-pair
+    sub-put-pair
+    part-put-pair-start
+    part-put-pair-end
+    sub-put-pair-2
+    put-pair-requires
+    add-count
+    without-requires
     loop-less
     loop-again
     cast-buffer

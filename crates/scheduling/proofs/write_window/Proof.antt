@@ -6,16 +6,21 @@ use Rattle.scheduling.proofs.write_window.Statement.{statement}
 use Rattle.scheduling.proofs.write_window.Tie as tie
 
 abbrev Inv-loop : tie.InvT-loop
-Inv-loop window n buffer₀ at next₀ row₀ buffer next row = (row ≤ n) × WroteRows window buffer₀ n at buffer next row
+Inv-loop window leaving n buffer₀ at next₀ row₀ buffer next row = (row ≤ n) × WroteRows window buffer₀ n at buffer next row
 
 abbrev μ-loop : tie.MeasureT-loop
-μ-loop window n buffer₀ at next₀ row₀ buffer next row = n - row
+μ-loop window leaving n buffer₀ at next₀ row₀ buffer next row = n - row
 
 loop-holds : tie.Need-loop-holds Inv-loop μ-loop
-loop-holds c = (omega arith, rows-first (c .before .args .window .now) (c .before .args .buffer .now) (c .before .args .n) (c .before .args .at))
+loop-holds c =
+    let s = c .before .args in
+    (omega arith, rows-first (s .window .now) (s .buffer .now) (s .n) (s .at))
 
 write-step-requires : tie.Need-write-step-requires Inv-loop μ-loop
-write-step-requires c κs = (omega arith, (rows-room (c .before .before .before .before .args .window .now) (c .before .before .before .before .args .buffer .now) (c .before .before .before .before .args .n) (c .before .before .before .before .args .at) (c .before .before .before .before .pre .1 .0) (c .before .before .loop .buffer) (c .before .before .loop .next) (c .before .before .loop .row) (c .before .before .loop .inv .1) (omega arith), c .before .before .before .before .pre .1 .1))
+write-step-requires c κs =
+    let s = c .before .before .before .before in
+    let l = c .before .before .loop in
+    ((omega arith, rows-room _ _ _ _ (s .pre .0 .1) (l .buffer) (l .next) (l .row) (l .inv .1) (omega arith)), s .pre .1)
 
 add-row : tie.Need-add-row Inv-loop μ-loop
 add-row c = omega arith
@@ -24,13 +29,28 @@ loop-less : tie.Need-loop-less Inv-loop μ-loop
 loop-less c = omega arith
 
 loop-again : tie.Need-loop-again Inv-loop μ-loop
-loop-again c = (omega arith, rows-more (c .before .before .before .before .before .before .before .args .window .now) (c .before .before .before .before .before .before .before .args .buffer .now) (c .before .before .before .before .before .before .before .args .n) (c .before .before .before .before .before .before .before .args .at) (c .before .before .before .before .before .before .before .pre .1 .0) (c .before .before .before .before .before .loop .buffer) (c .before .before .before .before .before .loop .next) (c .before .before .before .before .before .loop .row) (c .before .before .before .before .before .loop .inv .1) (omega arith) (c .before .before .write-step .result) (c .before .before .write-step .last .1 .1 .0) (c .before .before .write-step .ensures))
+loop-again c =
+    let turn = c .before .before .before .before .before in
+    let s = turn .before .before in
+    let l = turn .loop in
+    let step = c .before .before .write-step in (
+      omega arith,
+      rows-more (s .args .window .now) (s .args .buffer .now) (s .args .n) (s .args .at) (s .pre .0 .1)
+          (l .buffer) (l .next) (l .row) (l .inv .1) (omega arith) (step .result) _ (step .ensures),
+    )
 
 same-length : tie.Need-same-length Inv-loop μ-loop
-same-length c = rows-length (c .before .before .before .args .window .now) (c .before .before .before .args .buffer .now) (c .before .before .before .args .n) (c .before .before .before .args .at) (c .before .before .before .pre .1 .0) (c .before .loop .buffer) (c .before .loop .next) (c .before .loop .row) (c .before .loop .inv .1) (omega arith)
+same-length c =
+    let s = c .before .before .before in
+    let l = c .before .loop in
+    rows-length (s .args .window .now) (s .args .buffer .now) (s .args .n) (s .args .at) (s .pre .0 .1) (l .buffer) (l .next) (l .row) (l .inv .1) (omega arith)
 
 returns : tie.Need-returns Inv-loop μ-loop
-returns c = rows-all (c .before .before .before .args .window .now) (c .before .before .before .args .buffer .now) (c .before .before .before .args .n) (c .before .before .before .args .at) (c .before .before .before .pre .1 .0) (c .before .loop .buffer) (c .before .loop .next) (c .before .loop .row) (c .before .loop .inv .1) (omega arith) (omega arith)
+returns c =
+    let s = c .before .before .before in
+    let l = c .before .loop in
+    rows-all (s .args .window .now) (s .args .buffer .now) (s .args .n) (s .args .at) (s .pre .0 .1) (l .buffer) (l .next) (l .row) (l .inv .1)
+    (omega arith) (omega arith)
 
 pub write-window-spec : {M : Type 1} → statement M
 write-window-spec =
