@@ -11,8 +11,8 @@ use borrow.Author.Needs.{needs}
 use Rattle.text.proofs.put_word.Statement.{statement}
 use Rattle.text.proofs.put_word.Tie as tie
 
-front : {number len : ℕ} {bytes : List ℕ} → len ≡ length (familyWord number) → bytes ≡ familyBytes number → take len bytes ≡ familyWord number
-front {number} {len} size is = ap (take len) is ∙ take-at (familyWord number) _ len (sym size)
+front : (number : ℕ) {len : ℕ} {bytes : List ℕ} → (len ≡ length (familyWord number)) × (bytes ≡ familyBytes number) → take len bytes ≡ familyWord number
+front number {len} w = ap (take len) (w .1) ∙ take-at (familyWord number) _ len (sym (w .0))
 
 family-word-requires : tie.Need-family-word-requires
 family-word-requires c κs = search needs
@@ -20,21 +20,25 @@ family-word-requires c κs = search needs
 array-share-prefix-bytes : tie.Need-array-share-prefix-bytes
 array-share-prefix-bytes c =
     let w = c .before .family-word .ensures in
-    omega (arith, w .0, ap length (w .1) ∙ length-append (familyWord (c .before .before .args .number)) _)
+    omega (arith, w .0, ap length (w .1) ∙ length-append (familyWord (c .before .before .before .args .number)) _)
 
 slice-aggregate-put-bytes : tie.Need-slice-aggregate-put-bytes
-slice-aggregate-put-bytes c = let w = c .before .before .family-word .ensures in w .0 ∙ sym (ap length (front (w .0) (w .1)))
+slice-aggregate-put-bytes c =
+    let w = c .before .before .family-word .ensures in
+    w .0 ∙ sym (ap length (front (c .before .before .before .before .args .number) w))
 
 put-bytes-requires : tie.Need-put-bytes-requires
-put-bytes-requires c κs = let w = c .before .before .before .family-word .ensures in fits-as (front (w .0) (w .1)) (c .before .before .before .before .before .pre)
+put-bytes-requires c κs =
+    let s = c .before .before .before .before .before in
+    fits-as (front (s .args .number) (c .before .before .before .family-word .ensures)) (s .pre)
 
 same-length : tie.Need-same-length
 same-length c = search needs
 
 returns : tie.Need-returns
 returns c =
-    let w = c .before .before .before .before .before .before .family-word .ensures in
-    wrote-as (front (w .0) (w .1)) (c .before .before .put-bytes .ensures)
+    let s = c .before .before .before .before .before .before .before .before in
+    wrote-as (front (s .args .number) (c .before .before .before .before .before .before .family-word .ensures)) (c .before .before .put-bytes .ensures)
 
 pub put-word-spec : {M : Type 1} → statement M
 put-word-spec =
