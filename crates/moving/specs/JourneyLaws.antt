@@ -1,6 +1,6 @@
 -- Laws of journeys.
 --
---     packed-nothing, packed-same    no move in the plan
+--     packed-nothing       no move in the plan
 --     packed-next          one move more in the plan
 --     packedOn-append, packedOn-packed    moves and then more of them, packed; packed behind packed moves they are packed with them
 --     trail-next           one move more in the log
@@ -23,7 +23,7 @@
 --     fits-move            and after one move, whatever the rows are
 --     fits-anew            room for moves in a log that is begun anew
 --     room-then, room-less    room in the plan, after a trip and for fewer moves
---     space-room, room-space, fits-space, space-then, space-less    the same with no log
+--     space-room, space-then, space-less    the same with no log
 --     fits-less            where there is room for c moves, there is room for fewer
 -- Assumes nothing.
 use Prim.Native.Nat.{ℕ, suc, _+_, _*_, _/_, _%_, _^_, _≤_, _<_}
@@ -42,7 +42,7 @@ use Rattle.sets.specs.SetLaws.{has-only}
 use Rattle.graph.specs.Rows.{Edge}
 use Rattle.moving.specs.Went.{Move, Went, Within}
 use Rattle.moving.specs.Went.Went.{stay, real, stand-in}
-use Rattle.moving.specs.WentLaws.{same-refl, went-to, went-append, within-less, within-append, went-one}
+use Rattle.moving.specs.WentLaws.{same-refl, went-append, within-less, within-append, went-one}
 use Rattle.moving.specs.Journey.{row, Packed, packedOn, noted, onto, Trail, Fits, Room, Space, made, Moved, Trip, Journey, JourneyIn}
 use Rattle.moving.specs.Journey.Trail.{start, entry}
 
@@ -50,10 +50,6 @@ use Rattle.moving.specs.Journey.Trail.{start, entry}
 pub packed-nothing : (t : List ℕ) → Packed t [] t
 unfolding pack
 packed-nothing t = record { is = refl }
-
-pub packed-same : {t t′ : List ℕ} → Packed t [] t′ → t′ ≡ t
-unfolding pack
-packed-same p = p .is
 
 length-putPair : (t : List ℕ) (j a b : ℕ) → length (putPair t j a b) ≡ length t
 unfolding putPair
@@ -66,14 +62,6 @@ length-putPair t j a b = by (eqb (j % 2) 0)
     by false =
         length-set (set t (j / 2 * 3 + 1) (getD t (j / 2 * 3 + 1) 0 / 16 * 16 + a / 4)) (j / 2 * 3 + 2) (a % 4 * 64 + b)
         ∙ length-set t (j / 2 * 3 + 1) (getD t (j / 2 * 3 + 1) 0 / 16 * 16 + a / 4)
-
-packed-room : (old : List ℕ) (ws : List (ℕ × ℕ)) (t : List ℕ) → Packed old ws t → (12 * (length ws + 1) + 7) / 8 ≤ length t
-    → (12 * (length ws + 1) + 7) / 8 ≤ length old
-packed-room old ws t p room =
-    let n = ap length (p .is) ∙ length-append (pack ws) (drop (length (pack ws)) old) in
-    let d = length-drop (length (pack ws)) old in
-    let k = length-pack ws in
-    omega arith
 
 pub packed-next : (old : List ℕ) (ws : List (ℕ × ℕ)) (t : List ℕ) (a b : ℕ) → (12 * (length ws + 1) + 7) / 8 ≤ length old → Packed old ws t
     → Packed old (ws ++ ((a, b) ∷ [])) (putPair t (length ws) a b)
@@ -319,9 +307,6 @@ room-less d le f = let room = f .room in record { racks = f .racks; log = f .log
 
 pub space-room : {c : ℕ} {h l t : List ℕ} {w : ℕ} → length l ≡ 8256 → Space h t w c → Room h l t w c
 space-room log f = record { racks = f .racks; log = log; room = f .room }
-
-pub fits-space : {c : ℕ} {h l t : List ℕ} {w j : ℕ} → Fits h l t w j c → Space h t w c
-fits-space f = record { racks = f .racks; room = f .room }
 
 pub space-then : {g : List ℕ} {m c d : ℕ} {h t h′ t′ : List ℕ} {w w′ : ℕ} → Space h t w (c + d) → Trip g m c h t w h′ t′ w′ → Space h′ t′ w′ d
 space-then f a =
