@@ -4,11 +4,14 @@
 --     within a b n    n is from a to b, both included
 --     order, floor, plan, timetable, other    the words
 --     familyWord n    the family word of the refusal number n; a number of no family has the word `other`
+--     padded w        the word w in the nine bytes of the longest, with zeros behind it
+--     familyBytes n   the family word of n, so padded
 -- Assumes nothing.
-use Prim.Native.Nat.{ℕ}
+use Prim.Native.Nat.{ℕ, _-_}
 use mathlib.Core.Bool.{Bool, cond, _&&_}
-use mathlib.Core.List.{List, [], _∷_}
+use mathlib.Core.List.{List, [], _∷_, _++_}
 use lib.Dec.{leb}
+use lib.ListN.{length, replicate}
 
 unfoldable pub within : ℕ → ℕ → ℕ → Bool
 within a b n = leb a n && leb n b
@@ -36,3 +39,9 @@ other = 111 ∷ 116 ∷ 104 ∷ 101 ∷ 114 ∷ []
 unfoldable pub familyWord : ℕ → List ℕ
 familyWord n =
     cond (within 10 19 n) order (cond (within 20 29 n) floor (cond (within 30 39 n) plan (cond (within 40 49 n) timetable other)))
+
+abbrev pub padded : List ℕ → List ℕ
+padded w = w ++ replicate (9 - length w) 0
+
+abbrev pub familyBytes : ℕ → List ℕ
+familyBytes n = padded (familyWord n)

@@ -1,8 +1,8 @@
 // The answers of the entry points: one fault for each number of document 01's table, its number, and its family word.
 ghost use mathlib.Core.Path.{_≡_};
-ghost use lib.ListN.{length, take};
+ghost use lib.ListN.{length};
 ghost use Rattle.answers.specs.Answer.{numberOf};
-ghost use Rattle.answers.specs.Family.{familyWord};
+ghost use Rattle.answers.specs.Family.{familyWord, familyBytes};
 
 // Why an entry point turns its input down. specs/Answer.antt gives each its number.
 pub enum Fault {
@@ -73,7 +73,7 @@ pub fn number(fault: Fault) -> u64
     }
 }
 
-// A short word: its bytes are the first `len` of `bytes`.
+// A short word: its bytes are the first `len` of `bytes`, and the others are zero.
 pub struct Word {
     pub bytes: [u8; 9],
     pub len: usize,
@@ -81,7 +81,7 @@ pub struct Word {
 
 // The family word of a refusal number.
 pub fn family_word(number: u64) -> Word
-    ensures { λ r. ⌜ (r .len ≡ length (familyWord number)) × (take (r .len) (r .bytes) ≡ familyWord number) ⌝ }
+    ensures { λ r. ⌜ (r .len ≡ length (familyWord number)) × (r .bytes ≡ familyBytes number) ⌝ }
 {
     match number {
         10..=19 => Word {

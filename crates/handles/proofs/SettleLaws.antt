@@ -130,30 +130,28 @@ module _ {n : ℕ} {E : ℕ → ℕ → Type 0} {ring c : ℕ} {at start left ri
       }
 
 -- Handles from i on are settled.
-pub record Handling (g : List ℕ) (m n ring : ℕ) (at start T : ℕ → ℕ) (i : ℕ) (h₀ l₀ t₀ : List ℕ) (w₀ : ℕ) (h l t : List ℕ) (w : ℕ) : Type 0 where
+pub record Handling (g : List ℕ) (m n ring : ℕ) (at start T : ℕ → ℕ) (i : ℕ) (h₀ t₀ : List ℕ) (w₀ : ℕ) (h l t : List ℕ) (w : ℕ) : Type 0 where
   pub table : Table n (row h)
   pub settled : (j : ℕ) → start i ≤ j → j < n → row h (at j) ≡ T (at j)
   pub trip : Trip g m ((n - start i) * (4 * (n * n))) h₀ t₀ w₀ h t w
-  pub log : length l ≡ length l₀
   pub room : Room h l t w ((start i - ring) * (4 * (n * n)))
 
 pub handling-begin : {g : List ℕ} {m n ring : ℕ} {at start T : ℕ → ℕ} {i : ℕ} {h l t : List ℕ} {w : ℕ} → start i ≡ n → Table n (row h)
-    → Room h l t w ((n - ring) * (4 * (n * n))) → Handling g m n ring at start T i h l t w h l t w
+    → Room h l t w ((n - ring) * (4 * (n * n))) → Handling g m n ring at start T i h t w h l t w
 handling-begin {n = n} {ring = ring} {start = start} {i = i} {h = h} {l = l} {t = t} {w = w} stops table room =
     record {
       table = table;
       settled = λ j le l. absurd (none j le l);
       trip = trip-more ((n - start i) * (4 * (n * n))) (omega arith) (trip-none h t w);
-      log = refl;
       room = subst (λ (x : ℕ). Room h l t w ((x - ring) * (4 * (n * n)))) (sym stops) room;
     }
   where
     none : (j : ℕ) → start i ≤ j → j < n → ⊥
     none j le l = omega arith
 
-module _ {g : List ℕ} {m n ring : ℕ} {at start T : ℕ → ℕ} {h₀ l₀ t₀ : List ℕ} {w₀ : ℕ} {h l t : List ℕ} {w : ℕ} (i k : ℕ) (next : i + 1 ≡ k)
+module _ {g : List ℕ} {m n ring : ℕ} {at start T : ℕ → ℕ} {h₀ t₀ : List ℕ} {w₀ : ℕ} {h l t : List ℕ} {w : ℕ} (i k : ℕ) (next : i + 1 ≡ k)
     (from : ring ≤ start i) (inner : start i < start (i + 1)) (within : start (i + 1) ≤ n)
-    (z : Handling g m n ring at start T k h₀ l₀ t₀ w₀ h l t w) where
+    (z : Handling g m n ring at start T k h₀ t₀ w₀ h l t w) where
   up : start (i + 1) ≡ start k
   up = ap start next
 
@@ -189,7 +187,7 @@ module _ {g : List ℕ} {m n ring : ℕ} {at start T : ℕ → ℕ} {h₀ l₀ t
   handling-room = let x = split in room-less ((start (i + 1) - start i) * (4 * (n * n))) (omega arith) (z .room)
 
   pub handling-next : {h′ l′ t′ : List ℕ} {w′ : ℕ} → Trip g m ((start (i + 1) - start i) * (4 * (n * n))) h t w h′ t′ w′ → Table n (row h′)
-      → ((j : ℕ) → start i ≤ j → j < n → row h′ (at j) ≡ T (at j)) → length l′ ≡ length l → Handling g m n ring at start T i h₀ l₀ t₀ w₀ h′ l′ t′ w′
+      → ((j : ℕ) → start i ≤ j → j < n → row h′ (at j) ≡ T (at j)) → length l′ ≡ length l → Handling g m n ring at start T i h₀ t₀ w₀ h′ l′ t′ w′
   handling-next trip table settled log =
       let x = split in
       let y = joined in
@@ -197,14 +195,13 @@ module _ {g : List ℕ} {m n ring : ℕ} {at start T : ℕ → ℕ} {h₀ l₀ t
         table = table;
         settled = settled;
         trip = trip-more ((n - start i) * (4 * (n * n))) (omega arith) (trip-append (z .trip) trip);
-        log = log ∙ z .log;
         room = room-then (room-less ((start (i + 1) - start i) * (4 * (n * n)) + (start i - ring) * (4 * (n * n))) (omega arith) (z .room)) log trip;
       }
 
 -- all of them are
-module _ {g : List ℕ} {m n ring : ℕ} {at start T : ℕ → ℕ} {i : ℕ} {h₀ l₀ t₀ : List ℕ} {w₀ : ℕ} {h l t : List ℕ} {w : ℕ}
+module _ {g : List ℕ} {m n ring : ℕ} {at start T : ℕ → ℕ} {i : ℕ} {h₀ t₀ : List ℕ} {w₀ : ℕ} {h l t : List ℕ} {w : ℕ}
     (begins : start 0 ≡ ring) (none : i ≡ 0)
-    (z : Handling g m n ring at start T i h₀ l₀ t₀ w₀ h l t w) where
+    (z : Handling g m n ring at start T i h₀ t₀ w₀ h l t w) where
   first : start i ≡ ring
   first = ap start none ∙ begins
 

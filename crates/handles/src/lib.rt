@@ -10,7 +10,7 @@ ghost use Rattle.sets.specs.Sets.{Has};
 ghost use Rattle.graph.specs.Rows.{Edge, Rows};
 ghost use Rattle.breakdown.specs.Breakdown.{Among, Breakdown};
 ghost use Rattle.moving.specs.Went.{Same};
-ghost use Rattle.moving.specs.Journey.{row, Room, Trip};
+ghost use Rattle.moving.specs.Journey.{row, Room, Space, Trip};
 ghost use Rattle.moving.specs.Turned.{carried};
 ghost use Rattle.moving.specs.Cleared.{Vacancy};
 ghost use Rattle.settling.specs.Table.{Table};
@@ -316,7 +316,7 @@ fn close_cycle(
 // Does the handle hold what the goal has there?
 fn is_settled(order: &[u8; 64], s: usize, e: usize, goal: &[u8; 64], racks: &[u8; 64]) -> bool
     requires { ⌜ (e ≤ 64) × ((i : ℕ) → i < e → row (now order) i < 64) ⌝ }
-    ensures { λ r. ⌜ (r ≡ true → (j : ℕ) → s ≤ j → j < e → row (now (racks .entry)) (row (now (order .entry)) j) ≡ row (now (goal .entry)) (row (now (order .entry)) j)) ⌝ }
+    ensures { λ r. ⌜ (r ≡ true) ↔ ((j : ℕ) → s ≤ j → j < e → row (now (racks .entry)) (row (now (order .entry)) j) ≡ row (now (goal .entry)) (row (now (order .entry)) j)) ⌝ }
 {
     let mut i = s;
     while i < e {
@@ -394,13 +394,13 @@ pub fn settle_handles(
     goal: &[u8; 64],
     real: usize,
     racks: &mut [u8; 64],
-    log: &mut [u16; 8256],
     tail: &mut [u8],
     written: usize,
 ) -> usize
-    requires { ⌜ Rows n (now rows) ⌝ ∗ ⌜ Breakdown n (Edge (now rows)) ring handles (row (now order)) (row (now start)) (row (now left)) (row (now right)) ⌝ ∗ ⌜ Table n (row (now racks)) × Table n (row (now goal)) × ((j : ℕ) → ring ≤ j → j < n → row (now goal) (row (now order) j) ≢ 0) ⌝ ∗ ⌜ Room (now racks) (now log) (now tail) written ((n - ring) * (4 * (n * n))) ⌝ }
-    ensures { λ r. ⌜ Trip (now (rows .entry)) real ((n - ring) * (4 * (n * n))) (now (racks .entry)) (now (tail .entry)) written (now (racks .exit)) (now (tail .exit)) r ⌝ ∗ ⌜ Table n (row (now (racks .exit))) × ((j : ℕ) → ring ≤ j → j < n → row (now (racks .exit)) (row (now (order .entry)) j) ≡ row (now (goal .entry)) (row (now (order .entry)) j)) ⌝ ∗ ⌜ length (now (log .exit)) ≡ length (now (log .entry)) ⌝ }
+    requires { ⌜ Rows n (now rows) ⌝ ∗ ⌜ Breakdown n (Edge (now rows)) ring handles (row (now order)) (row (now start)) (row (now left)) (row (now right)) ⌝ ∗ ⌜ Table n (row (now racks)) × Table n (row (now goal)) × ((j : ℕ) → ring ≤ j → j < n → row (now goal) (row (now order) j) ≢ 0) ⌝ ∗ ⌜ Space (now racks) (now tail) written ((n - ring) * (4 * (n * n))) ⌝ }
+    ensures { λ r. ⌜ Trip (now (rows .entry)) real ((n - ring) * (4 * (n * n))) (now (racks .entry)) (now (tail .entry)) written (now (racks .exit)) (now (tail .exit)) r ⌝ ∗ ⌜ Table n (row (now (racks .exit))) × ((j : ℕ) → ring ≤ j → j < n → row (now (racks .exit)) (row (now (order .entry)) j) ≡ row (now (goal .entry)) (row (now (order .entry)) j)) ⌝ }
 {
+    let mut log = [0u16; 8256];
     let mut written = written;
     let mut i = handles;
     while 0 < i {
@@ -420,7 +420,7 @@ pub fn settle_handles(
             goal,
             real,
             racks,
-            log,
+            &mut log,
             tail,
             written,
         );

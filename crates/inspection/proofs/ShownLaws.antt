@@ -7,7 +7,7 @@
 --     short, order-refused, not-found, found    what is shown: nothing in too short a buffer, of a refused order or where there is none; else it
 -- Assumes nothing.
 use Prim.Native.Nat.{ℕ, zero, suc, _+_, _-_, _*_, _≤_, _<_}
-use mathlib.Core.Path.{_≡_, refl, ap, _∙_}
+use mathlib.Core.Path.{_≡_, refl, ap, subst, _∙_}
 use mathlib.Core.List.{List, [], _∷_}
 use mathlib.Core.Logic.{_↔_}
 use native.Mathlib.Numerals.{add-one}
@@ -28,7 +28,7 @@ use Rattle.floor.specs.FloorAnswer.{Joins}
 use Rattle.floor.specs.JoinedRows.{joinedRows, rowsOf}
 use Rattle.floor.specs.FloorRows.{edge-joins, biConnected-rows, filled-is, filled-rows}
 use Rattle.floor.specs.EdgesCounted.{ring-rows}
-use Rattle.inspection.specs.Inspection.{LaidOut, Breaks, Inspected}
+use Rattle.inspection.specs.Inspection.{upTo, LaidOut, Breaks, Inspected}
 
 module _ {E D : ℕ → ℕ → Type 0} (more : (a b : ℕ) → E a b → D a b) where
   handle-along : {at : ℕ → ℕ} {s e u v : ℕ} → Handle E at s e u v → Handle D at s e u v
@@ -117,7 +117,8 @@ module _ (o : List ℕ) (n e m : ℕ) (a : accepted (n ∷ e ∷ m ∷ []) ≡ o
       pub small : r + c ≤ 64
       small = let f = handles-few broken in let w = gave .placed-well .few-positions in omega arith
 
-      pub found : (old new : List ℕ) → 256 ≤ length old → LaidOut (row row₁) (row row₂) (row row₃) (row row₄) old new → Inspected o old new (r + c * 256)
+      pub found : (old new : List ℕ) → 256 ≤ length old → LaidOut (upTo n (row row₁)) (upTo (c + 1) (row row₂)) (upTo c (row row₃)) (upTo c (row row₄)) old new
+          → Inspected o old new (r + c * 256)
       found old new room rows =
           record {
             shown = λ l.
@@ -131,7 +132,7 @@ module _ (o : List ℕ) (n e m : ℕ) (a : accepted (n ∷ e ∷ m ∷ []) ≡ o
                   counts = refl;
                   small = let s = small in omega arith;
                   breakdown = broken;
-                  rows = rows;
+                  rows = subst (λ (k : ℕ). LaidOut (upTo k (row row₁)) (upTo (c + 1) (row row₂)) (upTo c (row row₃)) (upTo c (row row₄)) old new) (gave .positions-are) rows;
                 };
             none = λ z. absurd (never z);
             exactly = (

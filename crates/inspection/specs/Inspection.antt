@@ -1,18 +1,22 @@
 -- What the tests see of a breakdown: four rows of 64 bytes at the front of a lent buffer, as crates/breakdown has them. And of the part
 -- that the step reader gives back: one byte at a time.
 --
+--     upTo k row                        the row with its first k bytes, and zeros behind them
 --     Copied row at k old new           the first k bytes of `row` were copied into a buffer from byte `at` on
 --     LaidOut order start left right old new   the four rows stand at the bytes 0, 64, 128 and 192; every other byte is as it was
---     Shown n E old new answer          the answer has the ring size in its low 8 bits and the handle count above; the rows of that breakdown were laid out
+--     Shown n E old new answer          the answer has the ring size in its low 8 bits and the handle count above; the rows of that breakdown were laid
+--                                       out, each with zeros behind what the breakdown has of it
 --     Breaks o old                      where a breakdown is shown: a well-formed order on a bi-connected floor that is no ring, and room for it
 --     Inspected o old new answer        a breakdown is shown there, and nowhere else; else the answer is 0, and no byte changes
 --     shownByte part i                  the byte at i of the part; 256, which is no byte, from its end on
 -- Assumes nothing.
 use Prim.Native.Nat.{ℕ, _+_, _*_, _≤_, _<_}
+use mathlib.Core.Bool.{cond}
 use mathlib.Core.Path.{_≡_}
 use mathlib.Core.Bool.{cond}
 use mathlib.Core.List.{List}
 use mathlib.Core.Logic.{_↔_}
+use lib.Dec.{ltb}
 use lib.ListN.{length, getD}
 use lib.Dec.{ltb}
 use Rattle.order.specs.Order.{floorOf, WellFormed}
@@ -20,8 +24,11 @@ use Rattle.graph.specs.Connected.{BiConnected, Ring}
 use Rattle.breakdown.specs.Breakdown.{Breakdown}
 use Rattle.floor.specs.FloorAnswer.{Joins}
 
-pub record Copied (row : List ℕ) (at k : ℕ) (old new : List ℕ) : Type 0 where
-  pub inside : (i : ℕ) → i < k → getD new (at + i) 0 ≡ getD row i 0
+abbrev pub upTo : ℕ → (ℕ → ℕ) → ℕ → ℕ
+upTo k row i = cond (ltb i k) (row i) 0
+
+pub record Copied (row : ℕ → ℕ) (at k : ℕ) (old new : List ℕ) : Type 0 where
+  pub inside : (i : ℕ) → i < k → getD new (at + i) 0 ≡ row i
   pub before : (i : ℕ) → i < at → getD new i 0 ≡ getD old i 0
   pub after : (i : ℕ) → at + k ≤ i → getD new i 0 ≡ getD old i 0
   pub same-length : length new ≡ length old
@@ -44,7 +51,7 @@ pub record Shown (n : ℕ) (E : ℕ → ℕ → Type 0) (old new : List ℕ) (an
   pub counts : answer ≡ ring + handles * 256
   pub small : ring < 256
   pub breakdown : Breakdown n E ring handles order start left right
-  pub rows : LaidOut order start left right old new
+  pub rows : LaidOut (upTo n order) (upTo (handles + 1) start) (upTo handles left) (upTo handles right) old new
 
 pub record Breaks (o old : List ℕ) : Type 0 where
   pub order-right : WellFormed o

@@ -3,41 +3,53 @@
 use breakdown::Breakdown;
 use order::OrderVerdict;
 ghost use mathlib.Core.Path.{_≡_};
-ghost use Prim.Native.Nat.{_+_, _≤_};
+ghost use Prim.Native.Nat.{_+_, _≤_, _<_};
 ghost use lib.ListN.{length};
 ghost use Rattle.breakdown.specs.Building.{row};
 ghost use Rattle.timetable.specs.Reading.{partGiven};
-ghost use Rattle.inspection.specs.Inspection.{Copied, LaidOut, Inspected, shownByte};
+ghost use Rattle.inspection.specs.Inspection.{upTo, Copied, LaidOut, Inspected, shownByte};
 
-// Copies 64 bytes into the buffer from byte `at` on.
-fn copy_row(bytes: &[u8; 64], at: usize, buffer: &mut [u8])
+// Byte i of a row, of which `count` bytes are used: 0 behind them.
+fn used(bytes: &[u8; 64], count: usize, i: usize) -> u8
+    requires { ⌜ i < 64 ⌝ }
+    ensures { λ r. ⌜ r ≡ upTo count (row (now (bytes .entry))) i ⌝ }
+{
+    if i < count {
+        return bytes[i];
+    }
+    0
+}
+
+// Copies a row into the buffer from byte `at` on: its first `count` bytes, and zeros up to 64.
+fn copy_row(bytes: &[u8; 64], count: usize, at: usize, buffer: &mut [u8])
     requires { ⌜ at + 64 ≤ length (now buffer) ⌝ }
-    ensures { λ r. ⌜ Copied (now (bytes .entry)) at 64 (now (buffer .entry)) (now (buffer .exit)) ⌝ }
+    ensures { λ r. ⌜ Copied (upTo count (row (now (bytes .entry)))) at 64 (now (buffer .entry)) (now (buffer .exit)) ⌝ }
 {
     let mut i: usize = 0;
     while i < 64 {
-        buffer[at + i] = bytes[i];
+        buffer[at + i] = used(bytes, count, i);
         i += 1;
     }
 }
 
-// The four rows of a breakdown, one after another.
-fn lay_out(b: Breakdown, buffer: &mut [u8])
-    requires { ⌜ 256 ≤ length (now buffer) ⌝ }
-    ensures { λ r. ⌜ LaidOut (row (b .order)) (row (b .start)) (row (b .left)) (row (b .right)) (now (buffer .entry)) (now (buffer .exit)) ⌝ }
+// The four rows of a breakdown of n positions, one after another.
+fn lay_out(b: Breakdown, n: usize, buffer: &mut [u8])
+    requires { ⌜ (256 ≤ length (now buffer)) × (b .handles < 64) ⌝ }
+    ensures { λ r. ⌜ LaidOut (upTo n (row (b .order))) (upTo (b .handles + 1) (row (b .start))) (upTo (b .handles) (row (b .left))) (upTo (b .handles) (row (b .right))) (now (buffer .entry)) (now (buffer .exit)) ⌝ }
 {
     let order = b.order;
     let start = b.start;
     let left = b.left;
     let right = b.right;
-    copy_row(&order, 0, buffer);
-    copy_row(&start, 64, buffer);
-    copy_row(&left, 128, buffer);
-    copy_row(&right, 192, buffer);
+    let handles = b.handles;
+    copy_row(&order, n, 0, buffer);
+    copy_row(&start, handles + 1, 64, buffer);
+    copy_row(&left, handles, 128, buffer);
+    copy_row(&right, handles, 192, buffer);
 }
 
 // The breakdown of an order's floor: the answer has the size of its ring in the low 8 bits and the number of its handles above them, and its rows
-// stand in the first 256 bytes of the buffer. 0, and nothing written, where there is none, or the order is refused, or the buffer is shorter.
+// stand in the first 256 bytes of the buffer, each with zeros behind what is used of it. 0, and nothing written, where there is none, or the order is refused, or the buffer is shorter.
 #[no_mangle]
 pub extern "C" fn wichteab_inspect_breakdown(order: &[u8], buffer: &mut [u8]) -> u64
     ensures { λ r. ⌜ Inspected (now (order .entry)) (now (buffer .entry)) (now (buffer .exit)) r ⌝ }
@@ -58,7 +70,7 @@ pub extern "C" fn wichteab_inspect_breakdown(order: &[u8], buffer: &mut [u8]) ->
     if ring == 0 {
         return 0;
     }
-    lay_out(found, buffer);
+    lay_out(found, n, buffer);
     (ring + handles * 256) as u64
 }
 

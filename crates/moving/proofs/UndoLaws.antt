@@ -6,8 +6,7 @@
 --     Left                 the moves that are left to take back, and the trip so far
 --     Undone               the loop's invariant
 --     undone-begin, undone-skip, undone-move, undone-end    where the loop begins; a move is skipped; a move is taken back; where the loop ends
---     undone-vacant        a move that is not skipped enters a vacant position
---     undone-fits          there is room for it
+--     undone-space         there is room for it
 -- Assumes nothing.
 use Prim.Native.Nat.{ℕ, _+_, _-_, _*_, _/_, _%_, _≤_, _<_}
 use mathlib.Core.Path.{_≡_, refl, sym, ap, subst, _∙_}
@@ -18,9 +17,9 @@ use native.Mathlib.Omega.{arith}
 use lib.ListN.{length}
 use Rattle.graph.specs.Rows.{Edge}
 use Rattle.moving.specs.Went.{Same, Back}
-use Rattle.moving.specs.Journey.{row, Trail, Fits, Trip, Journey}
+use Rattle.moving.specs.Journey.{row, Trail, Fits, Space, Moved, Trip}
 use Rattle.moving.specs.Journey.Trail.{start, entry}
-use Rattle.moving.specs.JourneyLaws.{trail-below, trip-none, trip-append, trip-more, trip-written}
+use Rattle.moving.specs.JourneyLaws.{trip-none, trip-append, trip-more, trip-written, moved-left, moved-entered, moved-others, moved-trip}
 use Rattle.moving.specs.Turned.{Undoing}
 use Rattle.moving.specs.BackLaws.{Step, back-from, back-none, back-skipped, back-taken}
 
@@ -48,24 +47,22 @@ trail-top {l} {s} i e le (entry {j = j} {a} {b} {past} is x y t) =
     let g : b ≡ second l i = omega arith in
     record { rest = past; is = cc; below = subst (λ (n : ℕ). Trail l s n past) q t }
 
--- h, l, t and w are what the loop began with, h′, l′, t′ and w′ what it has now, with the entries from s up to i left.
-pub record Left (g : List ℕ) (m s j : ℕ) (h t : List ℕ) (w : ℕ) (h′ l′ t′ : List ℕ) (w′ i : ℕ) (k : ℕ → ℕ) : Type 0 where
+-- h, t and w are what the loop began with, h′, t′ and w′ what it has now, with the log's entries from s up to i left.
+pub record Left (g l : List ℕ) (m s j : ℕ) (h t : List ℕ) (w : ℕ) (h′ t′ : List ℕ) (w′ i : ℕ) (k : ℕ → ℕ) : Type 0 where
   pub rest : List (ℕ × ℕ)
-  pub undoing : Undoing g h′ l′ s i rest k
+  pub undoing : Undoing g h′ l s i rest k
   pub trip : Trip g m (j - i) h t w h′ t′ w′
 
-pub record Undone (m s j : ℕ) (h l t : List ℕ) (w : ℕ) (h′ l′ t′ : List ℕ) (w′ i : ℕ) : Type 0 where
+pub record Undone (m s j : ℕ) (l h t : List ℕ) (w : ℕ) (h′ t′ : List ℕ) (w′ i : ℕ) : Type 0 where
   pub low : s ≤ i
   pub high : i ≤ j
-  pub log : length l′ ≡ 8256
-  pub left : (g : List ℕ) (past : List (ℕ × ℕ)) (k : ℕ → ℕ) → Undoing g h l s j past k → Left g m s j h t w h′ l′ t′ w′ i k
+  pub left : (g : List ℕ) (past : List (ℕ × ℕ)) (k : ℕ → ℕ) → Undoing g h l s j past k → Left g l m s j h t w h′ t′ w′ i k
 
-pub undone-begin : (m s j : ℕ) (h l t : List ℕ) (w : ℕ) → s ≤ j → length l ≡ 8256 → Undone m s j h l t w h l t w j
-undone-begin m s j h l t w le n =
+pub undone-begin : (m s j : ℕ) (l h t : List ℕ) (w : ℕ) → s ≤ j → Undone m s j l h t w h t w j
+undone-begin m s j l h t w le =
     record {
       low = le;
       high = omega arith;
-      log = n;
       left = λ g past k u. record { rest = past; undoing = u; trip = trip-more (j - j) (omega arith) (trip-none h t w) };
     }
 
@@ -77,24 +74,22 @@ module _ {g h l : List ℕ} {s i : ℕ} {past : List (ℕ × ℕ)} {k : ℕ → 
   last-back : {a b : ℕ} → a ≡ first l (i - 1) → b ≡ second l (i - 1) → Back (Edge g) (row h) ((a, b) ∷ last .rest) k
   last-back {a} {b} x y = let q : past ≡ (a, b) ∷ last .rest = cc (last .is) in subst (λ (v : List (ℕ × ℕ)). Back (Edge g) (row h) v k) q (u .back)
 
-module _ {m s j : ℕ} {h l t : List ℕ} {w : ℕ} {h′ l′ t′ : List ℕ} {w′ i : ℕ} (u : Undone m s j h l t w h′ l′ t′ w′ i) (more : s < i) where
-  pub undone-fits : {g : List ℕ} {past : List (ℕ × ℕ)} {k : ℕ → ℕ} → Undoing g h l s j past k → Fits h l t w s (j - s) → Fits h′ l′ t′ w′ (i - 1) 1
-  undone-fits {g} {past} {k} v f =
+module _ {m s j : ℕ} {l h t : List ℕ} {w : ℕ} {h′ t′ : List ℕ} {w′ i : ℕ} (u : Undone m s j l h t w h′ t′ w′ i) (more : s < i) where
+  pub undone-space : {g : List ℕ} {past : List (ℕ × ℕ)} {k : ℕ → ℕ} → Undoing g h l s j past k → Fits h l t w s (j - s) → Space h′ t′ w′ 1
+  undone-space {g} {past} {k} v f =
       let x = u .left g past k v .trip in
       let high = u .high in
-      let logged = f .logged in
       let room = f .room in
       let tail = x .tail in
       let few = trip-written x in
-      record { racks = x .racks ∙ f .racks; log = u .log; logged = omega arith; room = omega arith }
+      record { racks = x .racks ∙ f .racks; room = omega arith }
 
-  module _ {a b : ℕ} (leaves : a ≡ first l′ (i - 1)) (enters : b ≡ second l′ (i - 1)) where
-    pub undone-skip : row h′ b ≡ 0 → Undone m s j h l t w h′ l′ t′ w′ (i - 1)
+  module _ {a b : ℕ} (leaves : a ≡ first l (i - 1)) (enters : b ≡ second l (i - 1)) where
+    pub undone-skip : row h′ b ≡ 0 → Undone m s j l h t w h′ t′ w′ (i - 1)
     undone-skip vacant =
         record {
           low = omega arith;
           high = (let x = u .high in omega arith);
-          log = u .log;
           left = λ g past k v.
               let x = u .left g past k v in
               let o = last more (x .undoing) in
@@ -106,45 +101,37 @@ module _ {m s j : ℕ} {h l t : List ℕ} {w : ℕ} {h′ l′ t′ : List ℕ} 
         }
 
     module _ (held : row h′ b ≢ 0) where
-      step : {g : List ℕ} {past : List (ℕ × ℕ)} {k : ℕ → ℕ} (v : Undoing g h′ l′ s i past k) → Step (Edge g) (row h′) a b (last more v .rest) k
+      step : {g : List ℕ} {past : List (ℕ × ℕ)} {k : ℕ → ℕ} (v : Undoing g h′ l s i past k) → Step (Edge g) (row h′) a b (last more v .rest) k
       step v = back-taken held (last-back more v leaves enters)
 
-      pub undone-vacant : {g : List ℕ} {past : List (ℕ × ℕ)} {k : ℕ → ℕ} → Undoing g h l s j past k → row h′ a ≡ 0
-      undone-vacant {g} {past} {k} v = step (u .left g past k v .undoing) .move .vacant
-
-      pub undone-move : {f : List ℕ} {past : List (ℕ × ℕ)} {k : ℕ → ℕ} {h″ l″ t″ : List ℕ} {w″ j″ : ℕ} → Undoing f h l s j past k
-          → ((g : List ℕ) → Edge g b a → Journey g m 1 h′ l′ t′ w′ (i - 1) h″ l″ t″ w″ j″)
-          → ((p : ℕ) → p ≢ b → p ≢ a → row h″ p ≡ row h′ p) × (row h″ b ≡ 0) × (row h″ a ≡ row h′ b)
-          → Undone m s j h l t w h″ l″ t″ w″ (i - 1)
-      undone-move {f} {past} {k} {h″} some made (others, left, entered) =
+      pub undone-move : {h″ t″ : List ℕ} {w″ : ℕ} → length h′ ≡ 64 → a < 64 → b < 64 → Moved m b a h′ t′ w′ h″ t″ w″ → Undone m s j l h t w h″ t″ w″ (i - 1)
+      undone-move {h″} long ha hb moved =
           record {
             low = omega arith;
             high = (let x = u .high in omega arith);
-            log = made f (step (u .left f past k some .undoing) .move .edge) .log ∙ u .log;
             left = λ g past k v.
                 let x = u .left g past k v in
                 let o = last more (x .undoing) in
                 let y = step (x .undoing) in
-                let one = made g (y .move .edge) in
+                let vacant = y .move .vacant in
+                let one = moved-trip h′ b a long hb ha held vacant moved g (y .move .edge) in
                 let high = u .high in
                 record {
                   rest = o .rest;
-                  undoing = record {
-                    trail = trail-below (one .trip .moves) (o .rest) (i - 1) (one .logged)
-                        (one .trail s (o .rest) (omega arith) (o .below));
-                    back = back-from (agree (y .between) (y .move .others) (y .move .left) (y .move .entered)) (y .rest);
-                  };
-                  trip = trip-more (j - (i - 1)) (omega arith) (trip-append (x .trip) (one .trip));
+                  undoing = record { trail = o .below; back = back-from (agree vacant (y .between) (y .move .others) (y .move .left) (y .move .entered)) (y .rest) };
+                  trip = trip-more (j - (i - 1)) (omega arith) (trip-append (x .trip) one);
                 };
           }
         where
-          agree : (f : ℕ → ℕ) → ((p : ℕ) → p ≢ b → p ≢ a → f p ≡ row h′ p) → f b ≡ 0 → f a ≡ row h′ b → Same (row h″) f
-          agree f o e y p =
+          agree : row h′ a ≡ 0 → (f : ℕ → ℕ) → ((p : ℕ) → p ≢ b → p ≢ a → f p ≡ row h′ p) → f b ≡ 0 → f a ≡ row h′ b → Same (row h″) f
+          agree vacant f o e y p =
               by-cases (ℕ-discrete p b)
-              (λ q. ap (row h″) q ∙ left ∙ sym (ap f q ∙ e))
-              (λ x. by-cases (ℕ-discrete p a) (λ q. ap (row h″) q ∙ entered ∙ sym (ap f q ∙ y)) (λ z. others p x z ∙ sym (o p x z)))
+              (λ q. ap (row h″) q ∙ moved-left h′ b a long hb ha held vacant moved ∙ sym (ap f q ∙ e))
+              (λ x. by-cases (ℕ-discrete p a)
+              (λ q. ap (row h″) q ∙ moved-entered h′ b a long hb ha held vacant moved ∙ sym (ap f q ∙ y))
+              (λ z. moved-others h′ b a long hb ha held vacant moved p x z ∙ sym (o p x z)))
 
-pub undone-end : {g : List ℕ} {m s j : ℕ} {h l t : List ℕ} {w : ℕ} {h′ l′ t′ : List ℕ} {w′ i : ℕ} → Undone m s j h l t w h′ l′ t′ w′ i → i ≤ s
+pub undone-end : {g : List ℕ} {m s j : ℕ} {l h t : List ℕ} {w : ℕ} {h′ t′ : List ℕ} {w′ i : ℕ} → Undone m s j l h t w h′ t′ w′ i → i ≤ s
     → (past : List (ℕ × ℕ)) (k : ℕ → ℕ) → Undoing g h l s j past k → Trip g m (j - s) h t w h′ t′ w′ × Same (row h′) k
 undone-end {g} {m} {s} {j} {h′ = h′} {i = i} u e past k v =
     let x = u .left g past k v in

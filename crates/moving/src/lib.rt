@@ -4,12 +4,12 @@ ghost use mathlib.Core.Logic.{_↔_, _≢_, _⊎_};
 ghost use mathlib.Core.Path.{_≡_};
 ghost use mathlib.Core.List.{List};
 ghost use Prim.Native.Nat.{ℕ, _+_, _-_, _*_, _≤_, _<_};
-ghost use lib.ListN.{length};
+ghost use lib.ListN.{set};
 ghost use Rattle.sets.specs.Sets.{Has};
 ghost use Rattle.graph.specs.Connected.{Robust};
 ghost use Rattle.graph.specs.Rows.{Edge, Rows};
 ghost use Rattle.moving.specs.Went.{Same};
-ghost use Rattle.moving.specs.Journey.{row, Fits, Trip, Journey, JourneyIn};
+ghost use Rattle.moving.specs.Journey.{row, Fits, Space, Moved, Trip, Journey, JourneyIn};
 ghost use Rattle.moving.specs.Turned.{Turned, Shifted, Undoing};
 ghost use Rattle.moving.specs.Cleared.{Reaches, Cleared, Vacancy, Brought};
 
@@ -19,7 +19,29 @@ pub struct Tally {
     pub logged: usize,
 }
 
-// Moves the rack at a to b. A rack above `real` is a stand-in.
+// Moves the rack at a to b. A rack above `real` is a stand-in: its move is not written. Yields how many moves the plan has.
+fn move_rack(
+    a: usize,
+    b: usize,
+    real: usize,
+    racks: &mut [u8; 64],
+    tail: &mut [u8],
+    written: usize,
+) -> usize
+    requires { ⌜ (a < 64) × (b < 64) ⌝ ∗ ⌜ Space (now racks) (now tail) written 1 ⌝ }
+    ensures { λ r. ⌜ Moved real a b (now (racks .entry)) (now (tail .entry)) written (now (racks .exit)) (now (tail .exit)) r ⌝ }
+{
+    let rack = racks[a];
+    racks[b] = rack;
+    racks[a] = 0;
+    if real < field::wide(rack) {
+        return written;
+    }
+    field::put_pair(tail, written, a, b);
+    written + 1
+}
+
+// Moves the rack at a to b, and logs the move.
 pub fn make_move(
     a: usize,
     b: usize,
@@ -30,23 +52,13 @@ pub fn make_move(
     tally: Tally,
 ) -> Tally
     requires { ⌜ (a < 64) × (b < 64) × (row (now racks) a ≢ 0) × (row (now racks) b ≡ 0) ⌝ ∗ ⌜ Fits (now racks) (now log) (now tail) (tally .written) (tally .logged) 1 ⌝ }
-    ensures { λ r. ⌜ ((g : List ℕ) → Edge g a b → Journey g real 1 (now (racks .entry)) (now (log .entry)) (now (tail .entry)) (tally .written) (tally .logged) (now (racks .exit)) (now (log .exit)) (now (tail .exit)) (r .written) (r .logged)) ⌝ ∗ ⌜ ((p : ℕ) → p ≢ a → p ≢ b → row (now (racks .exit)) p ≡ row (now (racks .entry)) p) × (row (now (racks .exit)) a ≡ 0) × (row (now (racks .exit)) b ≡ row (now (racks .entry)) a) ⌝ }
+    ensures { λ r. ⌜ ((g : List ℕ) → Edge g a b → Journey g real 1 (now (racks .entry)) (now (log .entry)) (now (tail .entry)) (tally .written) (tally .logged) (now (racks .exit)) (now (log .exit)) (now (tail .exit)) (r .written) (r .logged)) ⌝ ∗ ⌜ ((p : ℕ) → p ≢ a → p ≢ b → row (now (racks .exit)) p ≡ row (now (racks .entry)) p) × (row (now (racks .exit)) a ≡ 0) × (row (now (racks .exit)) b ≡ row (now (racks .entry)) a) × (now (log .exit) ≡ set (now (log .entry)) (tally .logged) (a * 64 + b)) ⌝ }
 {
-    let rack = racks[a];
-    racks[b] = rack;
-    racks[a] = 0;
     let logged = tally.logged;
     log[logged] = (a * 64 + b) as u16;
-    let written = tally.written;
-    if real < field::wide(rack) {
-        return Tally {
-            written,
-            logged: logged + 1,
-        };
-    }
-    field::put_pair(tail, written, a, b);
+    let written = move_rack(a, b, real, racks, tail, tally.written);
     Tally {
-        written: written + 1,
+        written,
         logged: logged + 1,
     }
 }
@@ -225,12 +237,12 @@ pub fn undo(
     to: usize,
     real: usize,
     racks: &mut [u8; 64],
-    log: &mut [u16; 8256],
+    log: &[u16; 8256],
     tail: &mut [u8],
     written: usize,
 ) -> usize
     requires { ⌜ ((g : List ℕ) × (past : List (ℕ × ℕ)) × (k : ℕ → ℕ) × Undoing g (now racks) (now log) from to past k) ⌝ ∗ ⌜ (from ≤ to) × Fits (now racks) (now log) (now tail) written from (to - from) ⌝ }
-    ensures { λ r. ⌜ ((g : List ℕ) (past : List (ℕ × ℕ)) (k : ℕ → ℕ) → Undoing g (now (racks .entry)) (now (log .entry)) from to past k → Trip g real (to - from) (now (racks .entry)) (now (tail .entry)) written (now (racks .exit)) (now (tail .exit)) r × Same (row (now (racks .exit))) k) ⌝ ∗ ⌜ length (now (log .exit)) ≡ length (now (log .entry)) ⌝ }
+    ensures { λ r. ⌜ ((g : List ℕ) (past : List (ℕ × ℕ)) (k : ℕ → ℕ) → Undoing g (now (racks .entry)) (now (log .entry)) from to past k → Trip g real (to - from) (now (racks .entry)) (now (tail .entry)) written (now (racks .exit)) (now (tail .exit)) r × Same (row (now (racks .exit))) k) ⌝ }
 {
     let mut written = written;
     let mut i = to;
@@ -240,8 +252,7 @@ pub fn undo(
         let a = field::first_of(x);
         let b = field::second_of(x);
         if racks[b] != 0 {
-            let tally = make_move(b, a, real, racks, log, tail, Tally { written, logged: i });
-            written = tally.written;
+            written = move_rack(b, a, real, racks, tail, written);
         }
     }
     written

@@ -30,7 +30,7 @@ use Rattle.breakdown.specs.Answer.{Answer}
 use Rattle.moving.specs.Went.{Same}
 use Rattle.moving.specs.WentLaws.{same-refl}
 use Rattle.moving.specs.Journey.{row, Packed, Trip}
-use Rattle.moving.specs.JourneyLaws.{packed-nothing, went-written}
+use Rattle.moving.specs.JourneyLaws.{packed-nothing, trip-packed, went-written}
 use Rattle.planning.specs.Placed.{Placed, Filled}
 use Rattle.planning.specs.Planned.{trip-planned}
 use Rattle.floor.specs.JoinedRows.{joinedRows, rowsOf}
@@ -89,9 +89,9 @@ module _ (o : List ℕ) (n e m : ℕ) (gave : OrderGave o n e m) where
           )
 
       pub planned : (h k start goal start′ t t′ : List ℕ) (w : ℕ) → Holds (startsOf o) h → Holds (goalsOf o) k → (((p : ℕ) → p < 64 → row h p ≡ row k p) → ⊥)
-          → Filled m (row h) (row start) → Filled m (row k) (row goal) → Trip g m (8 * (n * (n * n))) start t 0 start′ t′ w → Same (row start′) (row goal)
+          → Filled m (row h) (row start) → Filled m (row k) (row goal) → 12 * (n * (n * n)) ≤ length t → Trip g m (8 * (n * (n * n))) start t 0 start′ t′ w → Same (row start′) (row goal)
           → Moves o n t t′ w
-      planned h k start goal start′ t t′ w a b differ fa fb trip ends =
+      planned h k start goal start′ t t′ w a b differ fa fb room trip ends =
           let well = gave .placed-well in
           record {
             moves = trip .written;
@@ -104,7 +104,7 @@ module _ (o : List ℕ) (n e m : ℕ) (gave : OrderGave o n e m) where
                   (same-refl (row start)) ends;
               still = λ e. absurd (differ (same-tables e));
             };
-            packed = trip .packed t [] refl (packed-nothing t);
+            packed = trip-packed trip t [] refl (let x = went-written (trip .went) in let y = trip .few in omega arith) (packed-nothing t);
           }
         where
           same-tables : startsOf o ≡ goalsOf o → (p : ℕ) → p < 64 → row h p ≡ row k p

@@ -53,8 +53,7 @@ fn plan_moves(order: &[u8], n: usize, e: usize, m: usize, tail: &mut [u8]) -> us
     planning::fill(n, m, &mut goal);
     let rows = floor::rows_of(&order[3..], e);
     let found = breakdown::break_down(&rows, n);
-    let mut log = [0u16; 8256];
-    planning::solve(&rows, n, found, &goal, m, &mut start, &mut log, tail)
+    planning::solve(&rows, n, found, &goal, m, &mut start, tail)
 }
 
 // The floor judge's refusal as the planner's: the same fault at the same place.

@@ -1,11 +1,12 @@
 -- Laws of filling vacancies with stand-ins.
 --
 --     placed-count         m racks leave n - m positions vacant
---     Filling, filling-begin, filling-some, filling-step, filling-end    the state of `fill`: r racks stand, stand-ins among them
+--     fill-next            one vacancy more, the lowest, is filled
+--     Filling, filling-begin, filling-some, filling-step, filling-all, filling-end    the state of `fill`: r racks stand, stand-ins among them
 -- Assumes nothing.
 use Prim.Native.Nat.{ℕ, zero, suc, _+_, _-_, _^_, _≤_, _<_}
 use mathlib.Core.Path.{_≡_, refl, sym, ap, subst, _∙_}
-use mathlib.Core.List.{List}
+use mathlib.Core.List.{List, [], _∷_}
 use mathlib.Core.Logic.{_↔_, _≢_, _⊎_, inl, inr, ⊎-elim, by-cases}
 use native.Mathlib.Decide.{ℕ-discrete, decLe}
 use native.Mathlib.Omega.{arith}
@@ -18,7 +19,7 @@ use Rattle.sets.specs.SetLaws.{has-or, has-only, has-none, has-or-not}
 use Rattle.sets.specs.CountLaws.{ones-least, ones-most, ones-push, ones-pair, ones-third, ones-subset}
 use Rattle.moving.specs.Journey.{row}
 use Rattle.settling.specs.Table.{Table}
-use Rattle.planning.specs.Placed.{Placed, Filled}
+use Rattle.planning.specs.Placed.{Placed, Filled, fillFrom, withStandIns}
 
 -- The positions that are vacant or hold a rack above r, as a set.
 abbrev Above : ℕ → (ℕ → ℕ) → ℕ → ℕ → Type 0
@@ -79,6 +80,35 @@ module _ {n m : ℕ} {h : ℕ → ℕ} (placed : Placed n m h) where
       none : {i : ℕ} → i ≤ m → m < i → ⊥
       none a b = omega arith
 
+some : {x : ℕ} → suc x ≡ 0 → ⊥
+some e = omega arith
+
+none-below : {q : ℕ} → q < 0 → ⊥
+none-below l = omega arith
+
+fill-none : (h : List ℕ) (r : ℕ) → fillFrom r 0 h ≡ h
+unfolding fillFrom
+fill-none h r = refl
+
+pub fill-next : (h : List ℕ) (r c p : ℕ) → p < length (fillFrom r c h) → row (fillFrom r c h) p ≡ 0 → ((q : ℕ) → q < p → row (fillFrom r c h) q ≢ 0)
+    → set (fillFrom r c h) p (suc (r + c)) ≡ fillFrom r (suc c) h
+unfolding fillFrom
+fill-next [] r zero p in-row vacant lowest = absurd (none-below in-row)
+fill-next [] r (suc c) p in-row vacant lowest = absurd (none-below in-row)
+fill-next (zero ∷ h) r zero zero in-row vacant lowest = let e : suc (r + 0) ≡ suc r = omega arith in ap (λ (x : ℕ). x ∷ h) e
+fill-next (zero ∷ h) r zero (suc p) in-row vacant lowest = absurd (lowest 0 (omega arith) refl)
+fill-next (zero ∷ h) r (suc c) zero in-row vacant lowest = absurd (some vacant)
+fill-next (zero ∷ h) r (suc c) (suc p) in-row vacant lowest =
+    let e : suc (r + suc c) ≡ suc (suc r + c) = omega arith in
+    ap (λ (x : ℕ). suc r ∷ set (fillFrom (suc r) c h) p x) e
+    ∙ ap (λ (l : List ℕ). suc r ∷ l) (fill-next h (suc r) c p (omega arith) vacant (λ q l. lowest (suc q) (omega arith)))
+fill-next (suc y ∷ h) r zero zero in-row vacant lowest = absurd (some vacant)
+fill-next (suc y ∷ h) r zero (suc p) in-row vacant lowest =
+    ap (λ (l : List ℕ). suc y ∷ l) (fill-next h r zero p (omega arith) vacant (λ q l. lowest (suc q) (omega arith)))
+fill-next (suc y ∷ h) r (suc c) zero in-row vacant lowest = absurd (some vacant)
+fill-next (suc y ∷ h) r (suc c) (suc p) in-row vacant lowest =
+    ap (λ (l : List ℕ). suc y ∷ l) (fill-next h r (suc c) p (omega arith) vacant (λ q l. lowest (suc q) (omega arith)))
+
 pub record Filling (n m : ℕ) (h k : List ℕ) (r v : ℕ) : Type 0 where
   pub long : length k ≡ 64
   pub from : m ≤ r
@@ -87,6 +117,7 @@ pub record Filling (n m : ℕ) (h k : List ℕ) (r v : ℕ) : Type 0 where
   pub vacant : (p : ℕ) → Has v p ↔ ((p < n) × (row k p ≡ 0))
   pub count : ones v + r ≡ n
   pub filled : Filled m (row h) (row k)
+  pub is : k ≡ fillFrom m (r - m) h
 
 module _ {n m : ℕ} {h : List ℕ} where
   pub filling-begin : (v : ℕ) → length h ≡ 64 → m + 2 ≤ n → Placed n m (row h) → ((p : ℕ) → Has v p ↔ ((p < n) × (row h p ≡ 0))) → Filling n m h h m v
@@ -99,6 +130,7 @@ module _ {n m : ℕ} {h : List ℕ} where
         vacant = vacant;
         count = placed-count placed v vacant;
         filled = record { kept = λ p held. refl; added = λ p e. inl e };
+        is = (let none : 0 ≡ m - m = omega arith in sym (fill-none h m) ∙ ap (λ (c : ℕ). fillFrom m c h) none);
       }
 
   pub filling-some : {k : List ℕ} {r v : ℕ} → Filling n m h k r v → 0 < v
@@ -107,9 +139,9 @@ module _ {n m : ℕ} {h : List ℕ} where
       (λ e. let c = f .count in let z = ones-subset v 0 (λ p y. absurd (has-none p (subst (λ (i : ℕ). Has i p) e y))) in let o = ones-most 0 0 (λ p y. absurd (has-none p y)) in let r = f .room in omega arith)
       (λ e. omega arith)
 
-  pub filling-step : (k : List ℕ) (r v w p : ℕ) → n ≤ 64 → r + 2 < n → Has v p → ((q : ℕ) → Has w q ↔ (Has v q × (q ≢ p))) → Filling n m h k r v
-      → Filling n m h (set k p (r + 1)) (r + 1) w
-  filling-step k r v w p small more on less f =
+  pub filling-step : (k : List ℕ) (r v w p : ℕ) → n ≤ 64 → r + 2 < n → Has v p → ((q : ℕ) → Has v q → p ≤ q) → ((q : ℕ) → Has w q ↔ (Has v q × (q ≢ p)))
+      → Filling n m h k r v → Filling n m h (set k p (r + 1)) (r + 1) w
+  filling-step k r v w p small more on lowest less f =
       record {
         long = length-set k p (r + 1) ∙ f .long;
         from = (let x = f .from in omega arith);
@@ -139,10 +171,27 @@ module _ {n m : ℕ} {h : List ℕ} where
               (λ e. inr (let x = here a e in let y = f .from in omega arith))
               (λ e. ⊎-elim (λ x. inl (other a e ∙ x)) (λ x. inr (subst (λ (i : ℕ). m < i) (sym (other a e)) x)) (f .filled .added a z));
         };
+        is =
+            ap (λ (l : List ℕ). set l p (r + 1)) (f .is)
+            ∙ ap (set (fillFrom m (r - m) h) p) (let x = f .from in let e : r + 1 ≡ suc (m + (r - m)) = omega arith in e)
+            ∙ fill-next h m (r - m) p in-row (sym (ap (λ (l : List ℕ). row l p) (f .is)) ∙ at-p .1) below
+            ∙ ap (λ (c : ℕ). fillFrom m c h) (let x = f .from in let e : suc (r - m) ≡ r + 1 - m = omega arith in e);
       }
     where
       at-p : (p < n) × (row k p ≡ 0)
       at-p = f .vacant p .0 on
+
+      in-row : p < length (fillFrom m (r - m) h)
+      in-row = let l = f .long in let e = ap length (f .is) in let x = at-p .0 in omega arith
+
+      -- every position below the lowest vacancy holds a rack
+      below : (q : ℕ) → q < p → row (fillFrom m (r - m) h) q ≢ 0
+      below q l z =
+          let x = at-p .0 in
+          over l (lowest q (f .vacant q .1 (omega arith, ap (λ (i : List ℕ). row i q) (f .is) ∙ z)))
+        where
+          over : q < p → p ≤ q → ⊥
+          over a b = omega arith
 
       here : (a : ℕ) → a ≡ p → row (set k p (r + 1)) a ≡ r + 1
       here a e = ap (row (set k p (r + 1))) e ∙ getD-set-same k p (r + 1) 0 (let n = f .long in let l = at-p .0 in omega arith)
@@ -177,6 +226,12 @@ module _ {n m : ℕ} {h : List ℕ} where
         λ y. by-cases (ℕ-discrete q p) (λ e. inr e) (λ e. inl (less q .1 (y, e))),
         λ y. ⊎-elim (λ z. less q .0 z .0) (λ e. subst (Has v) (sym e) on) y,
       )
+
+  pub filling-all : (k : List ℕ) (r v : ℕ) → n ≤ r + 2 → Filling n m h k r v → k ≡ withStandIns n m h
+  filling-all k r v done f =
+      let room = f .room in
+      let e : r - m ≡ n - 2 - m = omega arith in
+      f .is ∙ ap (λ (c : ℕ). fillFrom m c h) e
 
   pub filling-end : (k : List ℕ) (r v : ℕ) → n ≤ r + 2 → Filling n m h k r v → Table n (row k)
   filling-end k r v done f =

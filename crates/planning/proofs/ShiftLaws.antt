@@ -6,7 +6,7 @@
 --     shifted          both clearings make the shift
 -- Assumes nothing.
 use Prim.Native.Nat.{ℕ, suc, _+_, _-_, _*_, _≤_, _<_}
-use mathlib.Core.Path.{_≡_, refl, sym, ap, subst, _∙_}
+use mathlib.Core.Path.{_≡_, refl, sym, ap, _∙_}
 use mathlib.Core.List.{List, [], _∷_, _++_}
 use mathlib.Core.Logic.{_↔_, _≢_}
 use native.Mathlib.Omega.{arith}
@@ -17,9 +17,9 @@ use Rattle.graph.specs.Connected.{BiConnected}
 use Rattle.graph.specs.Rows.{Edge, Rows}
 use Rattle.moving.specs.Went.{Went}
 use Rattle.moving.specs.Went.Went.{stay, real, stand-in}
-use Rattle.moving.specs.Journey.{row, Packed, onto, Trail, Trip, Journey}
+use Rattle.moving.specs.Journey.{row, packedOn, onto, Trip, Journey}
 use Rattle.moving.specs.Journey.Trail.{start}
-use Rattle.moving.specs.JourneyLaws.{journey-append, packed-nothing, packed-same}
+use Rattle.moving.specs.JourneyLaws.{journey-append}
 use Rattle.moving.specs.Cleared.{Reaches, Cleared}
 use Rattle.settling.specs.Table.{Table}
 use Rattle.settling.specs.TableLaws.{table-went, table-other}
@@ -51,8 +51,8 @@ none-written (real {h = h} {a = a} m low w) = absurd (m .held (zero (h a) low))
 none-written (stand-in m low w) = none-written w
 
 pub tail-kept : {g : List ℕ} {c : ℕ} {h t h′ t′ : List ℕ} {w′ : ℕ} → Trip g 0 c h t 0 h′ t′ w′ → t′ ≡ t
-tail-kept {t = t} {t′ = t′} a =
-    packed-same (subst (λ (ws : List (ℕ × ℕ)). Packed t ws t′) (none-written (a .went)) (a .packed t [] refl (packed-nothing t)))
+unfolding packedOn
+tail-kept {t = t} a = a .bytes ∙ ap (packedOn t 0) (none-written (a .went))
 
 module _ {n : ℕ} (g : List ℕ) (rows : Rows n g) (x y all free : ℕ) (has : (p : ℕ) → Has all p ↔ (p < n)) (less : (p : ℕ) → Has free p ↔ (Has all p × (p ≢ x)))
     (t m k l l₁ l₂ s s₁ s₂ : List ℕ) (w₁ j₁ w₂ j₂ : ℕ) (table : Table n (row t)) where

@@ -10,11 +10,11 @@ ghost use Rattle.graph.specs.Connected.{BiConnected};
 ghost use Rattle.graph.specs.Rows.{Edge, Rows};
 ghost use Rattle.breakdown.specs.Breakdown.{Among, Breakdown as Broken};
 ghost use Rattle.moving.specs.Went.{Same};
-ghost use Rattle.moving.specs.Journey.{row, Room, Trip};
+ghost use Rattle.moving.specs.Journey.{row, Room, Space, Trip};
 ghost use Rattle.settling.specs.Table.{Table};
 ghost use Rattle.settling.specs.Circle.{Circle, On};
 ghost use Rattle.planning.specs.Shift.{Shift};
-ghost use Rattle.planning.specs.Placed.{Placed, Filled};
+ghost use Rattle.planning.specs.Placed.{Placed, Filled, withStandIns};
 
 // Shifts the goal so that x and `next`, beside each other, are vacant in it. What leads there is logged, and no move of it is written: no rack is real
 // here. Yields how many moves are logged.
@@ -62,7 +62,7 @@ fn shift_goal(
 // Fills the vacancies beyond two with stand-ins, racks m + 1 and up, the lowest position first.
 pub fn fill(n: usize, m: usize, racks: &mut [u8; 64])
     requires { ⌜ (n ≤ 64) × (m + 2 ≤ n) × Placed n m (row (now racks)) × (length (now racks) ≡ 64) ⌝ }
-    ensures { λ _. ⌜ Table n (row (now (racks .exit))) × Filled m (row (now (racks .entry))) (row (now (racks .exit))) × (length (now (racks .exit)) ≡ 64) ⌝ }
+    ensures { λ _. ⌜ Table n (row (now (racks .exit))) × Filled m (row (now (racks .entry))) (row (now (racks .exit))) × (length (now (racks .exit)) ≡ 64) × (now (racks .exit) ≡ withStandIns n m (now (racks .entry))) ⌝ }
 {
     let mut vacant = moving::vacancies(racks, n);
     let mut r = m;
@@ -88,10 +88,9 @@ fn settle(
     goal: &[u8; 64],
     real: usize,
     racks: &mut [u8; 64],
-    log: &mut [u16; 8256],
     tail: &mut [u8],
 ) -> usize
-    requires { ⌜ Rows n (now rows) ⌝ ∗ ⌜ Broken n (Edge (now rows)) ring handles (row (now order)) (row (now start)) (row (now left)) (row (now right)) ⌝ ∗ ⌜ Circle n (Edge (now rows)) (row (now circle)) ring (row (now order) ring) × ((p : ℕ) → Among (row (now order)) ring p ↔ On (row (now circle)) ring p) ⌝ ∗ ⌜ Table n (row (now racks)) × Table n (row (now goal)) × (row (now goal) (row (now circle) 0) ≡ 0) × (row (now goal) (row (now circle) 1) ≡ 0) ⌝ ∗ ⌜ Room (now racks) (now log) (now tail) 0 ((n - ring) * (4 * (n * n)) + (2 * (n - 1) + ring * (4 * (n * n) + 6))) ⌝ }
+    requires { ⌜ Rows n (now rows) ⌝ ∗ ⌜ Broken n (Edge (now rows)) ring handles (row (now order)) (row (now start)) (row (now left)) (row (now right)) ⌝ ∗ ⌜ Circle n (Edge (now rows)) (row (now circle)) ring (row (now order) ring) × ((p : ℕ) → Among (row (now order)) ring p ↔ On (row (now circle)) ring p) ⌝ ∗ ⌜ Table n (row (now racks)) × Table n (row (now goal)) × (row (now goal) (row (now circle) 0) ≡ 0) × (row (now goal) (row (now circle) 1) ≡ 0) ⌝ ∗ ⌜ Space (now racks) (now tail) 0 ((n - ring) * (4 * (n * n)) + (2 * (n - 1) + ring * (4 * (n * n) + 6))) ⌝ }
     ensures { λ r. ⌜ Trip (now (rows .entry)) real ((n - ring) * (4 * (n * n)) + (2 * (n - 1) + ring * (4 * (n * n) + 6))) (now (racks .entry)) (now (tail .entry)) 0 (now (racks .exit)) (now (tail .exit)) r ⌝ ∗ ⌜ Same (row (now (racks .exit))) (row (now (goal .entry))) ⌝ }
 {
     let handled = handles::settle_handles(
@@ -106,24 +105,11 @@ fn settle(
         goal,
         real,
         racks,
-        log,
         tail,
         0,
     );
     let y = order[ring] as usize;
-    ring::settle_ring(
-        rows,
-        n,
-        circle,
-        ring,
-        y,
-        goal,
-        real,
-        racks,
-        log,
-        tail,
-        handled,
-    )
+    ring::settle_ring(rows, n, circle, ring, y, goal, real, racks, tail, handled)
 }
 
 // Moves the racks from where they stand to where the goal has them. The goal is shifted first, so that two neighbours on the base ring are vacant in it;
@@ -135,10 +121,9 @@ pub fn solve(
     goal: &[u8; 64],
     real: usize,
     racks: &mut [u8; 64],
-    log: &mut [u16; 8256],
     tail: &mut [u8],
 ) -> usize
-    requires { ⌜ Rows n (now rows) ⌝ ∗ ⌜ Broken n (Edge (now rows)) (b .ring) (b .handles) (row (b .order)) (row (b .start)) (row (b .left)) (row (b .right)) ⌝ ∗ ⌜ Table n (row (now racks)) × Table n (row (now goal)) × (length (now goal) ≡ 64) ⌝ ∗ ⌜ Room (now racks) (now log) (now tail) 0 (8 * (n * (n * n))) ⌝ }
+    requires { ⌜ Rows n (now rows) ⌝ ∗ ⌜ Broken n (Edge (now rows)) (b .ring) (b .handles) (row (b .order)) (row (b .start)) (row (b .left)) (row (b .right)) ⌝ ∗ ⌜ Table n (row (now racks)) × Table n (row (now goal)) × (length (now goal) ≡ 64) ⌝ ∗ ⌜ Space (now racks) (now tail) 0 (8 * (n * (n * n))) ⌝ }
     ensures { λ r. ⌜ Trip (now (rows .entry)) real (8 * (n * (n * n))) (now (racks .entry)) (now (tail .entry)) 0 (now (racks .exit)) (now (tail .exit)) r ⌝ ∗ ⌜ Same (row (now (racks .exit))) (row (now (goal .entry))) ⌝ }
 {
     let ring = b.ring;
@@ -146,8 +131,7 @@ pub fn solve(
     let start = b.start;
     let left = b.left;
     let right = b.right;
-    let mut circle = [0u8; 64];
-    ring::ring_from(&order, ring, left[0] as usize, &mut circle);
+    let circle = ring::ring_from(&order, ring, left[0] as usize);
     let mut shifted = *goal;
     let mut back = [0u16; 8256];
     let logged = shift_goal(
@@ -172,8 +156,7 @@ pub fn solve(
         &shifted,
         real,
         racks,
-        log,
         tail,
     );
-    moving::undo(0, logged, real, racks, &mut back, tail, settled)
+    moving::undo(0, logged, real, racks, &back, tail, settled)
 }

@@ -2,4 +2,3 @@ pub mod MoveLaws
 pub mod RingLaws
 pub mod ExchangeLaws
 pub mod SettleLaws
-pub mod FromLaws

@@ -169,34 +169,32 @@ rounds-all k size m l = mul-le-mul-right m l
 pub in-all : (n k : ℕ) → (n - 1) + (n - 1) + k ≤ 2 * (n - 1) + k
 in-all n k = omega arith
 
--- h, l, t and w are what the loop began with, h′, l′, t′ and w′ what it has now; a round is m moves at most.
-pub record Settling (n : ℕ) (c T : ℕ → ℕ) (size m : ℕ) (g : List ℕ) (real : ℕ) (h l t : List ℕ) (w : ℕ) (h′ l′ t′ : List ℕ) (w′ i : ℕ) : Type 0 where
+-- h, t and w are what the loop began with, h′, l′, t′ and w′ what it has now; a round is m moves at most.
+pub record Settling (n : ℕ) (c T : ℕ → ℕ) (size m : ℕ) (g : List ℕ) (real : ℕ) (h t : List ℕ) (w : ℕ) (h′ l′ t′ : List ℕ) (w′ i : ℕ) : Type 0 where
   pub low : 2 ≤ i
   pub high : i ≤ size
   pub ringing : Ringing n c size T i (row h′)
   pub trip : Trip g real ((i - 2) * m) h t w h′ t′ w′
-  pub log : length l′ ≡ length l
   pub room : Room h′ l′ t′ w′ ((size - i) * m)
 
 module _ {n : ℕ} {c T : ℕ → ℕ} {size : ℕ} (m : ℕ) {g : List ℕ} {real : ℕ} where
   pub settling-begin : {h l t : List ℕ} {w : ℕ} → 2 ≤ size → Ringing n c size T 2 (row h) → Room h l t w (size * m)
-      → Settling n c T size m g real h l t w h l t w 2
+      → Settling n c T size m g real h t w h l t w 2
   settling-begin {h} {l} {t} {w} two state room =
       record {
         low = omega arith;
         high = two;
         ringing = state;
         trip = trip-more ((2 - 2) * m) (omega arith) (trip-none h t w);
-        log = refl;
         room = room-less ((size - 2) * m) (rounds-all (size - 2) size m (omega arith)) room;
       }
 
-  module _ {h l t : List ℕ} {w : ℕ} {h′ l′ t′ : List ℕ} {w′ i : ℕ} (s : Settling n c T size m g real h l t w h′ l′ t′ w′ i) where
+  module _ {h t : List ℕ} {w : ℕ} {h′ l′ t′ : List ℕ} {w′ i : ℕ} (s : Settling n c T size m g real h t w h′ l′ t′ w′ i) where
     pub settling-room : i < size → Room h′ l′ t′ w′ m
     settling-room less = let e = rounds-left size i m less in room-less m (omega arith) (s .room)
 
     pub settling-next : {h″ l″ t″ : List ℕ} {w″ : ℕ} → i < size → Trip g real m h′ t′ w′ h″ t″ w″ → Ringing n c size T (i + 1) (row h″)
-        → length l″ ≡ length l′ → Settling n c T size m g real h l t w h″ l″ t″ w″ (i + 1)
+        → length l″ ≡ length l′ → Settling n c T size m g real h t w h″ l″ t″ w″ (i + 1)
     settling-next less trip state log =
         let low = s .low in
         let e = rounds-left size i m less in
@@ -206,7 +204,6 @@ module _ {n : ℕ} {c T : ℕ → ℕ} {size : ℕ} (m : ℕ) {g : List ℕ} {re
           high = omega arith;
           ringing = state;
           trip = trip-more ((i + 1 - 2) * m) (omega arith) (trip-append (s .trip) trip);
-          log = log ∙ s .log;
           room = room-then (room-less (m + (size - (i + 1)) * m) (omega arith) (s .room)) log trip;
         }
 

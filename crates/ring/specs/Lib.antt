@@ -1,1 +1,3 @@
+pub mod From
+pub mod FromLaws
 pub mod Examples

@@ -1,17 +1,17 @@
 // The base ring of a floor, settled when all else is: racks on it are exchanged in pairs through a position beside it.
 use moving::Tally;
-ghost use mathlib.Core.Logic.{_↔_, _≢_};
+ghost use mathlib.Core.Logic.{_≢_};
 ghost use mathlib.Core.List.{List};
 ghost use mathlib.Core.Path.{_≡_};
 ghost use Prim.Native.Nat.{ℕ, _+_, _-_, _*_, _≤_, _<_};
 ghost use lib.ListN.{length};
 ghost use Rattle.graph.specs.Walk.{Symmetric};
 ghost use Rattle.graph.specs.Rows.{Edge, Rows};
-ghost use Rattle.breakdown.specs.Breakdown.{Among, Breakdown};
 ghost use Rattle.moving.specs.Went.{Same};
-ghost use Rattle.moving.specs.Journey.{row, Fits, Room, Trip, Journey};
+ghost use Rattle.moving.specs.Journey.{row, Fits, Room, Space, Trip, Journey};
 ghost use Rattle.settling.specs.Table.{Table};
 ghost use Rattle.settling.specs.Circle.{Circle, On, swapped, Ringing};
+ghost use Rattle.ring.specs.From.{placeOf, ringFrom};
 
 // Moves the rack at `from` by way of x to `to`.
 fn pass_by(
@@ -220,14 +220,25 @@ pub fn settle_ring(
     goal: &[u8; 64],
     real: usize,
     racks: &mut [u8; 64],
-    log: &mut [u16; 8256],
     tail: &mut [u8],
     written: usize,
 ) -> usize
-    requires { ⌜ Rows n (now rows) ⌝ ∗ ⌜ Circle n (Edge (now rows)) (row (now circle)) size y ⌝ ∗ ⌜ Table n (row (now racks)) × Table n (row (now goal)) × (row (now goal) (row (now circle) 0) ≡ 0) × (row (now goal) (row (now circle) 1) ≡ 0) × ((p : ℕ) → (On (row (now circle)) size p → ⊥) → row (now racks) p ≡ row (now goal) p) ⌝ ∗ ⌜ Room (now racks) (now log) (now tail) written (2 * (n - 1) + size * (4 * (n * n) + 6)) ⌝ }
-    ensures { λ r. ⌜ Trip (now (rows .entry)) real (2 * (n - 1) + size * (4 * (n * n) + 6)) (now (racks .entry)) (now (tail .entry)) written (now (racks .exit)) (now (tail .exit)) r ⌝ ∗ ⌜ Same (row (now (racks .exit))) (row (now (goal .entry))) ⌝ ∗ ⌜ length (now (log .exit)) ≡ length (now (log .entry)) ⌝ }
+    requires { ⌜ Rows n (now rows) ⌝ ∗ ⌜ Circle n (Edge (now rows)) (row (now circle)) size y ⌝ ∗ ⌜ Table n (row (now racks)) × Table n (row (now goal)) × (row (now goal) (row (now circle) 0) ≡ 0) × (row (now goal) (row (now circle) 1) ≡ 0) × ((p : ℕ) → (On (row (now circle)) size p → ⊥) → row (now racks) p ≡ row (now goal) p) ⌝ ∗ ⌜ Space (now racks) (now tail) written (2 * (n - 1) + size * (4 * (n * n) + 6)) ⌝ }
+    ensures { λ r. ⌜ Trip (now (rows .entry)) real (2 * (n - 1) + size * (4 * (n * n) + 6)) (now (racks .entry)) (now (tail .entry)) written (now (racks .exit)) (now (tail .exit)) r ⌝ ∗ ⌜ Same (row (now (racks .exit))) (row (now (goal .entry))) ⌝ }
 {
-    let mut written = open_ring(rows, n, circle, size, goal, real, racks, log, tail, written);
+    let mut log = [0u16; 8256];
+    let mut written = open_ring(
+        rows,
+        n,
+        circle,
+        size,
+        goal,
+        real,
+        racks,
+        &mut log,
+        tail,
+        written,
+    );
     let mut i: usize = 2;
     while i < size {
         written = settle_place(
@@ -240,7 +251,7 @@ pub fn settle_ring(
             goal,
             real,
             racks,
-            log,
+            &mut log,
             tail,
             written,
         );
@@ -251,8 +262,8 @@ pub fn settle_ring(
 
 // The place at which x stands on the base ring.
 fn place_on(order: &[u8; 64], size: usize, x: usize) -> usize
-    requires { ⌜ (size ≤ 64) × ((i : ℕ) × (i < size) × (row (now order) i ≡ x)) ⌝ }
-    ensures { λ r. ⌜ (r < size) × (row (now (order .entry)) r ≡ x) ⌝ }
+    requires { ⌜ (0 < size) × (size ≤ 64) ⌝ }
+    ensures { λ r. ⌜ r ≡ placeOf (row (now (order .entry))) size x ⌝ }
 {
     let mut i: usize = 0;
     while i + 1 < size {
@@ -264,15 +275,18 @@ fn place_on(order: &[u8; 64], size: usize, x: usize) -> usize
     i
 }
 
-// The base ring of a breakdown from x on, the left end of its first handle, in the order round it.
-pub fn ring_from(order: &[u8; 64], size: usize, x: usize, circle: &mut [u8; 64])
-    requires { ⌜ (size ≤ 64) × ((i : ℕ) × (i < size) × (row (now order) i ≡ x)) × (length (now circle) ≡ 64) ⌝ }
-    ensures { λ _. ⌜ ((n handles : ℕ) (g : List ℕ) (start left right : ℕ → ℕ) → Rows n g → Breakdown n (Edge g) size handles (row (now (order .entry))) start left right → left 0 ≡ x → Circle n (Edge g) (row (now (circle .exit))) size (row (now (order .entry)) size) × ((p : ℕ) → Among (row (now (order .entry))) size p ↔ On (row (now (circle .exit))) size p)) ⌝ }
+// The base ring of a breakdown from x on, in the order round it. From the left end of the first handle on it is the ring that `settle_ring` asks for:
+// specs/FromLaws.antt.
+pub fn ring_from(order: &[u8; 64], size: usize, x: usize) -> [u8; 64]
+    requires { ⌜ (0 < size) × (size ≤ 64) ⌝ }
+    ensures { λ r. ⌜ r ≡ ringFrom (now (order .entry)) size x ⌝ }
 {
     let z = place_on(order, size, x);
+    let mut circle = [0u8; 64];
     let mut j: usize = 0;
     while j < size {
         circle[j] = order[(z + j) % size];
         j += 1;
     }
+    circle
 }

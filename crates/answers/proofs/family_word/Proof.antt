@@ -2,27 +2,28 @@
 use native.Mathlib.Omega.{arith}
 use mathlib.Core.Path.{ap}
 use lib.ListN.{length}
+use Rattle.answers.specs.Family.{padded}
 use Rattle.answers.proofs.Words.{word-order, word-floor, word-plan, word-timetable, word-under, word-over}
 use Rattle.answers.proofs.family_word.Statement.{statement}
 use Rattle.answers.proofs.family_word.Tie as tie
 
 returns : tie.Need-returns
-returns c = let w = word-order (c .before .before .args .number) (omega arith) (omega arith) in (ap length w, w)
+returns c = let w = word-order (c .before .before .args .number) (omega arith) (omega arith) in (ap length w, ap padded w)
 
 returns-2 : tie.Need-returns-2
-returns-2 c = let w = word-floor (c .before .before .before .args .number) (omega arith) (omega arith) in (ap length w, w)
+returns-2 c = let w = word-floor (c .before .before .before .args .number) (omega arith) (omega arith) in (ap length w, ap padded w)
 
 returns-3 : tie.Need-returns-3
-returns-3 c = let w = word-plan (c .before .before .before .before .args .number) (omega arith) (omega arith) in (ap length w, w)
+returns-3 c = let w = word-plan (c .before .before .before .before .args .number) (omega arith) (omega arith) in (ap length w, ap padded w)
 
 returns-4 : tie.Need-returns-4
-returns-4 c = let w = word-timetable (c .before .before .before .before .before .args .number) (omega arith) (omega arith) in (ap length w, w)
+returns-4 c = let w = word-timetable (c .before .before .before .before .before .args .number) (omega arith) (omega arith) in (ap length w, ap padded w)
 
 returns-5 : tie.Need-returns-5
-returns-5 c = let w = word-under (c .before .args .number) (omega arith) in (ap length w, w)
+returns-5 c = let w = word-under (c .before .args .number) (omega arith) in (ap length w, ap padded w)
 
 returns-6 : tie.Need-returns-6
-returns-6 c = let w = word-over (c .before .before .before .before .before .args .number) (omega arith) in (ap length w, w)
+returns-6 c = let w = word-over (c .before .before .before .before .before .args .number) (omega arith) in (ap length w, ap padded w)
 
 pub family-word-spec : {M : Type 1} → statement M
 family-word-spec = tie.close (tie.spec returns returns-2 returns-3 returns-4 returns-5 returns-6)

@@ -278,9 +278,9 @@ returns c =
     let some = l .inv .1 .journey .trip .few in
     let logged = l .inv .1 .journey .logged in
     let away = carry-away lane (a .y) (f .2) (f .3) (a .q) (l .i) (row (a .racks .now)) (row (l .racks)) (g .3) gone (l .inv .0) _ (m .1 .0) (m .1 .1) (m .1 .2) in
-    let back = un .0 (a .rows .now) _ _ (carry-undoing (row (a .racks .now) (row (a .order .now) (a .q))) (a .y) (rows .symmetric) (l .inv .1) go away) in (
+    let back = un (a .rows .now) _ _ (carry-undoing (row (a .racks .now) (row (a .order .now) (a .q))) (a .y) (rows .symmetric) (l .inv .1) go away) in (
       trip-more (2 * (a .n * (a .n - 3)) + 1) (omega arith) (trip-append (l .inv .1 .journey .trip) (trip-append (go .trip) (back .0))),
-      (back .1, un .1 ∙ go .log ∙ l .inv .1 .journey .log),
+      (back .1, go .log ∙ l .inv .1 .journey .log),
     )
 
 pub carry-spec : {M : Type 1} → statement M

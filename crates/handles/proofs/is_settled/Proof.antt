@@ -1,9 +1,8 @@
 -- `handles::is_settled` meets its contract.
 -- Assumes nothing.
 use Prim.Native.Nat.{ℕ, _-_, _≤_, _<_}
-use mathlib.Core.Path.{_≡_}
-use mathlib.Core.Bool.{true, false}
 use native.Mathlib.Omega.{arith}
+use Rattle.graph.specs.Decision.{says-yes, says-no}
 use Rattle.moving.specs.Journey.{row}
 use Rattle.handles.proofs.StageLaws.{Agreed, agreed-next}
 use Rattle.handles.proofs.is_settled.Statement.{statement}
@@ -11,9 +10,6 @@ use Rattle.handles.proofs.is_settled.Tie as tie
 
 none : {s j : ℕ} → s ≤ j → j < s → ⊥
 none a b = omega arith
-
-wrong : false ≡ true → ⊥
-wrong t = let z : _≡_ {A = ℕ} 0 1 = cc in omega arith
 
 abbrev Inv-loop : tie.InvT-loop
 Inv-loop order s e goal racks i₀ i = (s ≤ i) × Agreed (row order) (row goal) (row racks) s i
@@ -37,7 +33,7 @@ element-copy-out-if1-2 : tie.Need-element-copy-out-if1-2 Inv-loop μ-loop
 element-copy-out-if1-2 c = c .before .before .before .before .pre .1 (c .before .before .before .loop .i) (c .before .before .loop-test .taken)
 
 returns : tie.Need-returns Inv-loop μ-loop
-returns c = λ t. absurd (wrong t)
+returns c = let i = c .before .before .before .before .before .loop .i in says-no (λ all. c .if1 .taken (all i (omega arith) (omega arith)))
 
 add-i : tie.Need-add-i Inv-loop μ-loop
 add-i c = omega arith
@@ -51,7 +47,7 @@ loop-again c = let a = c .before .before .before .before .before .before .args i
     (omega arith, agreed-next (row (a .order .now)) (row (a .goal .now)) (row (a .racks .now)) (a .s) (l .i) (c .if1 .left) (l .inv .1))
 
 returns-2 : tie.Need-returns-2 Inv-loop μ-loop
-returns-2 c = λ t j le l. c .before .loop .inv .1 j le (omega arith)
+returns-2 c = says-yes (λ j le l. c .before .loop .inv .1 j le (omega arith))
 
 pub is-settled-spec : {M : Type 1} → statement M
 is-settled-spec =

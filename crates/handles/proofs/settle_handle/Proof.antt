@@ -36,7 +36,7 @@ returns c =
     let lane = s .pre .1 .0 in
     let placing = s .pre .1 .1 .0 in (
       trip-more ((a .e - a .s) * (4 * (a .n * a .n))) (omega arith) (trip-none _ _ _),
-      ((placing .table, settled-already placing (c .before .is-settled .ensures (c .if1 .taken))), refl),
+      ((placing .table, settled-already placing (c .before .is-settled .ensures .0 (c .if1 .taken))), refl),
     )
 
 beside-end-requires : tie.Need-beside-end-requires Inv-loop μ-loop

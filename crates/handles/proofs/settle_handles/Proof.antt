@@ -3,21 +3,23 @@
 use Prim.Native.Nat.{ℕ, _+_, _-_, _≤_, _<_}
 use mathlib.Core.Path.{_≡_, sym, subst}
 use native.Mathlib.Omega.{arith}
+use lib.ListN.{length-replicate}
 use Rattle.moving.specs.Journey.{row}
+use Rattle.moving.specs.JourneyLaws.{space-room}
 use Rattle.handles.proofs.CycleLaws.{left-below, right-below}
 use Rattle.handles.proofs.SettleLaws.{down-up, starts-from, starts-within, starts-few, lane-of, Handling, handling-begin, handling-placing, handling-room, handling-next, handling-trip, handling-end}
 use Rattle.handles.proofs.settle_handles.Statement.{statement}
 use Rattle.handles.proofs.settle_handles.Tie as tie
 
 abbrev Inv-loop : tie.InvT-loop
-Inv-loop rows n ring handles order start left right goal real racks₀ log₀ tail₀ written written₀ i₀ racks log tail written' i =
-    (i ≤ handles) × Handling rows real n ring (row order) (row start) (row goal) i racks₀ log₀ tail₀ written racks log tail written'
+Inv-loop rows n ring handles order start left right goal real racks₀ tail₀ written log₀ written₀ i₀ racks tail log written' i =
+    (i ≤ handles) × Handling rows real n ring (row order) (row start) (row goal) i racks₀ tail₀ written racks log tail written'
 
 abbrev μ-loop : tie.MeasureT-loop
-μ-loop rows n ring handles order start left right goal real racks₀ log₀ tail₀ written written₀ i₀ racks log tail written' i = i
+μ-loop rows n ring handles order start left right goal real racks₀ tail₀ written log₀ written₀ i₀ racks tail log written' i = i
 
 loop-holds : tie.Need-loop-holds Inv-loop μ-loop
-loop-holds c = let s = c .before .pre .1 in (omega arith, handling-begin (s .0 .stops) (s .1 .0 .0) (s .1 .1))
+loop-holds c = let s = c .before .pre .1 in (omega arith, handling-begin (s .0 .stops) (s .1 .0 .0) (space-room (length-replicate {A = ℕ} 8256 0) (s .1 .1)))
 
 sub-i : tie.Need-sub-i Inv-loop μ-loop
 sub-i c = let some = c .loop-test .taken in omega arith
@@ -193,7 +195,7 @@ returns c =
     let z = l .inv .1 in
     let done = c .loop-test .left in
     let none : l .i ≡ 0 = omega arith in
-    (handling-trip (s .begins) none z, ((z .table, handling-end (s .begins) none z), z .log))
+    (handling-trip (s .begins) none z, (z .table, handling-end (s .begins) none z))
 
 pub settle-handles-spec : {M : Type 1} → statement M
 settle-handles-spec =

@@ -2,22 +2,23 @@
 use Prim.Native.Nat.{_+_, _-_, _≤_}
 use native.Mathlib.Omega.{arith}
 use lib.ListN.{length}
-use Rattle.inspection.specs.Inspection.{Copied}
+use Rattle.breakdown.specs.Building.{row}
+use Rattle.inspection.specs.Inspection.{upTo, Copied}
 use Rattle.inspection.proofs.CopyLaws.{copied-none, copied-more, copied-all}
 use Rattle.inspection.proofs.copy_row.Statement.{statement}
 use Rattle.inspection.proofs.copy_row.Tie as tie
 
 abbrev Inv-loop : tie.InvT-loop
-Inv-loop bytes at buffer₀ i₀ buffer i = (i ≤ 64) × (at + 64 ≤ length buffer₀) × Copied bytes at i buffer₀ buffer
+Inv-loop bytes count at buffer₀ i₀ buffer i = (i ≤ 64) × (at + 64 ≤ length buffer₀) × Copied (upTo count (row bytes)) at i buffer₀ buffer
 
 abbrev μ-loop : tie.MeasureT-loop
-μ-loop bytes at buffer₀ i₀ buffer i = 64 - i
+μ-loop bytes count at buffer₀ i₀ buffer i = 64 - i
 
 loop-holds : tie.Need-loop-holds Inv-loop μ-loop
-loop-holds c = (omega arith, c .pre, copied-none _ _ _)
+loop-holds c = (omega arith, c .before .pre, copied-none _ _ _)
 
-element-copy-out-buffer : tie.Need-element-copy-out-buffer Inv-loop μ-loop
-element-copy-out-buffer c = omega arith
+used-requires : tie.Need-used-requires Inv-loop μ-loop
+used-requires c κs = omega arith
 
 add-buffer : tie.Need-add-buffer Inv-loop μ-loop
 add-buffer c = omega arith
@@ -33,8 +34,11 @@ loop-less c = omega arith
 
 loop-again : tie.Need-loop-again Inv-loop μ-loop
 loop-again c =
-    let inv = c .before .before .loop .inv in
-    (omega arith, inv .1, copied-more _ _ _ _ _ (omega arith) (inv .2))
+    let a = c .before .before .before .before .args in
+    let l = c .before .before .loop in
+    let inv = l .inv in
+    let u = c .used .ensures in
+    (omega arith, inv .1, copied-more (upTo (a .count) (row (a .bytes .now))) (a .at) (l .i) _ _ _ u (omega arith) (inv .2))
 
 same-length : tie.Need-same-length Inv-loop μ-loop
 same-length c = c .before .loop .inv .2 .same-length
@@ -49,7 +53,7 @@ copy-row-spec =
     Inv-loop
     μ-loop
     loop-holds
-    element-copy-out-buffer
+    used-requires
     add-buffer
     slice-write-buffer
     add-i

@@ -7,6 +7,9 @@ use Rattle.inspection.proofs.lay_out.Tie as tie
 copy-row-requires : tie.Need-copy-row-requires
 copy-row-requires c κs = search needs
 
+add-copy-row : tie.Need-add-copy-row
+add-copy-row c = search needs
+
 copy-row-requires-2 : tie.Need-copy-row-requires-2
 copy-row-requires-2 c κs = search needs
 
@@ -28,6 +31,7 @@ lay-out-spec =
     tie.close
     (tie.spec
     copy-row-requires
+    add-copy-row
     copy-row-requires-2
     copy-row-requires-3
     copy-row-requires-4

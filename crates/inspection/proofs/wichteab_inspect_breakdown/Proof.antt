@@ -63,7 +63,9 @@ returns-3 c =
     not-found (bytes (c .before .before .before .before .before)) (told (c .before .before .before .before .before) .positions) (told (c .before .before .before .before .before) .edges) (told (c .before .before .before .before .before) .racks) (accepted-by (c .before .before .before .before .before)) (c .before .before .before .rows-of .result) (c .before .before .before .rows-of .ensures) (c .before .break-down .result .ring) (c .before .break-down .result .handles) (c .before .break-down .result .order) (c .before .break-down .result .start) (c .before .break-down .result .left) (c .before .break-down .result .right) (c .before .break-down .ensures) _ (c .if2 .taken)
 
 lay-out-requires : tie.Need-lay-out-requires
-lay-out-requires c κs = search needs
+lay-out-requires c κs =
+    let few = small (bytes (c .before .before .before .before .before .before)) (told (c .before .before .before .before .before .before) .positions) (told (c .before .before .before .before .before .before) .edges) (told (c .before .before .before .before .before .before) .racks) (accepted-by (c .before .before .before .before .before .before)) (c .before .before .before .before .rows-of .result) (c .before .before .before .before .rows-of .ensures) (c .before .before .break-down .result .ring) (c .before .before .break-down .result .handles) (c .before .before .break-down .result .order) (c .before .before .break-down .result .start) (c .before .before .break-down .result .left) (c .before .before .break-down .result .right) (c .before .before .break-down .ensures) (omega arith) in
+    (omega arith, omega arith)
 
 mul-result : tie.Need-mul-result
 mul-result c =

@@ -3,19 +3,19 @@
 use Prim.Native.Nat.{_-_, _<_}
 use native.Mathlib.Omega.{arith}
 use borrow.Author.Needs.{needs}
-use Rattle.moving.proofs.UndoLaws.{Undone, undone-begin, undone-skip, undone-vacant, undone-move, undone-fits, undone-end}
+use Rattle.moving.proofs.UndoLaws.{Undone, undone-begin, undone-skip, undone-move, undone-space, undone-end}
 use Rattle.moving.proofs.undo.Statement.{statement}
 use Rattle.moving.proofs.undo.Tie as tie
 
 abbrev Inv-loop : tie.InvT-loop
-Inv-loop from to real racks₀ log₀ tail₀ written written₀ i₀ racks log tail written' i =
-    Undone real from to racks₀ log₀ tail₀ written racks log tail written' i
+Inv-loop from to real racks₀ log tail₀ written written₀ i₀ racks tail written' i =
+    Undone real from to log racks₀ tail₀ written racks tail written' i
 
 abbrev μ-loop : tie.MeasureT-loop
-μ-loop from to real racks₀ log₀ tail₀ written written₀ i₀ racks log tail written' i = i - from
+μ-loop from to real racks₀ log tail₀ written written₀ i₀ racks tail written' i = i - from
 
 loop-holds : tie.Need-loop-holds Inv-loop μ-loop
-loop-holds c = undone-begin _ _ _ _ _ _ _ (omega arith) (omega arith)
+loop-holds c = undone-begin _ _ _ _ _ _ _ (omega arith)
 
 sub-i : tie.Need-sub-i Inv-loop μ-loop
 sub-i c = omega arith
@@ -35,27 +35,30 @@ second-of-requires c κs = search needs
 element-copy-out-if1 : tie.Need-element-copy-out-if1 Inv-loop μ-loop
 element-copy-out-if1 c = omega arith
 
-make-move-requires : tie.Need-make-move-requires Inv-loop μ-loop
-make-move-requires c κs =
-    let e = c .before .before .before .before .before .before .before .before .before .before .before in
-    let u = c .before .before .before .before .before .before .before .before .before .loop .inv in
+move-rack-requires : tie.Need-move-rack-requires Inv-loop μ-loop
+move-rack-requires c κs =
+    let e = c .before .before .before .before .before .before .before .before .before .before in
+    let u = c .before .before .before .before .before .before .before .before .loop .inv in
     let s = e .pre .0 .3 in
-    let a = c .before .before .before .before .before .before .first-of .ensures in
-    let b = c .before .before .before .before .before .second-of .ensures in
-    let t : e .args .from < c .before .before .before .before .before .before .before .before .before .loop .i = omega arith in
-    ((omega arith, omega arith, λ z. omega arith, undone-vacant u t a b (λ z. omega arith) s), undone-fits u t s (e .pre .1 .1))
+    let a = c .before .before .before .before .before .first-of .ensures in
+    let b = c .before .before .before .before .second-of .ensures in
+    let t : e .args .from < c .before .before .before .before .before .before .before .before .loop .i = omega arith in
+    ((omega arith, omega arith), undone-space u t s (e .pre .1 .1))
 
 loop-less : tie.Need-loop-less Inv-loop μ-loop
 loop-less c = omega arith
 
 loop-again : tie.Need-loop-again Inv-loop μ-loop
 loop-again c =
-    let a = c .before .before .before .before .before .before .before .before .before .first-of .ensures in
-    let b = c .before .before .before .before .before .before .before .before .second-of .ensures in
-    let s = c .before .before .before .before .before .before .before .before .before .before .before .before .before .before .pre .0 .3 in
-    let m = c .before .before .make-move .ensures in
-    let u = c .before .before .before .before .before .before .before .before .before .before .before .before .loop .inv in
-    undone-move u (omega arith) a b (λ z. omega arith) s (m .0) (m .1)
+    let a = c .before .before .before .before .before .before .before .before .first-of .ensures in
+    let b = c .before .before .before .before .before .before .before .second-of .ensures in
+    let s = c .before .before .before .before .before .before .before .before .before .before .before .before .before in
+    let m = c .before .before .move-rack .ensures in
+    let u = c .before .before .before .before .before .before .before .before .before .before .before .loop .inv in
+    let v = s .pre .0 .3 in
+    let t = u .left _ _ _ v .trip .racks in
+    let f = s .pre .1 .1 .racks in
+    undone-move u (omega arith) a b (λ z. omega arith) (omega arith) (omega arith) (omega arith) m
 
 loop-less-2 : tie.Need-loop-less-2 Inv-loop μ-loop
 loop-less-2 c = omega arith
@@ -70,7 +73,7 @@ same-length : tie.Need-same-length Inv-loop μ-loop
 same-length c = let e = c .before .before .before in c .before .loop .inv .left _ _ _ (e .pre .0 .3) .trip .tail
 
 returns : tie.Need-returns Inv-loop μ-loop
-returns c = (λ g past k v. undone-end (c .before .loop .inv) (omega arith) past k v, omega arith)
+returns c = λ g past k v. undone-end (c .before .loop .inv) (omega arith) past k v
 
 pub undo-spec : {M : Type 1} → statement M
 undo-spec =
@@ -85,7 +88,7 @@ undo-spec =
     first-of-requires
     second-of-requires
     element-copy-out-if1
-    make-move-requires
+    move-rack-requires
     loop-less
     loop-again
     loop-less-2

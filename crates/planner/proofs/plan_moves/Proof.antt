@@ -5,7 +5,6 @@ use mathlib.Core.Bool.{false≢true}
 use mathlib.Core.Path.{sym, _∙_}
 use native.Mathlib.Omega.{arith}
 use borrow.Author.Needs.{needs}
-use lib.ListN.{length-replicate}
 use Rattle.planner.proofs.MovesLaws.{start-holds, goal-holds, start-placed, goal-placed, room-racks, rows-right, broken, none-needed, planned}
 use Rattle.planner.proofs.plan_moves.Statement.{statement}
 use Rattle.planner.proofs.plan_moves.Tie as tie
@@ -106,35 +105,35 @@ break-down-requires c κs =
 
 solve-requires : tie.Need-solve-requires
 solve-requires c κs =
-    let s = c .before .before .before .before .before .before .before .before .before .before .before .before .before .before .before .before .before .before .before .before .before .before .before .before .before in
+    let s = c .before .before .before .before .before .before .before .before .before .before .before .before .before .before .before .before .before .before .before .before .before .before .before .before in
     let a = s .args in
     let o = a .order .now in
     let gave = s .pre .0 .0 in
     let can = s .pre .0 .1 in
-    let is = c .before .before .before .before .before .before .before .rows-of .ensures in
-    let answer = c .before .before .before .before .before .break-down .ensures in
-    let f = c .before .before .before .before .before .before .before .before .before .before .before .fill .ensures in
-    let g = c .before .before .before .before .before .before .before .before .before .fill2 .ensures in
+    let is = c .before .before .before .before .before .before .rows-of .ensures in
+    let answer = c .before .before .before .before .break-down .ensures in
+    let f = c .before .before .before .before .before .before .before .before .before .before .fill .ensures in
+    let g = c .before .before .before .before .before .before .before .before .fill2 .ensures in
     let room = s .pre .1 in
-    (rows-right o (a .n) (a .e) (a .m) gave can _ is, (answer .found (broken o (a .n) (a .e) (a .m) gave can _ is _ _ _ _ _ _ answer), ((f .0, g .0, g .2), record { racks = f .2; log = length-replicate {A = ℕ} 8256 0; room = omega arith })))
+    (rows-right o (a .n) (a .e) (a .m) gave can _ is, (answer .found (broken o (a .n) (a .e) (a .m) gave can _ is _ _ _ _ _ _ answer), ((f .0, g .0, g .2), record { racks = f .2; room = omega arith })))
 
 same-length : tie.Need-same-length
 same-length c = search needs
 
 returns-2 : tie.Need-returns-2
 returns-2 c =
-    let s = c .before .before .before .before .before .before .before .before .before .before .before .before .before .before .before .before .before .before .before .before .before .before .before .before .before .before .before .before in
+    let s = c .before .before .before .before .before .before .before .before .before .before .before .before .before .before .before .before .before .before .before .before .before .before .before .before .before .before .before in
     let a = s .args in
     let o = a .order .now in
     let gave = s .pre .0 .0 in
     let can = s .pre .0 .1 in
-    let from = start-holds o (a .n) (a .e) (a .m) gave _ (c .before .before .before .before .before .before .before .before .before .before .before .before .before .before .before .before .before .before .before .before .before .before .before .place-racks .ensures) in
-    let to = goal-holds o (a .n) (a .e) (a .m) gave _ (c .before .before .before .before .before .before .before .before .before .before .before .before .before .before .before .before .before .before .before .before .place-racks2 .ensures) in
-    let is = c .before .before .before .before .before .before .before .before .before .before .rows-of .ensures in
-    let f = c .before .before .before .before .before .before .before .before .before .before .before .before .before .before .fill .ensures in
-    let g = c .before .before .before .before .before .before .before .before .before .before .before .before .fill2 .ensures in
+    let from = start-holds o (a .n) (a .e) (a .m) gave _ (c .before .before .before .before .before .before .before .before .before .before .before .before .before .before .before .before .before .before .before .before .before .before .place-racks .ensures) in
+    let to = goal-holds o (a .n) (a .e) (a .m) gave _ (c .before .before .before .before .before .before .before .before .before .before .before .before .before .before .before .before .before .before .before .place-racks2 .ensures) in
+    let is = c .before .before .before .before .before .before .before .before .before .rows-of .ensures in
+    let f = c .before .before .before .before .before .before .before .before .before .before .before .before .before .fill .ensures in
+    let g = c .before .before .before .before .before .before .before .before .before .before .before .fill2 .ensures in
     let solved = c .before .before .solve .ensures in
-    planned o (a .n) (a .e) (a .m) gave can _ is (c .before .before .before .before .before .before .before .before .before .before .before .before .before .before .before .before .before .before .before .before .before .before .before .place-racks .last .1 .1 .1 .0) (c .before .before .before .before .before .before .before .before .before .before .before .before .before .before .before .before .before .before .before .before .place-racks2 .last .1 .1 .1 .0) (c .before .before .before .before .before .before .before .before .before .before .before .before .before .before .fill .last .1 .1 .0) (c .before .before .before .before .before .before .before .before .before .before .before .before .fill2 .last .1 .1 .0) _ (a .tail .now) _ _ from to (λ all. false≢true (sym (c .before .before .before .before .before .before .before .before .before .before .before .before .before .before .before .before .if1 .left) ∙ c .before .before .before .before .before .before .before .before .before .before .before .before .before .before .before .before .before .same-tables .ensures .1 all)) (f .1) (g .1) (solved .0) (solved .1)
+    planned o (a .n) (a .e) (a .m) gave can _ is (c .before .before .before .before .before .before .before .before .before .before .before .before .before .before .before .before .before .before .before .before .before .before .place-racks .last .1 .1 .1 .0) (c .before .before .before .before .before .before .before .before .before .before .before .before .before .before .before .before .before .before .before .place-racks2 .last .1 .1 .1 .0) (c .before .before .before .before .before .before .before .before .before .before .before .before .before .fill .last .1 .1 .0) (c .before .before .before .before .before .before .before .before .before .before .before .fill2 .last .1 .1 .0) _ (a .tail .now) _ _ from to (λ all. false≢true (sym (c .before .before .before .before .before .before .before .before .before .before .before .before .before .before .before .if1 .left) ∙ c .before .before .before .before .before .before .before .before .before .before .before .before .before .before .before .before .same-tables .ensures .1 all)) (f .1) (g .1) (s .pre .1) (solved .0) (solved .1)
 
 pub plan-moves-spec : {M : Type 1} → statement M
 plan-moves-spec =

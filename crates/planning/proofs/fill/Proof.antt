@@ -2,7 +2,7 @@
 -- Assumes nothing.
 use Prim.Native.Nat.{_+_, _-_}
 use native.Mathlib.Omega.{arith}
-use Rattle.planning.proofs.FillLaws.{Filling, filling-begin, filling-some, filling-step, filling-end}
+use Rattle.planning.proofs.FillLaws.{Filling, filling-begin, filling-some, filling-step, filling-all, filling-end}
 use Rattle.planning.proofs.fill.Statement.{statement}
 use Rattle.planning.proofs.fill.Tie as tie
 
@@ -40,10 +40,10 @@ loop-less : tie.Need-loop-less Inv-loop μ-loop
 loop-less c = let r = c .before .before .before .loop .inv .room in let t = c .before .before .loop-test .taken in omega arith
 
 loop-again : tie.Need-loop-again Inv-loop μ-loop
-loop-again c = filling-step _ _ _ _ _ (c .before .before .before .before .before .before .pre .0) (c .before .before .loop-test .taken) (c .before .lowest .ensures .1 .0) (c .without .ensures) (c .before .before .before .loop .inv)
+loop-again c = filling-step _ _ _ _ _ (c .before .before .before .before .before .before .pre .0) (c .before .before .loop-test .taken) (c .before .lowest .ensures .1 .0) (c .before .lowest .ensures .1 .1) (c .without .ensures) (c .before .before .before .loop .inv)
 
 returns : tie.Need-returns Inv-loop μ-loop
-returns c = let l = c .before .loop in (filling-end _ _ _ (omega arith) (l .inv), l .inv .filled, l .inv .long)
+returns c = let l = c .before .loop in (filling-end _ _ _ (omega arith) (l .inv), l .inv .filled, l .inv .long, filling-all _ _ _ (omega arith) (l .inv))
 
 pub fill-spec : {M : Type 1} → statement M
 fill-spec =

@@ -49,7 +49,7 @@ where-is-requires c κs =
     let t = s .pre .1 .1 .0 in
     let a = s .pre .1 .1 .1 .0 in
     let m = c .before .before .before .make-move .ensures in
-    let x = aside-stands rows circle (t .0) (t .1) (t .2) (s .args .a) (a .0) (a .1) (m .1) in
+    let x = aside-stands rows circle (t .0) (t .1) (t .2) (s .args .a) (a .0) (a .1) (m .1 .0, m .1 .1, m .1 .2) in
     (rows .small, (x .0, circle-below circle (x .0) (x .1), x .2))
 
 bring-requires : tie.Need-bring-requires
@@ -65,7 +65,7 @@ bring-requires c κs =
     let m = c .before .before .before .before .before .before .before .make-move .ensures in
     let w = c .before .before .before .where-is in
     let go = m .0 (s .args .rows .now) (rows .symmetric _ _ (circle .beside)) in
-    let x = aside-stands rows circle (t .0) (t .1) (t .2) (s .args .a) (a .0) (a .1) (m .1) in
+    let x = aside-stands rows circle (t .0) (t .1) (t .2) (s .args .a) (a .0) (a .1) (m .1 .0, m .1 .1, m .1 .2) in
     let on = rack-at (table-went (rows .inside) (go .trip .went) (t .0)) (s .args .a) (a .0) x (w .result) (w .ensures .1) in (
       rows,
       (
@@ -81,7 +81,7 @@ bring-requires c κs =
             record {
               at = row (s .args .circle .now) 1;
               there = ring-has rows circle ring part _ (circle-on circle 1 (omega arith));
-              vacant = aside-vacant rows circle (t .0) (t .1) (t .2) (s .args .a) (a .0) (a .1) (m .1);
+              vacant = aside-vacant rows circle (t .0) (t .1) (t .2) (s .args .a) (a .0) (a .1) (m .1 .0, m .1 .1, m .1 .2);
             },
           ),
           fits-less _ (omega arith) (fits-then (s .pre .1 .1 .1 .1) go),
@@ -106,7 +106,7 @@ make-move-requires-2 c κs =
     let go = m .0 (s .args .rows .now) (rows .symmetric _ _ (circle .beside)) in
     let x = circle .below 0 (omega arith) in
     let y = circle-beside rows circle in
-    let v = aside-brought rows circle (t .0) (t .1) (t .2) (s .args .a) (a .0) (a .1) (m .1) (part .result) (part .ensures) (w .result)
+    let v = aside-brought rows circle (t .0) (t .1) (t .2) (s .args .a) (a .0) (a .1) (m .1 .0, m .1 .1, m .1 .2) (part .result) (part .ensures) (w .result)
     (w .ensures .1) (b .1) in
     ((omega arith, omega arith, v .0, v .1), fits-then (fits-then (s .pre .1 .1 .1 .1) go) (b .0))
 
@@ -128,8 +128,8 @@ returns c =
     let o = c .before .before .make-move2 .ensures in
     let go = m .0 (s .args .rows .now) (rows .symmetric _ _ (circle .beside)) in (
       journey-append go (journey-append (b .0) (o .0 (s .args .rows .now) (circle .beside))),
-      aside-done rows circle (t .0) (t .1) (t .2) (s .args .a) (a .0) (a .1) (m .1) (part .result) (part .ensures) (w .result)
-          (w .ensures .1) (b .1) (o .1),
+      aside-done rows circle (t .0) (t .1) (t .2) (s .args .a) (a .0) (a .1) (m .1 .0, m .1 .1, m .1 .2) (part .result) (part .ensures) (w .result)
+          (w .ensures .1) (b .1) (o .1 .0, o .1 .1, o .1 .2),
     )
 
 pub bring-aside-spec : {M : Type 1} → statement M

@@ -186,8 +186,8 @@ returns c =
     let logged = one .logged in
     let same = exchange-swapped (s .args .a) (s .args .b) (r .1) (r .2) t₁ _ _ (o .1 .2)
     (o .1 .3 (s .args .y) (circle-off circle) ∙ m .1 .0) (u .1) in
-    let back = v .0 (s .args .rows .now) _ _ (exchange-undoing (s .args .a) (s .args .b) (r .1) (r .2) (rows .symmetric) one two same) in
-    (trip-more _ (omega arith) (trip-append (trip-append (one .trip) (two .trip)) (back .0)), (back .1, v .1 ∙ two .log ∙ one .log))
+    let back = v (s .args .rows .now) _ _ (exchange-undoing (s .args .a) (s .args .b) (r .1) (r .2) (rows .symmetric) one two same) in
+    (trip-more _ (omega arith) (trip-append (trip-append (one .trip) (two .trip)) (back .0)), (back .1, two .log ∙ one .log))
 
 pub exchange-spec : {M : Type 1} → statement M
 exchange-spec =

@@ -32,7 +32,8 @@ returns c =
     let m = c .before .before .before .before .before .before .before .before .make-move .ensures in
     let o = c .before .before .make-move2 .ensures in (
       λ g e f. journey-append (m .0 g e) (o .0 g f),
-      moved-by (row (s .args .racks .now)) _ _ (s .args .from) (s .args .x) (s .args .to) (p .3) (p .4) (q .0) (q .1) (m .1) (o .1),
+      moved-by (row (s .args .racks .now)) _ _ (s .args .from) (s .args .x) (s .args .to) (p .3) (p .4) (q .0) (q .1)
+          (m .1 .0, m .1 .1, m .1 .2) (o .1 .0, o .1 .1, o .1 .2),
     )
 
 pub pass-by-spec : {M : Type 1} → statement M

@@ -1,44 +1,62 @@
--- `ring::ring_from` meets its contract.
+-- `ring::ring_from` meets its contract. The invariant: j positions are laid, and zeros stand behind them.
 -- Assumes nothing.
-use Prim.Native.Nat.{ℕ, _-_, _≤_}
-use mathlib.Core.Path.{_≡_, subst}
+use Prim.Native.Nat.{ℕ, _-_, _≤_, _<_}
+use mathlib.Core.List.{List, _++_}
+use mathlib.Core.Path.{_≡_, ap, _∙_}
 use native.Mathlib.Omega.{arith}
+use lib.ListN.{replicate}
 use Rattle.moving.specs.Journey.{row}
-use Rattle.ring.proofs.FromLaws.{Laid, laid-none, laid-next, place-in, from-circle, from-same}
+use Rattle.ring.specs.From.{round, placeOf}
+use Rattle.ring.specs.FromLaws.{placeOf-in, laid-none, laid-next, place-in}
 use Rattle.ring.proofs.ring_from.Statement.{statement}
 use Rattle.ring.proofs.ring_from.Tie as tie
 
+abbrev Laid : List ℕ → ℕ → ℕ → ℕ → List ℕ
+Laid order size z j = round (row order) size z j ++ replicate (64 - j) 0
+
 abbrev Inv-loop : tie.InvT-loop
-Inv-loop order size x circle₀ z j₀ circle j = (j ≤ size) × Laid (row order) z size j circle
+Inv-loop order size x z circle₀ j₀ circle j = (j ≤ size) × (circle ≡ Laid order size z j)
 
 abbrev μ-loop : tie.MeasureT-loop
-μ-loop order size x circle₀ z j₀ circle j = size - j
+μ-loop order size x z circle₀ j₀ circle j = size - j
 
 place-on-requires : tie.Need-place-on-requires Inv-loop μ-loop
-place-on-requires c κs = (c .pre .0, c .pre .1)
+place-on-requires c κs = c .pre
 
 loop-holds : tie.Need-loop-holds Inv-loop μ-loop
-loop-holds c = (omega arith, laid-none _ _ _ _ (c .before .pre .2))
+loop-holds c = let a = c .before .args in (omega arith, laid-none (row (a .order .now)) (a .size) (c .place-on .result))
+
+-- the place that was found is on the ring
+on-ring : (order : List ℕ) (size x z : ℕ) → z ≡ placeOf (row order) size x → (0 < size) × (size ≤ 64) → z < size
+on-ring order size x z is p = let y = placeOf-in (row order) x size (p .0) in omega arith
 
 add-circle : tie.Need-add-circle Inv-loop μ-loop
-add-circle c = let s = c .before .before .before .pre .0 in let z = c .before .before .place-on .ensures .0 in omega arith
+add-circle c =
+    let s = c .before .before .before in
+    let a = s .args in
+    let small = s .pre .1 in
+    let z = c .before .before .place-on in
+    let in-ring = on-ring (a .order .now) (a .size) (a .x) (z .result) (z .ensures) (s .pre) in
+    omega arith
 
 rem-circle : tie.Need-rem-circle Inv-loop μ-loop
-rem-circle c = let z = c .before .before .place-on .ensures .0 in omega arith
+rem-circle c = let p = c .before .before .before .pre .0 in omega arith
 
 element-copy-out-circle : tie.Need-element-copy-out-circle Inv-loop μ-loop
 element-copy-out-circle c =
     let s = c .before .before .before in
-    let small = s .pre .0 in
+    let a = s .args in
+    let small = s .pre .1 in
     let z = c .before .before .place-on in
-    let in-row = place-in (z .result) (s .args .size) (z .ensures .0) (c .before .loop .j) in
+    let in-ring = on-ring (a .order .now) (a .size) (a .x) (z .result) (z .ensures) (s .pre) in
+    let in-row = place-in (z .result) (a .size) in-ring (c .before .loop .j) in
     omega arith
 
-element-write-circle : tie.Need-element-write-circle Inv-loop μ-loop
-element-write-circle c = let s = c .before .before .before .before .pre .0 in let l = c .before .loop-test .taken in omega arith
+array-write-circle : tie.Need-array-write-circle Inv-loop μ-loop
+array-write-circle c = let s = c .before .before .before .before .pre .1 in let l = c .before .loop-test .taken in omega arith
 
 add-j : tie.Need-add-j Inv-loop μ-loop
-add-j c = let s = c .before .before .before .before .pre .0 in let l = c .before .loop-test .taken in omega arith
+add-j c = let s = c .before .before .before .before .pre .1 in let l = c .before .loop-test .taken in omega arith
 
 loop-less : tie.Need-loop-less Inv-loop μ-loop
 loop-less c = let l = c .before .loop-test .taken in omega arith
@@ -46,25 +64,23 @@ loop-less c = let l = c .before .loop-test .taken in omega arith
 loop-again : tie.Need-loop-again Inv-loop μ-loop
 loop-again c =
     let s = c .before .before .before .before in
-    let small = s .pre .0 in
+    let small = s .pre .1 in
     let z = c .before .before .before .place-on .result in
     let l = c .before .before .loop in
     let less = c .before .loop-test .taken in
-    (omega arith, laid-next (row (s .args .order .now)) z (s .args .size) (l .j) (l .circle) (omega arith) (l .inv .1))
+    (omega arith, laid-next (row (s .args .order .now)) (s .args .size) z (l .j) (l .circle) (omega arith) (l .inv .1))
 
 returns : tie.Need-returns Inv-loop μ-loop
 returns c =
     let s = c .before .before .before in
+    let o = s .args .order .now in
+    let size = s .args .size in
     let z = c .before .before .place-on in
     let l = c .before .loop in
     let low = l .inv .0 in
     let high = c .loop-test .left in
-    let all : l .j ≡ s .args .size = omega arith in
-    let laid = subst (λ (j : ℕ). Laid (row (s .args .order .now)) (z .result) (s .args .size) j (l .circle)) all (l .inv .1) in
-    λ n handles g start left right rows b e. (
-      from-circle b (z .ensures .0) (z .ensures .1) laid e,
-      from-same b (z .ensures .0) (z .ensures .1) laid e,
-    )
+    let all : l .j ≡ size = omega arith in
+    l .inv .1 ∙ ap (Laid o size (z .result)) all ∙ ap (λ (i : ℕ). Laid o size i size) (z .ensures)
 
 pub ring-from-spec : {M : Type 1} → statement M
 ring-from-spec =
@@ -77,7 +93,7 @@ ring-from-spec =
     add-circle
     rem-circle
     element-copy-out-circle
-    element-write-circle
+    array-write-circle
     add-j
     loop-less
     loop-again

@@ -3,18 +3,19 @@
 use Prim.Native.Nat.{ℕ, _+_, _-_, _*_, _<_}
 use mathlib.Core.Path.{_∙_}
 use native.Mathlib.Omega.{arith}
+use lib.ListN.{length-replicate}
 use Rattle.moving.specs.Journey.{row}
-use Rattle.moving.specs.JourneyLaws.{trip-more, trip-append, room-less, room-then}
+use Rattle.moving.specs.JourneyLaws.{trip-more, trip-append, space-room, space-then, space-less}
 use Rattle.ring.proofs.SettleLaws.{Settling, settling-begin, settling-room, settling-next, settling-end, in-all}
 use Rattle.ring.proofs.settle_ring.Statement.{statement}
 use Rattle.ring.proofs.settle_ring.Tie as tie
 
 abbrev Inv-loop : tie.InvT-loop
-Inv-loop rows n circle size y goal real racks₀ log₀ tail₀ written written₀ i₀ racks log tail written' i =
-    Settling n (row circle) (row goal) size (4 * (n * n) + 6) rows real racks₀ log₀ tail₀ written₀ racks log tail written' i
+Inv-loop rows n circle size y goal real racks₀ tail₀ written log₀ written₀ i₀ racks tail log written' i =
+    Settling n (row circle) (row goal) size (4 * (n * n) + 6) rows real racks₀ tail₀ written₀ racks log tail written' i
 
 abbrev μ-loop : tie.MeasureT-loop
-μ-loop rows n circle size y goal real racks₀ log₀ tail₀ written written₀ i₀ racks log tail written' i = size - i
+μ-loop rows n circle size y goal real racks₀ tail₀ written log₀ written₀ i₀ racks tail log written' i = size - i
 
 fewer : {size i : ℕ} → i < size → size - (i + 1) < size - i
 fewer l = omega arith
@@ -22,14 +23,14 @@ fewer l = omega arith
 open-ring-requires : tie.Need-open-ring-requires Inv-loop μ-loop
 open-ring-requires c κs =
     let s = c .before .before .before .before in
-    (s .pre .0, ((s .args .y, s .pre .1 .0), (s .pre .1 .1 .0, room-less _ (omega arith) (s .pre .1 .1 .1))))
+    (s .pre .0, ((s .args .y, s .pre .1 .0), (s .pre .1 .1 .0, space-room (length-replicate {A = ℕ} 8256 0) (space-less _ (omega arith) (s .pre .1 .1 .1)))))
 
 loop-holds : tie.Need-loop-holds Inv-loop μ-loop
 loop-holds c =
     let s = c .before .before .before .before .before .before .before in
     let e = c .before .before .open-ring .ensures in
     let three = s .pre .1 .0 .three in
-    settling-begin _ (omega arith) (e .1 .0) (room-then (room-less _ (in-all (s .args .n) _) (s .pre .1 .1 .1)) (e .1 .1) (e .0))
+    settling-begin _ (omega arith) (e .1 .0) (space-room (e .1 .1 ∙ length-replicate {A = ℕ} 8256 0) (space-then (space-less _ (in-all (s .args .n) _) (s .pre .1 .1 .1)) (e .0)))
 
 settle-place-requires : tie.Need-settle-place-requires Inv-loop μ-loop
 settle-place-requires c κs =
@@ -60,7 +61,7 @@ returns c =
     let l = c .before .loop in
     let e = c .before .before .before .before .open-ring .ensures in
     let done = settling-end _ (l .inv) (omega arith) in
-    (trip-more _ (in-all (s .args .n) _) (trip-append (e .0) (done .0)), (done .1, l .inv .log ∙ e .1 .1))
+    (trip-more _ (in-all (s .args .n) _) (trip-append (e .0) (done .0)), done .1)
 
 pub settle-ring-spec : {M : Type 1} → statement M
 settle-ring-spec =

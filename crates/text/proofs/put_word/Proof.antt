@@ -1,32 +1,44 @@
 -- `text::put_word` meets its contract: the front of the word's array is the family word. Assumes nothing.
-use mathlib.Core.Path.{sym, ap, _∙_}
+use Prim.Native.Nat.{ℕ}
+use mathlib.Core.List.{List}
+use mathlib.Core.Path.{_≡_, sym, ap, _∙_}
 use native.Mathlib.Omega.{arith}
-use lib.ListN.{length, length-take}
+use lib.ListN.{length, take, length-append}
+use lib.Seq.{take-at}
+use Rattle.answers.specs.Family.{familyWord, familyBytes}
 use Rattle.field.specs.Writing.{fits-as, wrote-as}
 use borrow.Author.Needs.{needs}
 use Rattle.text.proofs.put_word.Statement.{statement}
 use Rattle.text.proofs.put_word.Tie as tie
+
+front : (number : ℕ) {len : ℕ} {bytes : List ℕ} → (len ≡ length (familyWord number)) × (bytes ≡ familyBytes number) → take len bytes ≡ familyWord number
+front number {len} w = ap (take len) (w .1) ∙ take-at (familyWord number) _ len (sym (w .0))
 
 family-word-requires : tie.Need-family-word-requires
 family-word-requires c κs = search needs
 
 array-share-prefix-bytes : tie.Need-array-share-prefix-bytes
 array-share-prefix-bytes c =
-    omega (arith, length-take (c .before .family-word .result .len) (c .before .family-word .result .bytes), ap length (c .before .family-word .ensures .1), c .before .family-word .ensures .0)
+    let w = c .before .family-word .ensures in
+    omega (arith, w .0, ap length (w .1) ∙ length-append (familyWord (c .before .before .before .args .number)) _)
 
 slice-aggregate-put-bytes : tie.Need-slice-aggregate-put-bytes
-slice-aggregate-put-bytes c = c .before .before .family-word .ensures .0 ∙ sym (ap length (c .before .before .family-word .ensures .1))
+slice-aggregate-put-bytes c =
+    let w = c .before .before .family-word .ensures in
+    w .0 ∙ sym (ap length (front (c .before .before .before .before .args .number) w))
 
 put-bytes-requires : tie.Need-put-bytes-requires
 put-bytes-requires c κs =
-    fits-as (c .before .before .before .family-word .ensures .1) (c .before .before .before .before .before .pre)
+    let s = c .before .before .before .before .before in
+    fits-as (front (s .args .number) (c .before .before .before .family-word .ensures)) (s .pre)
 
 same-length : tie.Need-same-length
 same-length c = search needs
 
 returns : tie.Need-returns
 returns c =
-    wrote-as (c .before .before .before .before .before .before .family-word .ensures .1) (c .before .before .put-bytes .ensures)
+    let s = c .before .before .before .before .before .before .before .before in
+    wrote-as (front (s .args .number) (c .before .before .before .before .before .before .family-word .ensures)) (c .before .before .put-bytes .ensures)
 
 pub put-word-spec : {M : Type 1} → statement M
 put-word-spec =
