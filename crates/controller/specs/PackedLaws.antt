@@ -32,7 +32,7 @@ module _ {rest : List ℕ → ℕ} {values : ℕ → List ℕ} {Fits : List ℕ 
       let zero : numberIn (rest v * 256) ≡ 0 = omega arith in
       (omega (arith, packs .room v fits), rw zero (ap accepted (packs .read v fits)))
   packed-back (refused number place) (refuses some few near) =
-      let r = number + place * 256 in
+      let r = packed rest (refused number place) in
       let number-is : numberIn r ≡ number = omega arith in
       let above : r / 2 ^ 8 ≡ place = omega arith in
       let place-is : placeIn r ≡ place = rw above (mod-eq-of-lt near) in
@@ -83,7 +83,7 @@ steps-moves-pack = record { room = room; read = read }
 
     read : (v : List ℕ) → StepsMoves v → stepsAndMovesOf (stepsAndMoves v * 256) ≡ v
     read (s ∷ k ∷ []) (steps-moves few few′) =
-        let r = (s + k * 2 ^ 22) * 256 in
+        let r = stepsAndMoves (s ∷ k ∷ []) * 256 in
         let s-is : stepsIn r ≡ s = omega arith in
         let above : r / 2 ^ 30 ≡ k = omega arith in
         let k-is : movesIn r ≡ k = rw above (mod-eq-of-lt (omega arith)) in
@@ -97,7 +97,7 @@ offset-length-packs = record { room = room; read = read }
 
     read : (v : List ℕ) → OffsetLength v → offsetAndLengthOf (lengthAndOffset v * 256) ≡ v
     read (at ∷ n ∷ []) (offset-length near few) =
-        let r = (n + at * 2 ^ 16) * 256 in
+        let r = lengthAndOffset (at ∷ n ∷ []) * 256 in
         let at-is : offsetIn r ≡ at = omega arith in
         let n-is : lengthIn r ≡ n = omega arith in
         ap₂ (λ (x y : ℕ). x ∷ y ∷ []) at-is n-is
