@@ -44,7 +44,7 @@ module _ (s : List ℕ) (i : ℕ) where
 
   pub given-none : (n p : ℕ) → stepAnswer s i ≡ refused n p → partGiven s i ≡ []
   unfolding partGiven
-  given-none n p e = ap (λ (b : Answer). givenBy b (stepPart s i)) e
+  given-none n p e = rw e
 
   module _ (at n : ℕ) (e : stepAnswer s i ≡ accepted (at ∷ n ∷ [])) where
     above : passUp (numberAnswer s i) (accepted (offset s i ∷ length (stepPart s i) ∷ [])) ≡ accepted (at ∷ n ∷ [])
