@@ -1,2 +1,5 @@
 pub mod Packed
+pub mod Unpacked
+pub mod AnswerSizes
+pub mod PackedLaws
 pub mod Delivery

@@ -45,7 +45,7 @@ module _ (s : List ℕ) (i : ℕ) where
 
   pub given-none : (n p : ℕ) → stepAnswer s i ≡ refused n p → partGiven s i ≡ []
   unfolding partGiven
-  given-none n p e = ap (λ (b : Answer). givenBy b (stepPart s i)) e
+  given-none n p e = rw e
 
   pub none-place : (n p : ℕ) → stepAnswer s i ≡ refused n p → (q : ℕ × ℕ) → placeGiven q s i ≡ (q .0, 0 + q .1)
   unfolding placeGiven

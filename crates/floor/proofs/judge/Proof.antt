@@ -46,7 +46,7 @@ add-if1 c =
 
 returns-2 : tie.Need-returns-2
 returns-2 c =
-    crowded (bytes (c .before)) (told (c .before) .positions) (told (c .before) .edges) (told (c .before) .racks) (accepted-by (c .before)) (c .if1 .taken)
+    crowded (bytes (c .before)) (told (c .before) .positions) (told (c .before) .edges) (told (c .before) .racks) (accepted-by (c .before)) (omega arith)
 
 sub-rows-of : tie.Need-sub-rows-of
 sub-rows-of c =

@@ -28,7 +28,7 @@ returns-3 c =
 
 returns-4 : tie.Need-returns-4
 returns-4 c =
-    many (c .before .before .before .before .before .before .before .before .args .order .now) (c .before .before .before .before .before .counts-of .result .positions) (c .before .before .before .before .before .counts-of .result .edges) (c .before .before .before .before .before .counts-of .result .racks) (c .before .before .before .before .before .counts-of .ensures) (c .before .before .before .units-fit .result) (c .before .before .before .units-fit .ensures) (not-false _ (c .before .before .if2 .left)) (c .if4 .taken)
+    many (c .before .before .before .before .before .before .before .before .args .order .now) (c .before .before .before .before .before .counts-of .result .positions) (c .before .before .before .before .before .counts-of .result .edges) (c .before .before .before .before .before .counts-of .result .racks) (c .before .before .before .before .before .counts-of .ensures) (c .before .before .before .units-fit .result) (c .before .before .before .units-fit .ensures) (not-false _ (c .before .before .if2 .left)) (omega arith)
 
 units-clean-requires : tie.Need-units-clean-requires
 units-clean-requires c κs =

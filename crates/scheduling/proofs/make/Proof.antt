@@ -30,7 +30,7 @@ add-if1 : tie.Need-add-if1
 add-if1 c = omega (arith, count-below (c .before .before .before .before .before .before .before .args .order .now) (c .before .before .before .before .before .before .before .args .plan .now) (c .before .before .before .before .before .before .before .args .buffer .now) (c .before .below .given .0 .0) (ap planAnswerOf (sym (c .before .below .given .1)) ∙ c .before .before .before .check .ensures))
 
 returns-2 : tie.Need-returns-2
-returns-2 c = maker-short (c .before .before .before .before .before .before .before .before .args .order .now) (c .before .before .before .before .before .before .before .before .args .plan .now) (c .before .before .before .before .before .before .before .before .args .buffer .now) (c .before .before .below .given .0 .0) (ap planAnswerOf (sym (c .before .before .below .given .1)) ∙ c .before .before .before .before .check .ensures) (c .if1 .taken)
+returns-2 c = maker-short (c .before .before .before .before .before .before .before .before .args .order .now) (c .before .before .before .before .before .before .before .before .args .plan .now) (c .before .before .before .before .before .before .before .before .args .buffer .now) (c .before .before .below .given .0 .0) (ap planAnswerOf (sym (c .before .before .below .given .1)) ∙ c .before .before .before .before .check .ensures) (omega arith)
 
 sub-make-steps : tie.Need-sub-make-steps
 sub-make-steps c = head-there (c .before .before .before .before .before .before .before .before .args .order .now) (c .before .before .before .before .before .before .before .before .args .plan .now) (c .before .before .before .before .before .before .before .before .args .buffer .now) (c .before .before .below .given .0 .0) (ap planAnswerOf (sym (c .before .before .below .given .1)) ∙ c .before .before .before .before .check .ensures)

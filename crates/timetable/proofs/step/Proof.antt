@@ -47,7 +47,7 @@ part-result-start-2 c = search needs
 
 part-result-end-2 : tie.Need-part-result-end-2
 part-result-end-2 c =
-    end-within (c .before .before .before .before .before .args .timetable .now) (c .before .before .before .before .before .args .number) (c .before .found .given .0 .0) (c .before .found .given .0 .1 .0) (sym (c .before .before .before .find-step .ensures) ∙ ap answerOfStep (c .before .found .given .1))
+    omega (arith, end-within (c .before .before .before .before .before .args .timetable .now) (c .before .before .before .before .before .args .number) (c .before .found .given .0 .0) (c .before .found .given .0 .1 .0) (sym (c .before .before .before .find-step .ensures) ∙ ap answerOfStep (c .before .found .given .1)))
 
 returns-2 : tie.Need-returns-2
 returns-2 c =
