@@ -2,4 +2,3 @@ pub mod Packed
 pub mod Unpacked
 pub mod AnswerSizes
 pub mod PackedLaws
-pub mod Delivery

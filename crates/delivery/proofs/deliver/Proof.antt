@@ -1,0 +1,120 @@
+-- `delivery::deliver` meets its contract: each call on the record that the one before it wrote. Assumes nothing.
+use Prim.Native.Nat.{ℕ}
+use mathlib.Core.Path.{refl, sym, ap}
+use native.Mathlib.Omega.{arith}
+use lib.ListN.{take}
+use lib.Seq.{length-take-le}
+use Rattle.field.specs.Units.{unitsLength}
+use Rattle.delivery.specs.Delivery.{planLength, planAlone, timetableAlone}
+use Rattle.delivery.proofs.Calls.{both, plan-made, few-moves, plan-ends, timetable-ends, refused-plan, refused-timetable, all-called}
+use borrow.Author.Needs.{needs}
+use Rattle.delivery.proofs.deliver.Statement.{statement}
+use Rattle.delivery.proofs.deliver.Tie as tie
+
+make-requires : tie.Need-make-requires
+make-requires c κs = search needs
+
+enum-known-planned : tie.Need-enum-known-planned
+enum-known-planned c = search needs
+
+enum-told : tie.Need-enum-told
+enum-told c = search needs
+
+same-length : tie.Need-same-length
+same-length c = search needs
+
+returns : tie.Need-returns
+returns c = both (refused-plan _ (c .enum-told .given .1) (c .before .before .before .before .make .ensures))
+
+mul-plan-end : tie.Need-mul-plan-end
+mul-plan-end c = omega (arith, few-moves (c .before .planned .given .1) (c .before .before .before .before .before .make .ensures))
+
+add-plan-end : tie.Need-add-plan-end
+add-plan-end c = omega (arith, few-moves (c .before .planned .given .1) (c .before .before .before .before .before .make .ensures))
+
+add-plan-end-2 : tie.Need-add-plan-end-2
+add-plan-end-2 c = omega (arith, few-moves (c .before .planned .given .1) (c .before .before .before .before .before .make .ensures))
+
+slice-reshare-prefix-make : tie.Need-slice-reshare-prefix-make
+slice-reshare-prefix-make c = omega (arith, plan-ends (c .before .planned .given .1) (c .before .before .before .before .before .make .ensures))
+
+slice-aggregate-make : tie.Need-slice-aggregate-make
+slice-aggregate-make c =
+    sym (length-take-le _ _ (omega (arith, plan-ends (c .before .before .planned .given .1) (c .before .before .before .before .before .before .make .ensures))))
+
+make-requires-2 : tie.Need-make-requires-2
+make-requires-2 c κs = search needs
+
+enum-known-made : tie.Need-enum-known-made
+enum-known-made c = search needs
+
+enum-told-2 : tie.Need-enum-told-2
+enum-told-2 c = search needs
+
+same-length-2 : tie.Need-same-length-2
+same-length-2 c = search needs
+
+same-length-3 : tie.Need-same-length-3
+same-length-3 c = search needs
+
+returns-2 : tie.Need-returns-2
+unfolding planAlone planLength unitsLength
+returns-2 c =
+    let plan = plan-made (c .before .before .before .before .before .before .before .before .planned .given .1) (c .before .before .before .before .before .before .before .before .before .before .before .before .make .ensures) in
+    let maker = c .before .before .before .before .make2 in
+    both (refused-timetable _ plan _ _ (maker .ensures .0) (maker .ensures .1) refl (c .enum-told2 .given .1))
+
+record-length-requires : tie.Need-record-length-requires
+record-length-requires c κs = search needs
+
+slice-reshare-prefix-check : tie.Need-slice-reshare-prefix-check
+slice-reshare-prefix-check c = omega (arith, timetable-ends _ (c .record-length .ensures))
+
+slice-aggregate-check : tie.Need-slice-aggregate-check
+slice-aggregate-check c = sym (length-take-le _ _ (omega (arith, timetable-ends _ (c .before .record-length .ensures))))
+
+check-requires : tie.Need-check-requires
+check-requires c κs = search needs
+
+same-length-4 : tie.Need-same-length-4
+same-length-4 c = search needs
+
+same-length-5 : tie.Need-same-length-5
+same-length-5 c = search needs
+
+returns-3 : tie.Need-returns-3
+unfolding planAlone planLength unitsLength timetableAlone
+returns-3 c =
+    let plan = plan-made (c .before .before .before .before .before .before .before .before .before .before .before .before .before .planned .given .1) (c .before .before .before .before .before .before .before .before .before .before .before .before .before .before .before .before .before .make .ensures) in
+    let maker = c .before .before .before .before .before .before .before .before .before .make2 in
+    let found = c .before .before .record-length in
+    both
+    (all-called _ plan _ _ (maker .ensures .0) (maker .ensures .1) refl (c .before .before .before .before .before .made .given .1) (c .check .result) _ (c .check .ensures) (ap (λ (n : ℕ). take n (maker .last .1 .1 .0)) (found .ensures)))
+
+pub deliver-spec : {M : Type 1} → statement M
+deliver-spec =
+    tie.close
+    (tie.spec
+    make-requires
+    enum-known-planned
+    enum-told
+    same-length
+    returns
+    mul-plan-end
+    add-plan-end
+    add-plan-end-2
+    slice-reshare-prefix-make
+    slice-aggregate-make
+    make-requires-2
+    enum-known-made
+    enum-told-2
+    same-length-2
+    same-length-3
+    returns-2
+    record-length-requires
+    slice-reshare-prefix-check
+    slice-aggregate-check
+    check-requires
+    same-length-4
+    same-length-5
+    returns-3)

@@ -1,0 +1,3 @@
+pub mod Delivery
+pub mod DeliveryLaws
+pub mod Examples
