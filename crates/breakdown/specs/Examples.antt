@@ -1,13 +1,16 @@
 -- A breakdown and a ring by computation: what the laws of breakdowns and rings assume can be met.
 --
---     floorF-breakdown      the floor F of document 01's case book: the ring 0, 1, 2 and the handle 1, 3, 2
+--     inRow, starts, lefts, rights    the floor F of document 01's case book, taken apart: the ring 0, 1, 2 and the handle 1, 3, 2
+--     floorF-breakdown      that is a breakdown of it
 --     floorF-biConnected    so that F is bi-connected
 --     triangle-ring         three positions in a ring are a ring
 -- Assumes nothing.
 use Prim.Native.Nat.{ℕ, zero, suc, _+_, _≤_, _<_}
+use mathlib.Core.List.{List, _∷_}
 use mathlib.Core.Path.{_≡_, refl, subst}
 use native.Mathlib.Omega.{arith}
 use lib.Dec.{lit<, lit≤}
+use lib.ListN.{replicate}
 use Rattle.sets.specs.Sets.{bit}
 use Rattle.graph.specs.Connected.{BiConnected, Ring, Robust}
 use Rattle.graph.specs.ConnectedLaws.{whole-same}
@@ -15,21 +18,33 @@ use Rattle.graph.specs.Rows.{Edge}
 use Rattle.graph.specs.EdgeCount.{edgeCount}
 use Rattle.graph.specs.Examples.{floorF, floorF-rows, triangle, triangle-rows, triangle-edges}
 use Rattle.breakdown.specs.Breakdown.{Among, Handle, Breakdown}
+use Rattle.breakdown.specs.Building.{row}
 use Rattle.breakdown.specs.StageLaws.{ring-robust, breakdown-biConnected}
 
--- the row 0, 1, 2, 3
-abbrev place : ℕ → ℕ
-place i = i
+-- the row of F's breakdown: ring, then the inside of handle 0, from place 3 up to place 4, between 1 and 2
+abbrev pub inRow : List ℕ
+inRow = 0 ∷ 1 ∷ 2 ∷ 3 ∷ replicate 60 0
 
-in-row : (m p : ℕ) → p < m → Among place m p
-in-row m p l = record { place = p; before = l; is = refl }
+abbrev pub starts : List ℕ
+starts = 3 ∷ 4 ∷ replicate 62 0
 
--- the inside of handle 0 begins at place 3 and stops before place 4
-abbrev starts : ℕ → ℕ
-starts zero = 3
-starts (suc i) = 4
+abbrev pub lefts : List ℕ
+lefts = 1 ∷ replicate 63 0
 
-floorF-ring : (i : ℕ) → i + 1 < 3 → Edge floorF (place i) (place (i + 1))
+abbrev pub rights : List ℕ
+rights = 2 ∷ replicate 63 0
+
+pub inRow-is : (i : ℕ) → i < 4 → row inRow i ≡ i
+inRow-is zero l = refl
+inRow-is (suc zero) l = refl
+inRow-is (suc (suc zero)) l = refl
+inRow-is (suc (suc (suc zero))) l = refl
+inRow-is (suc (suc (suc (suc i)))) l = absurd (none l)
+  where
+    none : suc (suc (suc (suc i))) < 4 → ⊥
+    none h = omega arith
+
+floorF-ring : (i : ℕ) → i + 1 < 3 → Edge floorF (row inRow i) (row inRow (i + 1))
 unfolding floorF bit
 floorF-ring zero l = refl
 floorF-ring (suc zero) l = refl
@@ -38,7 +53,7 @@ floorF-ring (suc (suc i)) l = absurd (none l)
     none : suc (suc i) + 1 < 3 → ⊥
     none h = omega arith
 
-floorF-handle : (i : ℕ) → i < 1 → Handle (Edge floorF) place (starts i) (starts (i + 1)) 1 2
+floorF-handle : (i : ℕ) → i < 1 → Handle (Edge floorF) (row inRow) (row starts i) (row starts (i + 1)) (row lefts i) (row rights i)
 unfolding floorF bit
 floorF-handle zero l =
     record {
@@ -47,8 +62,8 @@ floorF-handle zero l =
       joined = λ j a b. absurd (none j a b);
       last = refl;
       ends = λ e. differ e;
-      left = in-row 3 1 (lit< tt);
-      right = in-row 3 2 (lit< tt);
+      left = record { place = 1; before = lit< tt; is = refl };
+      right = record { place = 2; before = lit< tt; is = refl };
     }
   where
     none : (j : ℕ) → 3 ≤ j → j + 1 < 4 → ⊥
@@ -61,7 +76,7 @@ floorF-handle (suc i) l = absurd (none l)
     none : suc i < 1 → ⊥
     none h = omega arith
 
-pub floorF-breakdown : Breakdown 4 (Edge floorF) 3 1 place starts (λ i. 1) (λ i. 2)
+pub floorF-breakdown : Breakdown 4 (Edge floorF) 3 1 (row inRow) (row starts) (row lefts) (row rights)
 unfolding floorF bit
 floorF-breakdown =
     record {
@@ -72,13 +87,20 @@ floorF-breakdown =
       begins = refl;
       handle = floorF-handle;
       stops = refl;
-      below = λ i l. l;
-      distinct = λ i j l h. omega arith;
-      every = λ p l. in-row 4 p l;
+      below = λ i l. let e = inRow-is i l in omega arith;
+      distinct = λ i j l h e. let x = inRow-is i (omega arith) in let y = inRow-is j h in omega arith;
+      every = λ p l. record { place = p; before = l; is = inRow-is p l };
     }
 
 pub floorF-biConnected : BiConnected 4 (Edge floorF)
 floorF-biConnected = breakdown-biConnected (floorF-rows .symmetric) floorF-breakdown
+
+-- the row 0, 1, 2
+abbrev place : ℕ → ℕ
+place i = i
+
+in-row : (m p : ℕ) → p < m → Among place m p
+in-row m p l = record { place = p; before = l; is = refl }
 
 triangle-joined : (i : ℕ) → i + 1 < 3 → Edge triangle (place i) (place (i + 1))
 unfolding triangle bit
