@@ -7,17 +7,18 @@
 --     square-circle          the ring, as settling it needs it
 --     first-on, second-on    racks 1 and 2 stand on the ring: `ring::exchange` can exchange them
 --     square-ringing         the state in which places from 2 on are settled
+--     settle-ring-met        what `ring::settle_ring` asks for, all of it at once
 -- Assumes nothing.
-use Prim.Native.Nat.{ℕ, zero, suc, _+_, _≤_, _<_}
+use Prim.Native.Nat.{ℕ, zero, suc, _+_, _-_, _*_, _≤_, _<_}
 use mathlib.Core.Path.{_≡_, refl, _∙_}
 use mathlib.Core.List.{List, [], _∷_}
 use mathlib.Core.Logic.{_⊎_, inl, inr, ⊎-elim}
 use native.Mathlib.Omega.{arith}
-use lib.ListN.{replicate}
+use lib.ListN.{replicate, length-replicate}
 use Rattle.sets.specs.Sets.{bit}
 use Rattle.graph.specs.Rows.{Edge, Rows}
 use Rattle.graph.specs.Examples.{rows-tested}
-use Rattle.moving.specs.Journey.{row}
+use Rattle.moving.specs.Journey.{row, Space}
 use Rattle.settling.specs.Table.{Table}
 use Rattle.settling.specs.Circle.{Circle, On, Ringing}
 
@@ -127,3 +128,14 @@ square-ringing =
       settled = λ j low high. refl;
       outside = λ p out. refl;
     }
+
+pub settle-ring-met :
+    Rows 5 square
+    × Circle 5 (Edge square) (row places) 4 4
+    × (Table 5 (row racks) × Table 5 (row racks) × (row racks (row places 0) ≡ 0) × (row racks (row places 1) ≡ 0)
+    × ((p : ℕ) → (On (row places) 4 p → ⊥) → row racks p ≡ row racks p))
+    × Space racks (replicate 648 0) 0 (2 * (5 - 1) + 4 * (4 * (5 * 5) + 6))
+settle-ring-met =
+    let h = length-replicate {A = ℕ} 59 0 in
+    let t = length-replicate {A = ℕ} 648 0 in
+    (square-rows, square-circle, (racks-table, racks-table, refl, refl, λ p out. refl), record { racks = omega arith; room = omega arith })
