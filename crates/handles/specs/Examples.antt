@@ -3,7 +3,7 @@
 --     log, tail            a log, and a plan's bytes behind its head, as many as 23 asks for
 --     space, room          they have room for up to 512 moves
 --     settle-handles-met   what `handles::settle_handles` asks for
---     place-met            what `handles::place` asks for, and with it what `settle_handle`, `open_stage`, `fetch`, `beside_end` and `close_cycle` do
+--     place-met            what `place` asks for, and with it `settle_handle`, `open_stage`, `fetch`, `beside_end` and `close_cycle`
 --     aside, aside-table   rack 1 moved aside to 1, so that both 0 and the right end are vacant
 --     carry-met            what `handles::carry` asks for
 -- Assumes nothing.

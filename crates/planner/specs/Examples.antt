@@ -1,5 +1,5 @@
--- What the planner's contracts and laws assume can be met: the case book's order (document 01, "Programs": F, rack 1 from 0 to 3, rack 2 from 3 to 0) and its
--- plan.
+-- What the planner's contracts and laws assume can be met: the case book's order (document 01, "Programs": F, rack 1 from 0 to 3, rack 2
+-- from 3 to 0) and its plan.
 --
 --     plan-moves-met      what `planner::plan_moves` asks for, in a buffer of just the bytes that 23 asks for
 --     plan                the case book's plan
@@ -32,7 +32,9 @@ use Rattle.planner.specs.Moves.{Solves, Moves}
 use Rattle.planner.specs.Planner.{refusals, PlanMade, turned-down, made}
 
 order-read : OrderGave twoRacks 4 5 2
-order-read = order-gave twoRacks 4 5 2 (unfold counts positionCount edgeCount rackCount field number bitsOf bits in sym (accepted-is twoRacks (plannable-met .right)))
+order-read =
+    order-gave twoRacks 4 5 2
+    (unfold counts positionCount edgeCount rackCount field number bitsOf bits in sym (accepted-is twoRacks (plannable-met .right)))
 
 pub plan-moves-met : OrderGave twoRacks 4 5 2 × Plannable twoRacks × (12 * (4 * (4 * 4)) ≤ length (replicate {A = ℕ} 768 0))
 plan-moves-met = (order-read, plannable-met, (let n = length-replicate {A = ℕ} 768 0 in omega arith))

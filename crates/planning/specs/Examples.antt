@@ -1,5 +1,5 @@
--- What the contracts and the laws of planning assume can be met: the case book's floor F, taken apart, with its order's racks (document 01, "Programs": rack
--- 1 from 0 to 3, rack 2 from 3 to 0).
+-- What the contracts and the laws of planning assume can be met: the case book's floor F, taken apart, with its order's racks (document 01,
+-- "Programs": rack 1 from 0 to 3, rack 2 from 3 to 0).
 --
 --     alone, alone-placed         one rack, at 0
 --     fill-met                    what `planning::fill` asks for
@@ -164,17 +164,23 @@ goal-held = record { racks = racks; others = others }
     others (suc (suc (suc zero))) out = absurd (out 0 (lit< tt) refl)
     others (suc (suc (suc (suc p)))) out = none-after 60 p
 
--- one move of a rack of the order
-one-move : (h t : List ℕ) (w a b : ℕ) → length h ≡ 64 → a < 64 → b < 64 → row h a ≢ 0 → row h a ≤ 2 → row h b ≡ 0 → Edge floorF a b
+-- one move of a rack of the order, between positions of F
+step : (h t : List ℕ) (w a b : ℕ) → length h ≡ 64 → (a < 64) × (b < 64) → row h a ≢ 0 → row h a ≤ 2 → row h b ≡ 0 → Edge floorF a b
     → (t′ : List ℕ) × Trip floorF 2 1 h t w (made h a b) t′ (w + 1)
-one-move h t w a b long la lb held few vacant edge =
-    (_, moved-trip h a b long la lb held vacant (record { table = refl; real = λ l. (refl, refl); stand-in = λ l. absurd (omega arith) }) floorF edge)
+step h t w a b long l held few vacant edge = (
+  _,
+  moved-trip h a b long (l .0) (l .1) held vacant
+      (record { table = refl; real = λ l. (refl, refl); stand-in = λ l. absurd (omega arith) }) floorF edge,
+)
+
+held : {x : ℕ} → suc x ≢ 0
+held e = omega arith
 
 pub four-moves : (t : List ℕ) × Trip floorF 2 4 start tail 0 goal t 4
 unfolding floorF bit
 four-moves =
-    let first = one-move start tail 0 0 1 (four-long 1 0 0 2) (lit< tt) (lit< tt) (λ e. omega arith) (lit≤ tt) refl refl in
-    let second = one-move (0 ∷ 1 ∷ 0 ∷ 2 ∷ replicate 60 0) (first .0) 1 3 2 (four-long 0 1 0 2) (lit< tt) (lit< tt) (λ e. omega arith) (lit≤ tt) refl refl in
-    let third = one-move (0 ∷ 1 ∷ 2 ∷ 0 ∷ replicate 60 0) (second .0) 2 2 0 (four-long 0 1 2 0) (lit< tt) (lit< tt) (λ e. omega arith) (lit≤ tt) refl refl in
-    let fourth = one-move (2 ∷ 1 ∷ 0 ∷ 0 ∷ replicate 60 0) (third .0) 3 1 3 (four-long 2 1 0 0) (lit< tt) (lit< tt) (λ e. omega arith) (lit≤ tt) refl refl in
-    (fourth .0, trip-append (trip-append (first .1) (second .1)) (trip-append (third .1) (fourth .1)))
+    let one = step start tail 0 0 1 (four-long 1 0 0 2) (lit< tt, lit< tt) held (lit≤ tt) refl refl in
+    let two = step (0 ∷ 1 ∷ 0 ∷ 2 ∷ replicate 60 0) (one .0) 1 3 2 (four-long 0 1 0 2) (lit< tt, lit< tt) held (lit≤ tt) refl refl in
+    let three = step (0 ∷ 1 ∷ 2 ∷ 0 ∷ replicate 60 0) (two .0) 2 2 0 (four-long 0 1 2 0) (lit< tt, lit< tt) held (lit≤ tt) refl refl in
+    let four = step (2 ∷ 1 ∷ 0 ∷ 0 ∷ replicate 60 0) (three .0) 3 1 3 (four-long 2 1 0 0) (lit< tt, lit< tt) held (lit≤ tt) refl refl in
+    (four .0, trip-append (trip-append (one .1) (two .1)) (trip-append (three .1) (four .1)))

@@ -1,5 +1,5 @@
--- The case book's floor F and its order's racks (document 01, "Programs": rack 1 from 0 to 3, rack 2 from 3 to 0), on which the definitions are seen to
--- hold, by computation: what the contracts of the handles assume can be met.
+-- The case book's floor F and its order's racks (document 01, "Programs": rack 1 from 0 to 3, rack 2 from 3 to 0), on which the definitions
+-- are seen to hold, by computation: what the contracts of the handles assume can be met.
 --
 --     corners x y                 the table with rack x at 0 and rack y at 3
 --     corners-table               with racks 1 and 2, in either order, it has two vacancies
@@ -51,7 +51,8 @@ module _ (x y : ℕ) (one : 0 < x) (two : 0 < y) (few : x ≤ 2) (low : y ≤ 2)
         one = same;
         inside = λ p held. ⊎-elim (λ a. let e = a .0 in omega arith)
             (⊎-elim (λ a. let e = a .0 in omega arith) (λ a. absurd (held (a .1)))) (corner-is p);
-        most = λ p. ⊎-elim (λ a. let e = a .1 in omega arith) (⊎-elim (λ a. let e = a .1 in omega arith) (λ a. let e = a .1 in omega arith)) (corner-is p);
+        most = λ p. ⊎-elim (λ a. let e = a .1 in omega arith)
+            (⊎-elim (λ a. let e = a .1 in omega arith) (λ a. let e = a .1 in omega arith)) (corner-is p);
         every = every;
         first = 1;
         second = 2;
