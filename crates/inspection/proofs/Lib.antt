@@ -1,2 +1,3 @@
 pub mod CopyLaws
 pub mod ShownLaws
+pub mod ToldLaws

@@ -1,4 +1,4 @@
-//! The functions of include/wichteab.h, and the one of crates/inspection. A byte string passes as a pointer and then its length; every
+//! The functions of include/wichteab.h, and those of crates/inspection. A byte string passes as a pointer and then its length; every
 //! function returns one 64-bit number.
 
 mod symbols {
@@ -47,6 +47,17 @@ mod symbols {
             order_length: usize,
             buffer: *mut u8,
             buffer_length: usize,
+        ) -> u64;
+        #[cfg(feature = "inspection")]
+        pub fn wichteab_inspect_delivery(
+            order: *const u8,
+            order_length: usize,
+            plan: *mut u8,
+            plan_length: usize,
+            timetable: *mut u8,
+            timetable_length: usize,
+            call: u64,
+            value: u64,
         ) -> u64;
         #[cfg(feature = "timetable_step")]
         pub fn wichteab_timetable_step(timetable: *const u8, timetable_length: usize, number: u64) -> u64;
@@ -116,5 +127,23 @@ pub fn timetable_length(bytes: &[u8]) -> u64 {
 pub fn inspect_breakdown(order: &[u8], buffer: &mut [u8]) -> u64 {
     unsafe {
         symbols::wichteab_inspect_breakdown(order.as_ptr(), order.len(), buffer.as_mut_ptr(), buffer.len())
+    }
+}
+
+/// One value of one of the three calls that deliver an order: of the planner's, the maker's or the
+/// checker's its number (0 accepted, 255 not reached), its first count or its place, or its second count.
+#[cfg(feature = "inspection")]
+pub fn inspect_delivery(order: &[u8], plan: &mut [u8], timetable: &mut [u8], call: u64, value: u64) -> u64 {
+    unsafe {
+        symbols::wichteab_inspect_delivery(
+            order.as_ptr(),
+            order.len(),
+            plan.as_mut_ptr(),
+            plan.len(),
+            timetable.as_mut_ptr(),
+            timetable.len(),
+            call,
+            value,
+        )
     }
 }
