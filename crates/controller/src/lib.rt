@@ -1,6 +1,6 @@
 // The C interface: include/wichteab.h says the same in C's words. Every function takes byte strings as pointer and length and
-// returns one number; none changes a byte that it was lent to read, and a refusal changes no byte at all. The number is an answer, packed, or
-// for the last two functions a length.
+// returns one number; none changes a byte that it was lent to read, and a refusal changes no byte at all. The number is an answer, packed,
+// or for the last two functions a length.
 use answers::Fault;
 use floor::FloorVerdict;
 use order::OrderVerdict;
@@ -117,7 +117,8 @@ pub extern "C" fn wichteab_order_length(bytes: &[u8]) -> u64
     order::record_length(bytes) as u64
 }
 
-// The length of the timetable that the bytes begin with, by its step count and its count bytes alone; 0 where the bytes end before it does.
+// The length of the timetable that the bytes begin with, by its step count and its count bytes alone; 0 where the bytes end before it
+// does.
 #[no_mangle]
 pub extern "C" fn wichteab_timetable_length(bytes: &[u8]) -> u64
     ensures { λ r. ⌜ r ≡ wholeTimetableLength (now (bytes .entry)) ⌝ }

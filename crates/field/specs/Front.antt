@@ -1,5 +1,5 @@
--- A record at the front of a byte string, whatever stands behind it: the fields that are read from it, and its length, which the byte string need
--- not have.
+-- A record at the front of a byte string, whatever stands behind it: the fields that are read from it, and its length, which the byte
+-- string need not have.
 --
 --     field-front                       a field within the first bytes is read from them alone
 --     wholeLength n s                   n where s has n bytes, and 0 where s ends before

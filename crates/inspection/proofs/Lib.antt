@@ -1,3 +1,4 @@
 pub mod CopyLaws
 pub mod ShownLaws
 pub mod PartLaws
+pub mod ToldLaws

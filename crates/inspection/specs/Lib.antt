@@ -1,1 +1,2 @@
 pub mod Inspection
+pub mod Told

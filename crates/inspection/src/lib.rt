@@ -1,13 +1,23 @@
-// For the tests: a breakdown as bytes, and the part that the step reader gives back byte by byte, through C's conventions. This is no part
-// of the product's interface, and include/wichteab.h does not declare it.
+// For the tests: a breakdown as bytes, the part that the step reader gives back byte by byte, and a delivery, through C's conventions. This
+// is no part of the product's interface, and include/wichteab.h does not declare it.
 use breakdown::Breakdown;
+use delivery::CheckCall;
+use delivery::MakerCall;
 use order::OrderVerdict;
+use planner::PlannerVerdict;
+use scheduling::MakerVerdict;
+use timetable::TimetableVerdict;
 ghost use mathlib.Core.Path.{_≡_};
 ghost use Prim.Native.Nat.{_+_, _≤_, _<_};
 ghost use lib.ListN.{length};
 ghost use Rattle.breakdown.specs.Building.{row};
 ghost use Rattle.timetable.specs.Reading.{partGiven};
+ghost use Rattle.timetable.specs.Checking.{answerOfCheck};
+ghost use Rattle.scheduling.specs.Maker.{answerOf as answerOfMaker};
+ghost use Rattle.planner.specs.Planner.{answerOf as answerOfPlanner};
+ghost use Rattle.delivery.specs.Delivery.{answered, callOfMaker, callOfCheck};
 ghost use Rattle.inspection.specs.Inspection.{upTo, Copied, LaidOut, Inspected, shownByte};
+ghost use Rattle.inspection.specs.Told.{chosen, valueOf, Told};
 
 // Byte i of a row, of which `count` bytes are used: 0 behind them.
 fn used(bytes: &[u8; 64], count: usize, i: usize) -> u8
@@ -86,4 +96,97 @@ pub extern "C" fn wichteab_inspect_step(timetable: &[u8], number: u64, index: u6
         return 256;
     }
     field::wide(part[at]) as u64
+}
+
+// The first, the second or the third of three numbers.
+fn choose(v: u64, x: u64, y: u64, z: u64) -> u64
+    ensures { λ r. ⌜ r ≡ chosen v x y z ⌝ }
+{
+    if v == 0 {
+        return x;
+    }
+    if v == 1 {
+        return y;
+    }
+    z
+}
+
+// A value of the planner's answer.
+fn planner_value(v: u64, answer: PlannerVerdict) -> u64
+    ensures { λ r. ⌜ r ≡ valueOf v (answered (answerOfPlanner answer)) ⌝ }
+{
+    match answer {
+        PlannerVerdict::Planned(moves) => choose(v, 0, moves as u64, 0),
+        PlannerVerdict::Refused(fault, place) => choose(v, answers::number(fault), place as u64, 0),
+    }
+}
+
+// A value of the timetable maker's answer.
+fn maker_value(v: u64, answer: MakerVerdict) -> u64
+    ensures { λ r. ⌜ r ≡ valueOf v (answered (answerOfMaker answer)) ⌝ }
+{
+    match answer {
+        MakerVerdict::Accepted(steps) => choose(v, 0, steps as u64, 0),
+        MakerVerdict::Refused(fault, place) => choose(v, answers::number(fault), place as u64, 0),
+    }
+}
+
+// A value of the timetable checker's answer.
+fn checker_value(v: u64, answer: TimetableVerdict) -> u64
+    ensures { λ r. ⌜ r ≡ valueOf v (answered (answerOfCheck answer)) ⌝ }
+{
+    match answer {
+        TimetableVerdict::Accepted { steps, moves } => choose(v, 0, steps as u64, moves as u64),
+        TimetableVerdict::Refused(fault, place) => choose(
+            v,
+            answers::number(fault),
+            place as u64,
+            0,
+        ),
+    }
+}
+
+// The same of their calls, which may not be reached.
+fn maker_call_value(v: u64, call: MakerCall) -> u64
+    ensures { λ r. ⌜ r ≡ valueOf v (callOfMaker call) ⌝ }
+{
+    match call {
+        MakerCall::NotReached => choose(v, 255, 0, 0),
+        MakerCall::Answered(answer) => maker_value(v, answer),
+    }
+}
+
+fn checker_call_value(v: u64, call: CheckCall) -> u64
+    ensures { λ r. ⌜ r ≡ valueOf v (callOfCheck call) ⌝ }
+{
+    match call {
+        CheckCall::NotReached => choose(v, 255, 0, 0),
+        CheckCall::Answered(answer) => checker_value(v, answer),
+    }
+}
+
+// Delivers an order: the planner, the timetable maker and the timetable checker in turn. The answer is one value of one call: of the
+// planner's, the maker's or the checker's (`call` 0, 1, 2) its number, 0 where it is accepted and 255 where it was not reached, its first
+// count or its place, or its second count (`value` 0, 1, 2).
+#[no_mangle]
+pub extern "C" fn wichteab_inspect_delivery(
+    order: &[u8],
+    plan: &mut [u8],
+    timetable: &mut [u8],
+    call: u64,
+    value: u64,
+) -> u64
+    ensures { λ r. ⌜ Told (now (order .entry)) (now (plan .entry)) (now (timetable .entry)) call value r (now (plan .exit)) (now (timetable .exit)) ⌝ }
+{
+    let all = delivery::deliver(order, plan, timetable);
+    let planned = all.plan;
+    let made = all.timetable;
+    let checked = all.check;
+    if call == 0 {
+        return planner_value(value, planned);
+    }
+    if call == 1 {
+        return maker_call_value(value, made);
+    }
+    checker_call_value(value, checked)
 }

@@ -1,5 +1,5 @@
--- Where a timetable ends that other bytes may follow: an order ends where its counts say, "and a timetable after its last step" (document 02,
--- "Season report").
+-- Where a timetable ends that other bytes may follow: an order ends where its counts say, "and a timetable after its last step" (document
+-- 02, "Season report").
 --
 --     stepsLength k t           the length in bytes of the k steps that t begins with, by their count bytes alone
 --     timetableLength s         the length of the timetable that s begins with, by its step count and its count bytes alone
@@ -20,7 +20,8 @@ use Rattle.field.specs.UnitLaws.{or-left, or-right}
 use Rattle.timetable.specs.Timetable.{stepLength, stepCount, wrongSteps, wrongTimetableLength}
 use Rattle.timetable.specs.StepLaws.{stepLength-some}
 
--- "each step is one byte c, then c moves, then pad". Past the end of t a count byte is 0, and such a step one byte: the sum is then more than t has.
+-- "each step is one byte c, then c moves, then pad". Past the end of t a count byte is 0, and such a step one byte: the sum is then more
+-- than t has.
 unfoldable pub stepsLength : ℕ → List ℕ → ℕ
 stepsLength zero t = 0
 stepsLength (suc k) t = stepLength (getD t 0 0) + stepsLength k (drop (stepLength (getD t 0 0)) t)

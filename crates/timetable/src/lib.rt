@@ -44,7 +44,8 @@ pub fn step_length(c: u8) -> usize
     1 + (12 * field::wide(c) + 7) / 8
 }
 
-// The length of the timetable that the bytes begin with, by its step count and its count bytes alone; 0 where the bytes end before it does.
+// The length of the timetable that the bytes begin with, by its step count and its count bytes alone; 0 where the bytes end before it
+// does.
 pub fn record_length(bytes: &[u8]) -> usize
     ensures { λ r. ⌜ r ≡ wholeTimetableLength (now (bytes .entry)) ⌝ }
 {

@@ -55,6 +55,17 @@ mod symbols {
             number: u64,
             index: u64,
         ) -> u64;
+        #[cfg(feature = "inspection")]
+        pub fn wichteab_inspect_delivery(
+            order: *const u8,
+            order_length: usize,
+            plan: *mut u8,
+            plan_length: usize,
+            timetable: *mut u8,
+            timetable_length: usize,
+            call: u64,
+            value: u64,
+        ) -> u64;
         #[cfg(feature = "timetable_step")]
         pub fn wichteab_timetable_step(timetable: *const u8, timetable_length: usize, number: u64) -> u64;
     }
@@ -129,4 +140,22 @@ pub fn inspect_breakdown(order: &[u8], buffer: &mut [u8]) -> u64 {
 #[cfg(feature = "inspection")]
 pub fn inspect_step(timetable: &[u8], number: u64, index: u64) -> u64 {
     unsafe { symbols::wichteab_inspect_step(timetable.as_ptr(), timetable.len(), number, index) }
+}
+
+/// One value of one of the three calls that deliver an order: of the planner's, the maker's or the
+/// checker's its number (0 accepted, 255 not reached), its first count or its place, or its second count.
+#[cfg(feature = "inspection")]
+pub fn inspect_delivery(order: &[u8], plan: &mut [u8], timetable: &mut [u8], call: u64, value: u64) -> u64 {
+    unsafe {
+        symbols::wichteab_inspect_delivery(
+            order.as_ptr(),
+            order.len(),
+            plan.as_mut_ptr(),
+            plan.len(),
+            timetable.as_mut_ptr(),
+            timetable.len(),
+            call,
+            value,
+        )
+    }
 }
