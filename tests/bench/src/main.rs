@@ -1,23 +1,6 @@
-//! Prints, for each capability that is switched on, how fast the proved function and the second
-//! implementation are on the same inputs, and how good the planner's plans are. Nothing depends on the
-//! times.
+//! Prints how fast each proved function and the second implementation are on the same inputs, and how
+//! good the planner's plans are. Nothing depends on the times.
 
-// What only the functions to come use is idle until they are switched on.
-#![cfg_attr(
-    not(all(
-        feature = "order_check",
-        feature = "floor_check",
-        feature = "plan_check",
-        feature = "plan_make",
-        feature = "timetable_check",
-        feature = "timetable_step",
-        feature = "timetable_make",
-        feature = "inspection"
-    )),
-    allow(dead_code, unused_imports)
-)]
-
-#[cfg(feature = "plan_make")]
 mod quality;
 
 use compare::floors;
@@ -38,21 +21,13 @@ fn main() {
     println!("call, best of {ROUNDS} rounds. A ratio above 1 means that the proved function is the faster.");
     println!("Buffers that are written are cleared to zero before each call, outside the measured time.");
     println!("{:<16} {:<44} {:>12} {:>12} {:>6}", "function", "input", "proved", "second", "ratio");
-    #[cfg(feature = "order_check")]
     order_check();
-    #[cfg(feature = "floor_check")]
     floor_check();
-    #[cfg(feature = "inspection")]
     breakdown();
-    #[cfg(feature = "plan_check")]
     plan_check();
-    #[cfg(feature = "timetable_check")]
     timetable_check();
-    #[cfg(feature = "timetable_step")]
     timetable_step();
-    #[cfg(feature = "timetable_make")]
     timetable_make();
-    #[cfg(feature = "plan_make")]
     quality::print_table();
 }
 
@@ -105,7 +80,6 @@ fn largest_order() -> Vec<u8> {
     Order { n: 64, edges, starts: places.clone(), goals: places, spare: 0, pad: 0 }.record()
 }
 
-#[cfg(feature = "order_check")]
 fn order_check() {
     let second = |order: &[u8]| compare::packed::nothing(second::order::check(order));
     let mut random = Random::new(0xBE_0001);
@@ -131,7 +105,6 @@ fn order_check() {
     );
 }
 
-#[cfg(feature = "floor_check")]
 fn floor_check() {
     let second = |order: &[u8]| compare::packed::nothing(second::floor::check(order));
     let mut random = Random::new(0xBE_0002);
@@ -153,7 +126,6 @@ fn floor_check() {
 
 /// The time on the 8 by 8 grid, and how long rings and handles come out on random floors. Both are read from
 /// an order; which of the shortest handles is taken is left open, so only the ring's size is the same.
-#[cfg(feature = "inspection")]
 fn breakdown() {
     use compare::breakdowns::{longest_handle, proved_breakdown, ROWS};
     use second::breakdown::{find, Breakdown};
@@ -195,7 +167,6 @@ fn grid_plan(m: usize, moves: usize) -> (Vec<u8>, Vec<u8>) {
     (sample.order.record(), sample.plan().record())
 }
 
-#[cfg(feature = "plan_check")]
 fn plan_check() {
     for (m, moves, calls) in [(62, 1_354, 500), (62, 2_097_152, 1), (32, 2_097_152, 1)] {
         let (order, plan) = grid_plan(m, moves);
@@ -216,7 +187,6 @@ fn grid_timetable(m: usize, steps: usize) -> (Vec<u8>, Vec<u8>, usize) {
     (sample.order.record(), sample.timetable.record(), sample.timetable.move_count())
 }
 
-#[cfg(feature = "timetable_check")]
 fn timetable_check() {
     for (m, steps, calls) in [(62, 223, 500), (62, 1_000_000, 1), (32, 1_000_000, 1)] {
         let (order, timetable, moves) = grid_timetable(m, steps);
@@ -230,7 +200,6 @@ fn timetable_check() {
     }
 }
 
-#[cfg(feature = "timetable_step")]
 fn timetable_step() {
     for (steps, calls) in [(223, 1000), (1_000_000, 1)] {
         let (_, timetable, _) = grid_timetable(62, steps);
@@ -244,7 +213,6 @@ fn timetable_step() {
     }
 }
 
-#[cfg(feature = "timetable_make")]
 fn timetable_make() {
     for (m, moves) in [(62, 1_354), (62, 21_844), (62, 2_097_152), (1, 2_097_152)] {
         let (order, plan) = grid_plan(m, moves);

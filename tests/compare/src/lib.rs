@@ -3,7 +3,7 @@
 //!
 //! | module       | what it has                                                        |
 //! |--------------|--------------------------------------------------------------------|
-//! | `proved`     | the exported functions, one for each feature that is on            |
+//! | `proved`     | the exported functions                                             |
 //! | `packed`     | an answer of the second implementation as the exports pack it      |
 //! | `tally`      | how many cases were compared, and how often each number was met    |
 //! | `random`     | the generator of random numbers                                    |
@@ -21,7 +21,6 @@
 #[macro_use]
 mod kinds;
 
-#[cfg(feature = "inspection")]
 pub mod breakdowns;
 pub mod cases;
 pub mod floors;

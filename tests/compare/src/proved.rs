@@ -3,32 +3,26 @@
 
 mod symbols {
     extern "C" {
-        #[cfg(feature = "order_check")]
         pub fn wichteab_order_check(order: *const u8, order_length: usize) -> u64;
-        #[cfg(feature = "floor_check")]
         pub fn wichteab_floor_check(order: *const u8, order_length: usize) -> u64;
-        #[cfg(feature = "plan_check")]
         pub fn wichteab_plan_check(
             order: *const u8,
             order_length: usize,
             plan: *const u8,
             plan_length: usize,
         ) -> u64;
-        #[cfg(feature = "plan_make")]
         pub fn wichteab_plan_make(
             order: *const u8,
             order_length: usize,
             buffer: *mut u8,
             buffer_length: usize,
         ) -> u64;
-        #[cfg(feature = "timetable_check")]
         pub fn wichteab_timetable_check(
             order: *const u8,
             order_length: usize,
             timetable: *const u8,
             timetable_length: usize,
         ) -> u64;
-        #[cfg(feature = "timetable_make")]
         pub fn wichteab_timetable_make(
             order: *const u8,
             order_length: usize,
@@ -37,25 +31,20 @@ mod symbols {
             buffer: *mut u8,
             buffer_length: usize,
         ) -> u64;
-        #[cfg(feature = "order_length")]
         pub fn wichteab_order_length(bytes: *const u8, length: usize) -> u64;
-        #[cfg(feature = "timetable_length")]
         pub fn wichteab_timetable_length(bytes: *const u8, length: usize) -> u64;
-        #[cfg(feature = "inspection")]
         pub fn wichteab_inspect_breakdown(
             order: *const u8,
             order_length: usize,
             buffer: *mut u8,
             buffer_length: usize,
         ) -> u64;
-        #[cfg(feature = "inspection")]
         pub fn wichteab_inspect_step(
             timetable: *const u8,
             timetable_length: usize,
             number: u64,
             index: u64,
         ) -> u64;
-        #[cfg(feature = "inspection")]
         pub fn wichteab_inspect_delivery(
             order: *const u8,
             order_length: usize,
@@ -66,7 +55,6 @@ mod symbols {
             call: u64,
             value: u64,
         ) -> u64;
-        #[cfg(feature = "timetable_step")]
         pub fn wichteab_timetable_step(timetable: *const u8, timetable_length: usize, number: u64) -> u64;
     }
 }
@@ -74,34 +62,28 @@ mod symbols {
 // Safety, for every call below: pointer and length come from one slice, which lives until the call
 // returns; a `&mut` slice overlaps no other; the functions ask nothing else of their caller.
 
-#[cfg(feature = "order_check")]
 pub fn order_check(order: &[u8]) -> u64 {
     unsafe { symbols::wichteab_order_check(order.as_ptr(), order.len()) }
 }
 
-#[cfg(feature = "floor_check")]
 pub fn floor_check(order: &[u8]) -> u64 {
     unsafe { symbols::wichteab_floor_check(order.as_ptr(), order.len()) }
 }
 
-#[cfg(feature = "plan_check")]
 pub fn plan_check(order: &[u8], plan: &[u8]) -> u64 {
     unsafe { symbols::wichteab_plan_check(order.as_ptr(), order.len(), plan.as_ptr(), plan.len()) }
 }
 
-#[cfg(feature = "plan_make")]
 pub fn plan_make(order: &[u8], buffer: &mut [u8]) -> u64 {
     unsafe { symbols::wichteab_plan_make(order.as_ptr(), order.len(), buffer.as_mut_ptr(), buffer.len()) }
 }
 
-#[cfg(feature = "timetable_check")]
 pub fn timetable_check(order: &[u8], timetable: &[u8]) -> u64 {
     unsafe {
         symbols::wichteab_timetable_check(order.as_ptr(), order.len(), timetable.as_ptr(), timetable.len())
     }
 }
 
-#[cfg(feature = "timetable_make")]
 pub fn timetable_make(order: &[u8], plan: &[u8], buffer: &mut [u8]) -> u64 {
     unsafe {
         symbols::wichteab_timetable_make(
@@ -115,36 +97,30 @@ pub fn timetable_make(order: &[u8], plan: &[u8], buffer: &mut [u8]) -> u64 {
     }
 }
 
-#[cfg(feature = "timetable_step")]
 pub fn timetable_step(timetable: &[u8], number: u64) -> u64 {
     unsafe { symbols::wichteab_timetable_step(timetable.as_ptr(), timetable.len(), number) }
 }
 
-#[cfg(feature = "order_length")]
 pub fn order_length(bytes: &[u8]) -> u64 {
     unsafe { symbols::wichteab_order_length(bytes.as_ptr(), bytes.len()) }
 }
 
-#[cfg(feature = "timetable_length")]
 pub fn timetable_length(bytes: &[u8]) -> u64 {
     unsafe { symbols::wichteab_timetable_length(bytes.as_ptr(), bytes.len()) }
 }
 
-#[cfg(feature = "inspection")]
 pub fn inspect_breakdown(order: &[u8], buffer: &mut [u8]) -> u64 {
     unsafe {
         symbols::wichteab_inspect_breakdown(order.as_ptr(), order.len(), buffer.as_mut_ptr(), buffer.len())
     }
 }
 
-#[cfg(feature = "inspection")]
 pub fn inspect_step(timetable: &[u8], number: u64, index: u64) -> u64 {
     unsafe { symbols::wichteab_inspect_step(timetable.as_ptr(), timetable.len(), number, index) }
 }
 
 /// One value of one of the three calls that deliver an order: of the planner's, the maker's or the
 /// checker's its number (0 accepted, 255 not reached), its first count or its place, or its second count.
-#[cfg(feature = "inspection")]
 pub fn inspect_delivery(order: &[u8], plan: &mut [u8], timetable: &mut [u8], call: u64, value: u64) -> u64 {
     unsafe {
         symbols::wichteab_inspect_delivery(

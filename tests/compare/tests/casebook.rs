@@ -1,7 +1,10 @@
 //! The case book of document 01, starred cases and others, and a case for each other row of its
-//! table: input and expected answer, one line each.
+//! table: input and expected answer, one line each. Every line runs on both implementations: the answer is
+//! the second one's, and the proved function has to give the same.
 
-use second::answer::Refusal;
+use compare::packed;
+use compare::proved;
+use second::answer::{Answer, Refusal};
 use second::timetable::{Counts, Part};
 use second::{floor, making, order, plan, planning, timetable};
 
@@ -10,39 +13,63 @@ fn hex(text: &str) -> Vec<u8> {
     text.split_whitespace().map(|byte| u8::from_str_radix(byte, 16).unwrap()).collect()
 }
 
-fn refused<Counts>(number: u8, place: u32) -> Result<Counts, Refusal> {
+fn refused<Counts>(number: u8, place: u32) -> Answer<Counts> {
     Err(Refusal { number, place })
 }
 
-fn order_check(order: &str) -> Result<(usize, usize, usize), Refusal> {
-    order::check(&hex(order)).map(|counts| (counts.n, counts.e, counts.m))
+/// The counts are the second implementation's: the C interface gives none.
+fn order_check(order: &str) -> Answer<(usize, usize, usize)> {
+    let answer = order::check(&hex(order)).map(|counts| (counts.n, counts.e, counts.m));
+    assert_eq!(proved::order_check(&hex(order)), packed::nothing(answer), "{order}");
+    answer
 }
 
-fn plan_check(order: &str, plan: &str) -> Result<u32, Refusal> {
-    plan::check(&hex(order), &hex(plan))
+fn plan_check(order: &str, plan: &str) -> Answer<u32> {
+    let answer = plan::check(&hex(order), &hex(plan));
+    assert_eq!(proved::plan_check(&hex(order), &hex(plan)), packed::count(answer), "{order}, {plan}");
+    answer
 }
 
-fn timetable_check(order: &str, timetable: &str) -> Result<(u32, u32), Refusal> {
-    timetable::check(&hex(order), &hex(timetable)).map(|Counts { steps, moves }| (steps, moves))
+fn timetable_check(order: &str, timetable: &str) -> Answer<(u32, u32)> {
+    let answer = timetable::check(&hex(order), &hex(timetable));
+    let of_proved = proved::timetable_check(&hex(order), &hex(timetable));
+    assert_eq!(of_proved, packed::steps_and_moves(answer), "{order}, {timetable}");
+    answer.map(|Counts { steps, moves }| (steps, moves))
 }
 
 /// Offset and length.
-fn timetable_step(timetable: &str, number: u64) -> Result<(usize, usize), Refusal> {
-    timetable::step(&hex(timetable), number).map(|Part { offset, length }| (offset, length))
+fn timetable_step(timetable: &str, number: u64) -> Answer<(usize, usize)> {
+    let answer = timetable::step(&hex(timetable), number);
+    assert_eq!(
+        proved::timetable_step(&hex(timetable), number),
+        packed::part(answer),
+        "{timetable}, {number}"
+    );
+    answer.map(|Part { offset, length }| (offset, length))
 }
 
 /// The answer, and the buffer afterwards, which was all AA.
-fn timetable_make(order: &str, plan: &str, length: usize) -> (Result<u32, Refusal>, Vec<u8>) {
+fn timetable_make(order: &str, plan: &str, length: usize) -> (Answer<u32>, Vec<u8>) {
     let mut buffer = vec![0xAA; length];
-    (making::make(&hex(order), &hex(plan), &mut buffer), buffer)
+    let answer = making::make(&hex(order), &hex(plan), &mut buffer);
+    let mut of_proved = vec![0xAA; length];
+    let packed = proved::timetable_make(&hex(order), &hex(plan), &mut of_proved);
+    assert_eq!((packed, &of_proved), (packed::count(answer), &buffer), "{order}, {plan}");
+    (answer, buffer)
 }
 
-fn floor_check(order: &str) -> Result<(), Refusal> {
-    floor::check(&hex(order))
+fn floor_check(order: &str) -> Answer<()> {
+    let answer = floor::check(&hex(order));
+    assert_eq!(proved::floor_check(&hex(order)), packed::nothing(answer), "{order}");
+    answer
 }
 
-/// The planner's refusal, if there is one.
-fn plan_make(order: &str, buffer_length: usize) -> Result<(), Refusal> {
+/// The planner's refusal, if there is one. What the proved planner answers and writes is judged.
+fn plan_make(order: &str, buffer_length: usize) -> Answer<()> {
+    let before = vec![0xAA; buffer_length];
+    let mut after = before.clone();
+    let answer = packed::to_count(proved::plan_make(&hex(order), &mut after));
+    assert_eq!(planning::fault(&hex(order), &before, &after, answer), None, "{order}");
     planning::judge_call(&hex(order), buffer_length).map(|_| ())
 }
 
@@ -64,7 +91,7 @@ fn case_1_the_plan_and_its_timetable() {
 }
 
 /// The maker's refusal: the buffer is as it was.
-fn refused_make(number: u8, length: usize) -> (Result<u32, Refusal>, Vec<u8>) {
+fn refused_make(number: u8, length: usize) -> (Answer<u32>, Vec<u8>) {
     (refused(number, 0), vec![0xAA; length])
 }
 
@@ -237,7 +264,7 @@ fn small_floors() {
 }
 
 /// What is wrong with a planner that answers this and leaves this buffer, which was all AA; "" if nothing is.
-fn planner_fault(order: &str, answer: Result<u32, Refusal>, plan: &str) -> String {
+fn planner_fault(order: &str, answer: Answer<u32>, plan: &str) -> String {
     let before = vec![0xAA; 771];
     let mut after = before.clone();
     after[..hex(plan).len()].copy_from_slice(&hex(plan));
