@@ -38,7 +38,7 @@ tail = replicate 768 0
 pub space : (h : List ℕ) → length h ≡ 64 → (c : ℕ) → c ≤ 512 → Space h tail 0 c
 space h long c few = let t = length-replicate {A = ℕ} 768 0 in record { racks = long; room = omega arith }
 
-room : (h : List ℕ) → length h ≡ 64 → (c : ℕ) → c ≤ 512 → Room h log tail 0 c
+pub room : (h : List ℕ) → length h ≡ 64 → (c : ℕ) → c ≤ 512 → Room h log tail 0 c
 room h long c few = let s = space h long c few in record { racks = s .racks; log = length-replicate {A = ℕ} 8256 0; room = s .room }
 
 pub four-long : (w x y z : ℕ) → length (w ∷ x ∷ y ∷ z ∷ replicate 60 0) ≡ 64

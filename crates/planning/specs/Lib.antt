@@ -2,3 +2,4 @@ pub mod Shift
 pub mod Placed
 pub mod Held
 pub mod Planned
+pub mod Examples
