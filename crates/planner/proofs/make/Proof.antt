@@ -72,7 +72,7 @@ returns-2 c = let s = c .before .before .before .before .before .before .before 
     let can = plannable o [] (sym (c .before .before .before .before .judge .ensures) ∙ ap floorAnswerOf (c .before .before .enum-told .given .1)) in
     let w = c .before .counts-of in
     let n = w .result .positions in
-    planner-short o (s .args .buffer .now) can (w .result .positions) (w .result .edges) (w .result .racks) (w .ensures) (c .if1 .taken)
+    planner-short o (s .args .buffer .now) can (w .result .positions) (w .result .edges) (w .result .racks) (w .ensures) (omega (arith, c .if1 .taken))
 
 sub-plan-moves : tie.Need-sub-plan-moves
 sub-plan-moves c = search needs
@@ -97,7 +97,8 @@ put-head-requires c κs = let s = c .before .before .before .before .before .bef
     let can = plannable o [] (sym (c .before .before .before .before .before .before .before .before .before .judge .ensures) ∙ ap floorAnswerOf (c .before .before .before .before .before .before .before .enum-told .given .1)) in
     let w = c .before .before .before .before .before .before .counts-of in
     let n = w .result .positions in
-    (search needs, few-moves o (s .args .buffer .now) can (w .result .positions) (w .result .edges) (w .result .racks) (w .ensures) (c .before .before .before .before .before .if1 .left) _ _ (c .before .before .before .plan-moves .ensures))
+    let few = few-moves o (s .args .buffer .now) can (w .result .positions) (w .result .edges) (w .result .racks) (w .ensures) (c .before .before .before .before .before .if1 .left) _ _ (c .before .before .before .plan-moves .ensures) in
+    (search needs, omega (arith, few))
 
 same-length : tie.Need-same-length
 same-length c = search needs
