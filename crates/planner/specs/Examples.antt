@@ -9,7 +9,7 @@
 --     turned-down-met     in one of 770 bytes it answers 23, and changes no byte
 -- Assumes nothing.
 use Prim.Native.Nat.{ℕ, _*_, _≤_}
-use mathlib.Core.Path.{_≡_, refl, sym, ap, _∙_}
+use mathlib.Core.Path.{_≡_, refl, sym, ap}
 use mathlib.Core.List.{List, [], _∷_, _++_}
 use native.Mathlib.Omega.{arith}
 use lib.Dec.{lit≤, ltb}
@@ -23,7 +23,7 @@ use Rattle.order.specs.Order.{positionCount, edgeCount, rackCount, floorOf, sta
 use Rattle.order.specs.OrderLaws.{accepted-is}
 use Rattle.motion.specs.Arrangement.{occupied, vacant}
 use Rattle.motion.specs.Move.{onFloor, legalMove, goesTo, after, afterMove}
-use Rattle.motion.specs.Replay.{ended, replayFrom, replayMoves}
+use Rattle.motion.specs.Replay.{replayFrom, replayMoves}
 use Rattle.tables.specs.Accepted.{OrderGave, order-gave}
 use Rattle.plan.specs.Plan.{planRecord}
 use Rattle.floor.specs.FloorLaws.{Plannable}
