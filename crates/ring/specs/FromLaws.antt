@@ -4,7 +4,6 @@
 --     placeOf-in, placeOf-is    it finds a place of the ring, and where x is on it, the place of x
 --     length-round, round-next, round-at    how many positions; one more of them; the one at place i
 --     laid-none, laid-next      the row of 64 with nothing laid, and with one position more
---     place-in              (z + i) % size is a place
 --     ring-circle           the breakdown's ring from the left end of its first handle on is a ring
 --     ring-same             with the same positions
 -- Assumes nothing.
@@ -120,7 +119,7 @@ far : (x size : ℕ) → size ≤ x → x < size + size → x % size ≡ x - siz
 far x size l h = mod-eq-sub-mod l ∙ mod-eq-of-lt (omega arith)
 
 module _ (z size : ℕ) (hz : z < size) where
-  pub place-in : (i : ℕ) → (z + i) % size < size
+  place-in : (i : ℕ) → (z + i) % size < size
   place-in i = mod-lt (z + i) (omega arith)
 
   places-apart : (i j : ℕ) → i < j → j < size → (z + i) % size ≢ (z + j) % size

@@ -3,11 +3,12 @@
 use Prim.Native.Nat.{ℕ, _-_, _≤_, _<_}
 use mathlib.Core.List.{List, _++_}
 use mathlib.Core.Path.{_≡_, ap, _∙_}
+use native.Mathlib.Nat.{le-trans, mod-lt}
 use native.Mathlib.Omega.{arith}
 use lib.ListN.{replicate}
 use Rattle.moving.specs.Journey.{row}
 use Rattle.ring.specs.From.{round, placeOf}
-use Rattle.ring.specs.FromLaws.{placeOf-in, laid-none, laid-next, place-in}
+use Rattle.ring.specs.FromLaws.{placeOf-in, laid-none, laid-next}
 use Rattle.ring.proofs.ring_from.Statement.{statement}
 use Rattle.ring.proofs.ring_from.Tie as tie
 
@@ -43,14 +44,7 @@ rem-circle : tie.Need-rem-circle Inv-loop μ-loop
 rem-circle c = let p = c .before .before .before .pre .0 in omega arith
 
 element-copy-out-circle : tie.Need-element-copy-out-circle Inv-loop μ-loop
-element-copy-out-circle c =
-    let s = c .before .before .before in
-    let a = s .args in
-    let small = s .pre .1 in
-    let z = c .before .before .place-on in
-    let in-ring = on-ring (a .order .now) (a .size) (a .x) (z .result) (z .ensures) (s .pre) in
-    let in-row = place-in (z .result) (a .size) in-ring (c .before .loop .j) in
-    omega arith
+element-copy-out-circle c = let p = c .before .before .before .pre in le-trans (mod-lt _ (p .0)) (p .1)
 
 array-write-circle : tie.Need-array-write-circle Inv-loop μ-loop
 array-write-circle c = let s = c .before .before .before .before .pre .1 in let l = c .before .loop-test .taken in omega arith
