@@ -12,8 +12,8 @@ use native.Mathlib.Omega.{arith}
 use Rattle.graph.specs.Connected.{BiConnected, Ring}
 use Rattle.graph.specs.Rows.{Edge, Rows}
 use Rattle.graph.specs.EdgeCount.{edgeCount}
-use Rattle.breakdown.specs.StageLaws.{breakdown-biConnected}
-use Rattle.breakdown.specs.CountLaws.{breakdown-no-ring}
+use Rattle.breakdown.proofs.StageLaws.{breakdown-biConnected}
+use Rattle.breakdown.proofs.CountLaws.{breakdown-no-ring}
 use Rattle.breakdown.specs.Answer.{Handled, Answer}
 
 module _ {n : ℕ} {g : List ℕ} {r c : ℕ} {o start left right : List ℕ} where

@@ -23,8 +23,8 @@ use native.Mathlib.Omega.{arith}
 use lib.ListN.{set, length, length-set}
 use lib.Seq.{getD-set-same, getD-set-other}
 use Rattle.sets.specs.Sets.{Has}
-use Rattle.sets.specs.SetLaws.{has-none}
-use Rattle.sets.specs.CountLaws.{ones-push, ones-most, ones-all}
+use Rattle.sets.proofs.SetLaws.{has-none}
+use Rattle.sets.proofs.CountLaws.{ones-push, ones-most, ones-all}
 use Rattle.graph.specs.Walk.{Path}
 use Rattle.graph.specs.Connected.{Except, Below}
 use Rattle.graph.specs.Nearest.{Nearest}

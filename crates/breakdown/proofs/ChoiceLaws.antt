@@ -19,15 +19,16 @@ use native.Mathlib.Omega.{arith}
 use lib.Count.{ones}
 use lib.ListN.{getD}
 use Rattle.sets.specs.Sets.{Has}
-use Rattle.sets.specs.SetLaws.{has-none}
-use Rattle.sets.specs.CountLaws.{ones-less}
+use Rattle.sets.proofs.SetLaws.{has-none}
+use Rattle.sets.proofs.CountLaws.{ones-less}
 use Rattle.graph.specs.Walk.{Walk}
-use Rattle.graph.specs.WalkLaws.{path-walk, walk-some, walk-alone}
+use Rattle.graph.proofs.WalkLaws.{path-walk, walk-some, walk-alone}
 use Rattle.graph.specs.Connected.{Except, Below}
 use Rattle.graph.specs.Rows.{Edge, Rows}
 use Rattle.graph.specs.Levels.{Near, Within}
-use Rattle.graph.specs.NearestLaws.{nearest-found}
-use Rattle.breakdown.specs.Choice.{Beside, Leaves, Before, Upto, Better, Choice, RingChoice, HandleChoice, Size}
+use Rattle.graph.proofs.NearestLaws.{nearest-found}
+use Rattle.breakdown.specs.Choice.{Beside, Leaves, Before, Better, Choice, RingChoice, HandleChoice, Size}
+use Rattle.breakdown.proofs.ChoiceFacts.{Upto}
 
 none : {x : ℕ} → x < 0 → ⊥
 none h = omega arith

@@ -12,13 +12,13 @@ use mathlib.Core.Logic.{_≢_, by-cases, _⊎_, inl, inr, ⊎-elim}
 use native.Mathlib.Decide.{ℕ-discrete}
 use native.Mathlib.Omega.{arith}
 use Rattle.sets.specs.Sets.{Has}
-use Rattle.sets.specs.SetLaws.{has-or-not}
-use Rattle.sets.specs.CountLaws.{ones-least}
+use Rattle.sets.proofs.SetLaws.{has-or-not}
+use Rattle.sets.proofs.CountLaws.{ones-least}
 use Rattle.graph.specs.Walk.{Walk}
 use Rattle.graph.specs.Walk.Walk.{alone, step}
 use Rattle.graph.specs.Connected.{BiConnected}
 use Rattle.graph.specs.Rows.{Edge, Rows}
-use Rattle.graph.specs.EdgeCountLaws.{biConnected-neighbours}
+use Rattle.graph.proofs.EdgeCountLaws.{biConnected-neighbours}
 use Rattle.breakdown.specs.Choice.{Leaves, RingChoice, HandleChoice}
 use Rattle.breakdown.specs.Building.{row, Building}
 

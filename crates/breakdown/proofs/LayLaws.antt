@@ -13,11 +13,11 @@ use mathlib.Core.List.{List}
 use native.Mathlib.Omega.{arith}
 use lib.ListN.{length}
 use Rattle.sets.specs.Sets.{Has}
-use Rattle.graph.specs.WalkLaws.{path-walk}
+use Rattle.graph.proofs.WalkLaws.{path-walk}
 use Rattle.graph.specs.Connected.{Except, Below}
 use Rattle.graph.specs.Rows.{Edge, Rows}
 use Rattle.graph.specs.Nearest.{Nearest}
-use Rattle.graph.specs.NearestLaws.{nearest-found, nearest-inner}
+use Rattle.graph.proofs.NearestLaws.{nearest-found, nearest-inner}
 use Rattle.breakdown.specs.Choice.{Beside, RingChoice, HandleChoice}
 use Rattle.breakdown.specs.Building.{row, Settled, Fresh, Extended, Building}
 use Rattle.breakdown.proofs.BuildingLaws.{building-ring}

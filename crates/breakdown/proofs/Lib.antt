@@ -4,3 +4,7 @@ pub mod LayLaws
 pub mod ExistLaws
 pub mod RingLaws
 pub mod AnswerLaws
+pub mod ChoiceFacts
+pub mod CountLaws
+pub mod Examples
+pub mod StageLaws

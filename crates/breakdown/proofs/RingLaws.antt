@@ -11,13 +11,13 @@ use mathlib.Core.Logic.{_≢_, by-cases, _⊎_, inl, inr, ⊎-elim}
 use native.Mathlib.Decide.{ℕ-discrete, decLt}
 use native.Mathlib.Omega.{arith}
 use lib.ListN.{getD}
-use Rattle.sets.specs.SetLaws.{has-or-not}
+use Rattle.sets.proofs.SetLaws.{has-or-not}
 use Rattle.graph.specs.Walk.{Walk}
-use Rattle.graph.specs.WalkLaws.{walk-segment}
+use Rattle.graph.proofs.WalkLaws.{walk-segment}
 use Rattle.graph.specs.Connected.{Except, Below}
 use Rattle.graph.specs.Rows.{Edge, Rows}
 use Rattle.graph.specs.EdgeCount.{rowSum, edgeCount}
-use Rattle.graph.specs.EdgeCountLaws.{handshake, rowSum-two, rowsSum-two}
+use Rattle.graph.proofs.EdgeCountLaws.{handshake, rowSum-two, rowsSum-two}
 use Rattle.breakdown.specs.Choice.{RingChoice}
 use Rattle.breakdown.specs.Building.{row, Building}
 use Rattle.breakdown.proofs.BuildingLaws.{building-all, building-every}

@@ -4,7 +4,6 @@
 --     Beside E a b t              t is joined to a and is not b: where the way of a ring ends that begins with a, b
 --     Leaves E s u w              an edge leads from u, which is settled, to w, which is not: where a handle can begin
 --     Before a x y                the pair (x, y) begins before a
---     Upto a rest x y             it begins before a, or begins at a and goes on to none of `rest`
 --     Better f t k u w j x y z    (x, y) with the size z is the better one of (f, t) with the size k and (u, w) with the size j; a size of 0 is none
 --     Choice n E C T D u w k      of the pairs of D that C allows, (u, w) has the shortest way on to a target of T, of k positions; k is 0 exactly
 --                                 where none of them has a way
@@ -33,9 +32,6 @@ pub record Leaves (E : ℕ → ℕ → Type 0) (s u w : ℕ) : Type 0 where
 
 abbrev pub Before : ℕ → ℕ → ℕ → Type 0
 Before a x y = x < a
-
-abbrev pub Upto : ℕ → ℕ → ℕ → ℕ → Type 0
-Upto a rest x y = (x < a) ⊎ ((x ≡ a) × (Has rest y → ⊥))
 
 pub record Better (f t k u w j x y z : ℕ) : Type 0 where
   pub none : z ≡ 0 → (k ≡ 0) × (j ≡ 0)

@@ -1,4 +1,2 @@
 pub mod Packed
 pub mod Unpacked
-pub mod AnswerSizes
-pub mod PackedLaws

@@ -24,7 +24,7 @@ use Rattle.floor.specs.FloorAnswer.{floorAnswer}
 use Rattle.plan.specs.Plan.{planAnswer}
 use Rattle.planner.specs.Planner.{PlanMade}
 use Rattle.timetable.specs.Timetable.{timetableAnswer, stepAnswer}
-use Rattle.timetable.specs.SizeLaws.{ByteString}
+use Rattle.timetable.specs.ByteString.{ByteString}
 use Rattle.scheduling.specs.Maker.{makerAnswer}
 use Rattle.controller.specs.Packed.{packed}
 

@@ -23,11 +23,11 @@ use Rattle.scheduling.specs.Maker.{makerAnswer, bufferAfter, answerOf as answer
 use Rattle.scheduling.specs.declared.MakerVerdict.{MakerVerdict}
 use Rattle.scheduling.specs.declared.MakerVerdict.the-variants.{Accepted, Refused}
 use Rattle.planner.specs.Planner.{PlanMade, answerOf}
-use Rattle.planner.specs.PlannerLaws.{moves-few}
+use Rattle.planner.proofs.PlannerLaws.{moves-few}
 use Rattle.planner.specs.declared.PlannerVerdict.{PlannerVerdict}
 use Rattle.planner.specs.declared.PlannerVerdict.the-variants.{Planned, Refused as PlanRefused}
 use Rattle.delivery.specs.Delivery.{notReached, answered, Answers, planLength, planAlone, timetableAlone, Called, unplanned, untimed, checked, Delivers}
-use Rattle.delivery.specs.DeliveryLaws.{plan-within, length-within, delivered}
+use Rattle.delivery.proofs.DeliveryLaws.{plan-within, length-within, delivered}
 
 pub both : {o P T : List ℕ} {a : Answers} {P′ T′ : List ℕ} → Called o P T a P′ T′ → Called o P T a P′ T′ × Delivers o P T a P′ T′
 both {o} {P} {T} c = (c, delivered o P T c)

@@ -28,7 +28,7 @@ use Rattle.timetable.specs.Timetable.{timetableRecord, timetableAnswer}
 use Rattle.timetable.specs.RecordLength.{wholeTimetableLength}
 use Rattle.timetable.specs.Checking.{answerOfCheck}
 use Rattle.scheduling.specs.Maker.{madeOf, makerAnswer, bufferAfter, answerOf as answerOfMaker}
-use Rattle.floor.specs.FloorLaws.{Plannable}
+use Rattle.floor.specs.Plannable.{Plannable}
 use Rattle.planner.specs.Planner.{PlanMade, answerOf as answerOfPlanner}
 use Rattle.delivery.specs.declared.MakerCall.{MakerCall}
 use Rattle.delivery.specs.declared.MakerCall.the-variants.{NotReached, Answered}

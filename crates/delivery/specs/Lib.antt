@@ -1,3 +1,1 @@
 pub mod Delivery
-pub mod DeliveryLaws
-pub mod Examples

@@ -1,1 +1,9 @@
 pub mod Sextets
+pub mod BitLaws
+pub mod FrontLaws
+pub mod HeadLaws
+pub mod PackingLaws
+pub mod RecordLaws
+pub mod UnitLaws
+pub mod WholeBytes
+pub mod WritingLaws

@@ -11,7 +11,7 @@ use native.Mathlib.Omega.{arith}
 use native.Mathlib.Nat.{mul-add-mod-self-left}
 use lib.ListN.{length, getD}
 use Rattle.field.specs.Bits.{field, number, pad}
-use Rattle.field.specs.BitLaws.{field-in-byte, field-across, field-split}
+use Rattle.field.proofs.BitLaws.{field-in-byte, field-across, field-split}
 
 module _ (s : List ℕ) (i k : ℕ) where
   pub sextet-0 : i ≡ 8 * k → k < length s → getD s k 0 < 256 → field s i 6 ≡ getD s k 0 / 4

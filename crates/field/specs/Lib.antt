@@ -1,9 +1,6 @@
 pub mod Bits
-pub mod BitLaws
-pub mod RecordLaws
+pub mod Bytes
 pub mod Units
-pub mod WholeBytes
-pub mod UnitLaws
 pub mod Packing
 pub mod Writing
 pub mod Head

@@ -1,5 +1,5 @@
 // Bit fields of byte strings, most significant bit first: the fields that the records are made of (document 01, "Records").
-// specs/Bits.antt says what a field is; specs/BitLaws.antt reduces any field to bytes.
+// specs/Bits.antt says what a field is; proofs/BitLaws.antt reduces any field to bytes.
 ghost use mathlib.Core.Path.{_≡_};
 ghost use mathlib.Core.Bool.{not, false};
 ghost use Prim.Native.Nat.{_+_, _*_, _/_, _%_, _^_, _≤_, _<_};

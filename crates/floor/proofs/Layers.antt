@@ -16,17 +16,19 @@ use borrow.Author.Tests.{lt-ltb, le-ltb}
 use lib.ListN.{length, take, drop, replicate}
 use lib.Dec.{ltb}
 use Rattle.answers.specs.Answer.{Answer, accepted, refused, passUp}
-use Rattle.answers.specs.AnswerLaws.{passUp-refused}
+use Rattle.answers.proofs.AnswerLaws.{passUp-refused}
 use Rattle.field.specs.Bits.{pairs}
-use Rattle.field.specs.RecordLaws.{length-pairs}
+use Rattle.field.proofs.RecordLaws.{length-pairs}
 use Rattle.order.specs.Order.{positionCount, edgeCount, rackCount, floorOf, orderAnswer}
-use Rattle.tables.specs.Accepted.{OrderGave, order-gave}
+use Rattle.tables.specs.Accepted.{OrderGave}
+use Rattle.tables.proofs.AcceptedLaws.{order-gave}
 use Rattle.graph.specs.Connected.{BiConnected}
 use Rattle.graph.specs.Rows.{Edge, Rows}
 use Rattle.floor.specs.FloorAnswer.{Joins, biConnected?, ring?, holds, floorAnswer}
-use Rattle.floor.specs.JoinedRows.{joinedRows, rowsOf}
-use Rattle.floor.specs.FloorRows.{biConnected-rows, filled-is, filled-rows}
-use Rattle.floor.specs.FloorLaws.{holds-yes, holds-no, floorRefusals, floor-over}
+use Rattle.floor.specs.JoinedRows.{joinedRows}
+use Rattle.floor.proofs.JoinedRowsLaws.{rowsOf}
+use Rattle.floor.proofs.FloorRows.{biConnected-rows, filled-is, filled-rows}
+use Rattle.floor.proofs.FloorLaws.{holds-yes, holds-no, floorRefusals, floor-over}
 
 edges-length : (o : List ℕ) → length (floorOf o .edges) ≡ edgeCount o
 unfolding floorOf

@@ -11,8 +11,8 @@ use native.Mathlib.Nat.{sub-zero}
 use lib.Bits.{bitOr}
 use lib.ListN.{getD, set}
 use Rattle.field.specs.Bits.{field, pairs, PairAt}
-use Rattle.field.specs.RecordLaws.{pairs-next}
-use Rattle.sets.specs.SetLaws.{shifted}
+use Rattle.field.proofs.RecordLaws.{pairs-next}
+use Rattle.sets.proofs.SetLaws.{shifted}
 use Rattle.floor.specs.JoinedRows.{joining, joinedRows}
 
 -- a 1 shifted by b and put into the row of a

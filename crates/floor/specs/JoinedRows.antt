@@ -2,13 +2,11 @@
 --
 --     joining g a b      the rows g, with b in the row of a besides
 --     joinedRows g l     the rows g, with the two positions of each edge of l each in the row of the other
---     rowsOf F           the rows of the floor F's edges
 -- Assumes nothing.
 use Prim.Native.Nat.{ℕ, _^_}
 use mathlib.Core.List.{List, [], _∷_}
 use lib.Bits.{bitOr}
-use lib.ListN.{getD, set, replicate}
-use Rattle.order.specs.Floor.{Floor}
+use lib.ListN.{getD, set}
 
 abbrev pub joining : List ℕ → ℕ → ℕ → List ℕ
 joining g a b = set g a (bitOr (getD g a 0) (2 ^ b))
@@ -16,6 +14,3 @@ joining g a b = set g a (bitOr (getD g a 0) (2 ^ b))
 unfoldable pub joinedRows : List ℕ → List (ℕ × ℕ) → List ℕ
 joinedRows g [] = g
 joinedRows g (e ∷ l) = joinedRows (joining (joining g (e .0) (e .1)) (e .1) (e .0)) l
-
-unfoldable pub rowsOf : Floor → List ℕ
-rowsOf F = joinedRows (replicate 64 0) (F .edges)

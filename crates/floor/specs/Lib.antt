@@ -2,7 +2,5 @@ pub mod FloorAnswer
 pub mod Verdict
 pub mod WayDecision
 pub mod JoinedRows
-pub mod FloorRows
-pub mod EdgesCounted
-pub mod FloorLaws
-pub mod Examples
+pub mod Plannable
+pub mod CaseBookOrders

@@ -21,11 +21,11 @@ use lib.Count.{ones}
 use lib.ListN.{getD, set, length, length-set}
 use lib.Seq.{getD-set-same, getD-set-other}
 use Rattle.sets.specs.Sets.{Has}
-use Rattle.sets.specs.SetLaws.{has-or-not, has-below, has-and, has-or, has-none, has-some, none-empty}
-use Rattle.sets.specs.CountLaws.{ones-less, ones-most, ones-parts}
+use Rattle.sets.proofs.SetLaws.{has-or-not, has-below, has-and, has-or, has-none, has-some, none-empty}
+use Rattle.sets.proofs.CountLaws.{ones-less, ones-most, ones-parts}
 use Rattle.graph.specs.Walk.{Walk, Symmetric}
 use Rattle.graph.specs.Walk.Walk.{alone, step}
-use Rattle.graph.specs.WalkLaws.{walk-some, walk-first, walk-last, walk-alone}
+use Rattle.graph.proofs.WalkLaws.{walk-some, walk-first, walk-last, walk-alone}
 use Rattle.graph.specs.Rows.{Edge}
 use Rattle.graph.specs.Levels.{Near, Seen, Touches, Levels, Met, Spread}
 

@@ -1,2 +1,9 @@
 pub mod LevelLaws
 pub mod SearchLaws
+pub mod ConnectedLaws
+pub mod Decision
+pub mod EdgeCountLaws
+pub mod Examples
+pub mod NearestLaws
+pub mod RowLaws
+pub mod WalkLaws

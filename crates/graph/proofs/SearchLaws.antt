@@ -19,12 +19,12 @@ use lib.Dec.{T, eqb, eqb→eq}
 use lib.ListN.{getD, set, length, length-set, replicate}
 use lib.Seq.{getD-set-same, getD-set-other}
 use Rattle.sets.specs.Sets.{Has}
-use Rattle.sets.specs.SetLaws.{has-and, has-none, has-positive, none-empty}
+use Rattle.sets.proofs.SetLaws.{has-and, has-none, has-positive, none-empty}
 use Rattle.graph.specs.Walk.{Walk, Way, Symmetric}
-use Rattle.graph.specs.WalkLaws.{walk-first, walk-alone}
+use Rattle.graph.proofs.WalkLaws.{walk-first, walk-alone}
 use Rattle.graph.specs.Connected.{Whole, Except, Below}
-use Rattle.graph.specs.ConnectedLaws.{whole-base, whole-same}
-use Rattle.graph.specs.Decision.{says-same}
+use Rattle.graph.proofs.ConnectedLaws.{whole-base, whole-same}
+use Rattle.graph.proofs.Decision.{says-same}
 use Rattle.graph.specs.Rows.{Edge}
 use Rattle.graph.specs.Levels.{Near, Touches, Spread, Traced}
 use Rattle.graph.specs.Nearest.{Nearest}

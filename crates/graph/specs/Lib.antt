@@ -1,13 +1,6 @@
 pub mod Walk
-pub mod WalkLaws
 pub mod Connected
-pub mod ConnectedLaws
 pub mod Rows
-pub mod RowLaws
 pub mod Levels
 pub mod Nearest
-pub mod NearestLaws
-pub mod Decision
 pub mod EdgeCount
-pub mod EdgeCountLaws
-pub mod Examples

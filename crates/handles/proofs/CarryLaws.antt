@@ -24,23 +24,23 @@ use native.Mathlib.Nat.{mul-suc, mul-comm, mul-le-mul-right}
 use native.Mathlib.Omega.{arith}
 use Rattle.sets.specs.Sets.{Has}
 use Rattle.graph.specs.Walk.{Symmetric}
-use Rattle.graph.specs.WalkLaws.{walk-inside}
+use Rattle.graph.proofs.WalkLaws.{walk-inside}
 use Rattle.graph.specs.Connected.{Whole, Except}
-use Rattle.graph.specs.ConnectedLaws.{whole-same}
+use Rattle.graph.proofs.ConnectedLaws.{whole-same}
 use Rattle.graph.specs.Rows.{Edge}
 use Rattle.breakdown.specs.Breakdown.{Among, Between}
-use Rattle.breakdown.specs.StageLaws.{Both, whole-left, whole-right}
+use Rattle.breakdown.proofs.StageLaws.{Both, whole-left, whole-right}
 use Rattle.moving.specs.Went.{Same}
 use Rattle.moving.specs.Went.Back.{done}
-use Rattle.moving.specs.WentLaws.{same-refl}
+use Rattle.moving.proofs.WentLaws.{same-refl}
 use Rattle.moving.specs.Journey.{row, onto, Fits, Room, Journey, JourneyIn}
 use Rattle.moving.specs.Journey.Trail.{start}
-use Rattle.moving.specs.JourneyLaws.{journey-trail, fits-anew, room-then, room-less}
+use Rattle.moving.proofs.JourneyLaws.{journey-trail, fits-anew, room-then, room-less}
 use Rattle.moving.specs.Turned.{carried, Undoing}
-use Rattle.moving.specs.BackLaws.{back-from, back-carried, carried-there, carried-left, carried-other}
+use Rattle.moving.proofs.BackLaws.{back-from, back-carried, carried-there, carried-left, carried-other}
 use Rattle.moving.specs.Cleared.{Reaches, Cleared}
 use Rattle.settling.specs.Table.{Table}
-use Rattle.settling.specs.TableLaws.{table-other}
+use Rattle.settling.proofs.TableLaws.{table-other}
 use Rattle.settling.specs.Lane.{Lane}
 use Rattle.handles.proofs.StageLaws.{apart, between-among, among-between}
 

@@ -17,15 +17,15 @@ use native.Mathlib.Decide.{ℕ-discrete, decLt}
 use native.Mathlib.Omega.{arith}
 use lib.Bits.{bitAnd}
 use Rattle.sets.specs.Sets.{Has}
-use Rattle.sets.specs.SetLaws.{has-and, has-positive}
-use Rattle.sets.specs.CountLaws.{pigeonhole}
-use Rattle.graph.specs.WalkLaws.{walk-inside}
-use Rattle.graph.specs.ConnectedLaws.{third}
+use Rattle.sets.proofs.SetLaws.{has-and, has-positive}
+use Rattle.sets.proofs.CountLaws.{pigeonhole}
+use Rattle.graph.proofs.WalkLaws.{walk-inside}
+use Rattle.graph.proofs.ConnectedLaws.{third}
 use Rattle.graph.specs.Rows.{Edge, Rows}
 use Rattle.graph.specs.Nearest.{Nearest}
-use Rattle.graph.specs.NearestLaws.{nearest-found}
+use Rattle.graph.proofs.NearestLaws.{nearest-found}
 use Rattle.breakdown.specs.Breakdown.{Among, Between}
-use Rattle.breakdown.specs.StageLaws.{among, Two, robust-neighbours}
+use Rattle.breakdown.proofs.StageLaws.{among, Two, robust-neighbours}
 use Rattle.moving.specs.Journey.{row}
 use Rattle.settling.specs.Lane.{Lane, Closed}
 

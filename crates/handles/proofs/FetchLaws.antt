@@ -24,18 +24,18 @@ use native.Mathlib.Nat.{mul-suc, mul-le-mul}
 use native.Mathlib.Omega.{arith}
 use lib.Bits.{bitOr}
 use Rattle.sets.specs.Sets.{Has}
-use Rattle.sets.specs.SetLaws.{has-or}
+use Rattle.sets.proofs.SetLaws.{has-or}
 use Rattle.graph.specs.Connected.{Except}
-use Rattle.graph.specs.WalkLaws.{walk-inside}
+use Rattle.graph.proofs.WalkLaws.{walk-inside}
 use Rattle.graph.specs.Rows.{Edge, Rows}
 use Rattle.breakdown.specs.Breakdown.{Among, Between}
-use Rattle.breakdown.specs.StageLaws.{Both, whole-right}
+use Rattle.breakdown.proofs.StageLaws.{Both, whole-right}
 use Rattle.moving.specs.Went.{Same}
 use Rattle.moving.specs.Turned.{carried}
-use Rattle.moving.specs.BackLaws.{carried-there, carried-other}
+use Rattle.moving.proofs.BackLaws.{carried-there, carried-other}
 use Rattle.moving.specs.Cleared.{Reaches, Vacancy, Cleared}
 use Rattle.settling.specs.Table.{Table}
-use Rattle.settling.specs.TableLaws.{table-other}
+use Rattle.settling.proofs.TableLaws.{table-other}
 use Rattle.settling.specs.Lane.{Lane, Placing, Fetched}
 use Rattle.handles.proofs.CycleLaws.{lane-stage, lane-new, stage-below, stage-in, stage-out}
 use Rattle.handles.proofs.PlaceLaws.{Region, placing-kept, placing-cleared, placing-vacant, rack-some, rack-other}

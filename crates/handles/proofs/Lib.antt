@@ -4,3 +4,4 @@ pub mod CycleLaws
 pub mod PlaceLaws
 pub mod FetchLaws
 pub mod SettleLaws
+pub mod Examples

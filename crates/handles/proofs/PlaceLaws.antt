@@ -21,15 +21,15 @@ use native.Mathlib.Decide.{ℕ-discrete, decLt}
 use native.Mathlib.Omega.{arith}
 use Rattle.sets.specs.Sets.{Has}
 use Rattle.graph.specs.Connected.{Robust}
-use Rattle.graph.specs.ConnectedLaws.{whole-same}
-use Rattle.graph.specs.WalkLaws.{walk-inside}
+use Rattle.graph.proofs.ConnectedLaws.{whole-same}
+use Rattle.graph.proofs.WalkLaws.{walk-inside}
 use Rattle.graph.specs.Rows.{Edge, Rows}
 use Rattle.breakdown.specs.Breakdown.{Among, Between}
-use Rattle.breakdown.specs.StageLaws.{Both}
+use Rattle.breakdown.proofs.StageLaws.{Both}
 use Rattle.moving.specs.Turned.{Turned}
 use Rattle.moving.specs.Cleared.{Reaches, Vacancy, Cleared, Brought}
 use Rattle.settling.specs.Table.{Table}
-use Rattle.settling.specs.TableLaws.{table-rack}
+use Rattle.settling.proofs.TableLaws.{table-rack}
 use Rattle.settling.specs.Lane.{Lane, Closed, Placing, Fetched}
 use Rattle.handles.proofs.CycleLaws.{lane-apart, lane-new, stage-below, stage-in, stage-out}
 

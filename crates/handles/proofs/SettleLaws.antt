@@ -25,9 +25,9 @@ use native.Mathlib.Omega.{arith}
 use lib.ListN.{length}
 use Rattle.graph.specs.Walk.{Symmetric}
 use Rattle.breakdown.specs.Breakdown.{Breakdown}
-use Rattle.breakdown.specs.StageLaws.{stage-within, stage-robust}
+use Rattle.breakdown.proofs.StageLaws.{stage-within, stage-robust}
 use Rattle.moving.specs.Journey.{row, Room, Trip}
-use Rattle.moving.specs.JourneyLaws.{trip-none, trip-more, trip-append, room-then, room-less}
+use Rattle.moving.proofs.JourneyLaws.{trip-none, trip-more, trip-append, room-then, room-less}
 use Rattle.settling.specs.Table.{Table}
 use Rattle.settling.specs.Lane.{Lane, Placing}
 
@@ -187,7 +187,8 @@ module _ {g : List ℕ} {m n ring : ℕ} {at start T : ℕ → ℕ} {h₀ t₀ :
   handling-room = let x = split in room-less ((start (i + 1) - start i) * (4 * (n * n))) (omega arith) (z .room)
 
   pub handling-next : {h′ l′ t′ : List ℕ} {w′ : ℕ} → Trip g m ((start (i + 1) - start i) * (4 * (n * n))) h t w h′ t′ w′ → Table n (row h′)
-      → ((j : ℕ) → start i ≤ j → j < n → row h′ (at j) ≡ T (at j)) → length l′ ≡ length l → Handling g m n ring at start T i h₀ t₀ w₀ h′ l′ t′ w′
+      → ((j : ℕ) → start i ≤ j → j < n → row h′ (at j) ≡ T (at j)) → length l′ ≡ length l
+      → Handling g m n ring at start T i h₀ t₀ w₀ h′ l′ t′ w′
   handling-next trip table settled log =
       let x = split in
       let y = joined in

@@ -23,12 +23,12 @@ use lib.Bits.{bitAnd, bitOr}
 use lib.ListN.{length, set}
 use lib.Seq.{getD-set-same, getD-set-other}
 use Rattle.sets.specs.Sets.{Has}
-use Rattle.sets.specs.SetLaws.{has-and, has-or, has-some}
+use Rattle.sets.proofs.SetLaws.{has-and, has-or, has-some}
 use Rattle.graph.specs.Walk.{Symmetric}
-use Rattle.graph.specs.WalkLaws.{walk-inside}
+use Rattle.graph.proofs.WalkLaws.{walk-inside}
 use Rattle.graph.specs.Connected.{Whole}
 use Rattle.breakdown.specs.Breakdown.{Among, Between}
-use Rattle.breakdown.specs.StageLaws.{Both, whole-right}
+use Rattle.breakdown.proofs.StageLaws.{Both, whole-right}
 use Rattle.moving.specs.Journey.{row}
 use Rattle.moving.specs.Cleared.{Reaches, Vacancy}
 use Rattle.settling.specs.Table.{Table}

@@ -17,17 +17,19 @@ use lib.ListN.{length, take, drop, replicate}
 use Rattle.answers.specs.Answer.{accepted, refused}
 use Rattle.field.specs.Bits.{pairs}
 use Rattle.order.specs.Order.{floorOf, counts, orderAnswer}
-use Rattle.order.specs.OrderLaws.{accepted-is}
-use Rattle.tables.specs.Accepted.{OrderGave, order-gave}
+use Rattle.order.proofs.OrderLaws.{accepted-is}
+use Rattle.tables.specs.Accepted.{OrderGave}
+use Rattle.tables.proofs.AcceptedLaws.{order-gave}
 use Rattle.graph.specs.Connected.{BiConnected, Ring}
 use Rattle.graph.specs.Rows.{Rows}
 use Rattle.breakdown.specs.Breakdown.{Handle, Breakdown}
 use Rattle.breakdown.specs.Building.{row}
 use Rattle.breakdown.specs.Answer.{Answer}
 use Rattle.floor.specs.FloorAnswer.{Joins}
-use Rattle.floor.specs.JoinedRows.{joinedRows, rowsOf}
-use Rattle.floor.specs.FloorRows.{edge-joins, biConnected-rows, filled-is, filled-rows}
-use Rattle.floor.specs.EdgesCounted.{ring-rows}
+use Rattle.floor.specs.JoinedRows.{joinedRows}
+use Rattle.floor.proofs.JoinedRowsLaws.{rowsOf}
+use Rattle.floor.proofs.FloorRows.{edge-joins, biConnected-rows, filled-is, filled-rows}
+use Rattle.floor.proofs.EdgesCounted.{ring-rows}
 use Rattle.inspection.specs.Inspection.{upTo, LaidOut, Breaks, Inspected}
 
 module _ {E D : ℕ → ℕ → Type 0} (more : (a b : ℕ) → E a b → D a b) where
@@ -117,7 +119,8 @@ module _ (o : List ℕ) (n e m : ℕ) (a : accepted (n ∷ e ∷ m ∷ []) ≡ o
       pub small : r + c ≤ 64
       small = let f = handles-few broken in let w = gave .placed-well .few-positions in omega arith
 
-      pub found : (old new : List ℕ) → 256 ≤ length old → LaidOut (upTo n (row row₁)) (upTo (c + 1) (row row₂)) (upTo c (row row₃)) (upTo c (row row₄)) old new
+      pub found : (old new : List ℕ) → 256 ≤ length old
+          → LaidOut (upTo n (row row₁)) (upTo (c + 1) (row row₂)) (upTo c (row row₃)) (upTo c (row row₄)) old new
           → Inspected o old new (r + c * 256)
       found old new room rows =
           record {
@@ -132,7 +135,9 @@ module _ (o : List ℕ) (n e m : ℕ) (a : accepted (n ∷ e ∷ m ∷ []) ≡ o
                   counts = refl;
                   small = let s = small in omega arith;
                   breakdown = broken;
-                  rows = subst (λ (k : ℕ). LaidOut (upTo k (row row₁)) (upTo (c + 1) (row row₂)) (upTo c (row row₃)) (upTo c (row row₄)) old new) (gave .positions-are) rows;
+                  rows =
+                      subst (λ (k : ℕ). LaidOut (upTo k (row row₁)) (upTo (c + 1) (row row₂)) (upTo c (row row₃)) (upTo c (row row₄)) old new)
+                      (gave .positions-are) rows;
                 };
             none = λ z. absurd (never z);
             exactly = (

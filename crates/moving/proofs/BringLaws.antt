@@ -16,11 +16,11 @@ use native.Mathlib.Decide.{ℕ-discrete}
 use native.Mathlib.Nat.{mul-suc, mul-comm, mul-le-mul-right}
 use native.Mathlib.Omega.{arith}
 use Rattle.sets.specs.Sets.{Has}
-use Rattle.graph.specs.WalkLaws.{walk-inside}
+use Rattle.graph.proofs.WalkLaws.{walk-inside}
 use Rattle.graph.specs.Connected.{Except, Robust}
 use Rattle.graph.specs.Rows.{Edge, Rows}
 use Rattle.graph.specs.Nearest.{Nearest}
-use Rattle.graph.specs.NearestLaws.{nearest-found, nearest-short}
+use Rattle.graph.proofs.NearestLaws.{nearest-found, nearest-short}
 use Rattle.moving.specs.Journey.{row}
 use Rattle.moving.specs.Cleared.{Reaches, Vacancy, Cleared, Brought}
 

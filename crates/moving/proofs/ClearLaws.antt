@@ -12,13 +12,13 @@ use mathlib.Core.Logic.{_↔_, _≢_, _⊎_, inl, inr, ⊎-elim, by-cases}
 use native.Mathlib.Decide.{ℕ-discrete, decLt}
 use native.Mathlib.Omega.{arith}
 use Rattle.sets.specs.Sets.{Has}
-use Rattle.sets.specs.SetLaws.{has-none}
-use Rattle.graph.specs.WalkLaws.{walk-last}
+use Rattle.sets.proofs.SetLaws.{has-none}
+use Rattle.graph.proofs.WalkLaws.{walk-last}
 use Rattle.graph.specs.Rows.{Edge, Rows}
 use Rattle.graph.specs.Nearest.{Nearest}
-use Rattle.graph.specs.NearestLaws.{nearest-found, nearest-short, nearest-inner}
+use Rattle.graph.proofs.NearestLaws.{nearest-found, nearest-short, nearest-inner}
 use Rattle.moving.specs.Journey.{row, Journey, JourneyIn}
-use Rattle.moving.specs.JourneyLaws.{journey-in-none, journey-in-append, journey-in-more, journey-in-one}
+use Rattle.moving.proofs.JourneyLaws.{journey-in-none, journey-in-append, journey-in-more, journey-in-one}
 use Rattle.moving.specs.Turned.{Shifted}
 use Rattle.moving.specs.Cleared.{Reaches, Cleared}
 

@@ -24,10 +24,10 @@ use native.Mathlib.Nat.{mod-lt, mod-eq-of-lt, mod-eq-sub-mod}
 use native.Mathlib.Omega.{arith}
 use lib.ListN.{length, getD, replicate, getD-replicate}
 use Rattle.sets.specs.Sets.{Has}
-use Rattle.sets.specs.SetLaws.{has-first}
+use Rattle.sets.proofs.SetLaws.{has-first}
 use Rattle.graph.specs.Rows.{Edge}
 use Rattle.moving.specs.Journey.{row, Fits, Journey}
-use Rattle.moving.specs.JourneyLaws.{journey-none, journey-more, journey-append, fits-then, fits-less}
+use Rattle.moving.proofs.JourneyLaws.{journey-none, journey-more, journey-append, fits-then, fits-less}
 use Rattle.moving.specs.Turned.{Turned}
 
 whole : List ℕ

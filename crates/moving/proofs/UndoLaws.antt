@@ -19,9 +19,10 @@ use Rattle.graph.specs.Rows.{Edge}
 use Rattle.moving.specs.Went.{Same, Back}
 use Rattle.moving.specs.Journey.{row, Trail, Fits, Space, Moved, Trip}
 use Rattle.moving.specs.Journey.Trail.{start, entry}
-use Rattle.moving.specs.JourneyLaws.{trip-none, trip-append, trip-more, trip-written, moved-left, moved-entered, moved-others, moved-trip}
+use Rattle.moving.proofs.JourneyLaws.{trip-none, trip-append, trip-more, trip-written}
+use Rattle.moving.proofs.JourneyLaws.{moved-left, moved-entered, moved-others, moved-trip}
 use Rattle.moving.specs.Turned.{Undoing}
-use Rattle.moving.specs.BackLaws.{Step, back-from, back-none, back-skipped, back-taken}
+use Rattle.moving.proofs.BackLaws.{Step, back-from, back-none, back-skipped, back-taken}
 
 abbrev pub first : List ℕ → ℕ → ℕ
 first l i = row l i / 64 % 64
@@ -101,10 +102,12 @@ module _ {m s j : ℕ} {l h t : List ℕ} {w : ℕ} {h′ t′ : List ℕ} {w′
         }
 
     module _ (held : row h′ b ≢ 0) where
-      step : {g : List ℕ} {past : List (ℕ × ℕ)} {k : ℕ → ℕ} (v : Undoing g h′ l s i past k) → Step (Edge g) (row h′) a b (last more v .rest) k
+      step : {g : List ℕ} {past : List (ℕ × ℕ)} {k : ℕ → ℕ} (v : Undoing g h′ l s i past k)
+          → Step (Edge g) (row h′) a b (last more v .rest) k
       step v = back-taken held (last-back more v leaves enters)
 
-      pub undone-move : {h″ t″ : List ℕ} {w″ : ℕ} → length h′ ≡ 64 → a < 64 → b < 64 → Moved m b a h′ t′ w′ h″ t″ w″ → Undone m s j l h t w h″ t″ w″ (i - 1)
+      pub undone-move : {h″ t″ : List ℕ} {w″ : ℕ} → length h′ ≡ 64 → a < 64 → b < 64 → Moved m b a h′ t′ w′ h″ t″ w″
+          → Undone m s j l h t w h″ t″ w″ (i - 1)
       undone-move {h″} long ha hb moved =
           record {
             low = omega arith;
@@ -118,7 +121,10 @@ module _ {m s j : ℕ} {l h t : List ℕ} {w : ℕ} {h′ t′ : List ℕ} {w′
                 let high = u .high in
                 record {
                   rest = o .rest;
-                  undoing = record { trail = o .below; back = back-from (agree vacant (y .between) (y .move .others) (y .move .left) (y .move .entered)) (y .rest) };
+                  undoing = record {
+                    trail = o .below;
+                    back = back-from (agree vacant (y .between) (y .move .others) (y .move .left) (y .move .entered)) (y .rest);
+                  };
                   trip = trip-more (j - (i - 1)) (omega arith) (trip-append (x .trip) one);
                 };
           }

@@ -16,9 +16,10 @@ use native.Mathlib.Nat.{lt-of-not-le, sub-zero}
 use borrow.Author.Tests.{le-leb, lt-leb}
 use lib.Dec.{leb}
 use Rattle.field.specs.Bits.{field, pairs}
-use Rattle.field.specs.RecordLaws.{BelowPairs, more₂, pairs-lt, pairs-next}
+use Rattle.field.specs.Bytes.{BelowPairs, more₂}
+use Rattle.field.proofs.RecordLaws.{pairs-lt, pairs-next}
 use Rattle.order.specs.Floor.{Floor}
-use Rattle.order.specs.EdgeLaws.{place, bad-is, precedes-is}
+use Rattle.order.proofs.EdgeLaws.{place, bad-is, precedes-is}
 use Rattle.order.specs.Order.{some, badEdge, ascending, wrongEdges}
 
 unfoldable pub wrongAfter : ℕ → ℕ → List (ℕ × ℕ) → Bool

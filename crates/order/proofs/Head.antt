@@ -12,11 +12,11 @@ use borrow.Author.Tests.{not-true, not-false}
 use native.Mathlib.Omega.{arith}
 use lib.ListN.{length, getD}
 use Rattle.answers.specs.Answer.{Answer, accepted, refused}
-use Rattle.field.specs.BitLaws.{field-in-byte, field-across}
+use Rattle.field.proofs.BitLaws.{field-in-byte, field-across}
 use Rattle.field.specs.Units.{misfits, unclean}
-use Rattle.field.specs.UnitLaws.{misfits-short}
+use Rattle.field.proofs.UnitLaws.{misfits-short}
 use Rattle.order.specs.Order.{CountsOf, positionCount, edgeCount, rackCount, unitCount, wrongLength, wrongPositions, paddingSet, counts}
-use Rattle.order.specs.OrderLaws.{no-positions, many-positions, right-positions}
+use Rattle.order.proofs.OrderLaws.{no-positions, many-positions, right-positions}
 use Rattle.order.specs.Readers.{headAnswer}
 
 module _ (s : List ℕ) (h : 3 ≤ length s) (a : getD s 0 0 < 256) (b : getD s 1 0 < 256) (c : getD s 2 0 < 256) where

@@ -14,13 +14,13 @@ use mathlib.Core.List.{List, [], _∷_}
 use lib.ListN.{length, take, drop}
 use borrow.Author.Tests.{not-true, not-false}
 use Rattle.answers.specs.Answer.{Answer, accepted, refused, refuse, passUp}
-use Rattle.answers.specs.AnswerLaws.{refuse-not, refuse-else, passUp-low, passUp-high, passUp-accepted}
+use Rattle.answers.proofs.AnswerLaws.{refuse-not, refuse-else, passUp-low, passUp-high, passUp-accepted}
 use Rattle.field.specs.Bits.{field, pairs, positions}
-use Rattle.field.specs.BitLaws.{field-lt}
+use Rattle.field.proofs.BitLaws.{field-lt}
 use Rattle.order.specs.Floor.{Floor}
 use Rattle.order.specs.Order.{positionCount, edgeCount, rackCount, floorOf, startsOf, goalsOf, orderOf, counts, wrongLength, wrongPositions, paddingSet, wrongEdges, wrongPlaces, wrongRacks, orderAnswer}
-use Rattle.order.specs.OrderLaws.{RightHead, right-head}
-use Rattle.order.specs.TailLaws
+use Rattle.order.proofs.OrderLaws.{RightHead, right-head}
+use Rattle.order.proofs.TailLaws
 use Rattle.order.specs.Readers.{headAnswer, edgesAnswer}
 
 -- what the head reader's acceptance with n, e and m tells

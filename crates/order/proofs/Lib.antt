@@ -3,3 +3,13 @@ pub mod Edges
 pub mod Places
 pub mod Tables
 pub mod Layers
+pub mod EdgeLaws
+pub mod EdgeSetsLaws
+pub mod Examples
+pub mod OrderLaws
+pub mod PlaceLaws
+pub mod RecordLengthLaws
+pub mod RecordOf
+pub mod TailLaws
+pub mod Theorems
+pub mod Written

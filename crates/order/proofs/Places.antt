@@ -19,7 +19,7 @@ use lib.ListN.{length, getD, set, replicate, length-set, length-replicate, getD-
 use lib.Seq.{getD-set-same, getD-set-other}
 use lib.Dec.{leb, ltb, eqb}
 use Rattle.field.specs.Bits.{field, positions}
-use Rattle.field.specs.RecordLaws.{positions-next}
+use Rattle.field.proofs.RecordLaws.{positions-next}
 use Rattle.order.specs.Order.{some, repeats, wrongPlaces}
 
 unfoldable pub flagged : List ℕ → ℕ → Bool

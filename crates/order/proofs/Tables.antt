@@ -12,7 +12,7 @@ use native.Mathlib.Omega.{arith}
 use native.Mathlib.Nat.{sub-zero, add-zero, add-comm}
 use lib.ListN.{set}
 use Rattle.field.specs.Bits.{field, pairs, positions}
-use Rattle.field.specs.RecordLaws.{pairs-next, positions-next}
+use Rattle.field.proofs.RecordLaws.{pairs-next, positions-next}
 use Rattle.order.specs.Tables.{marked, placed}
 
 module _ (s : List ℕ) (e : ℕ) (g₀ : List ℕ) where

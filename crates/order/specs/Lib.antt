@@ -1,15 +1,8 @@
 pub mod Floor
 pub mod Order
 pub mod Verdict
-pub mod OrderLaws
 pub mod RecordLength
-pub mod Examples
-pub mod RecordOf
-pub mod PlaceLaws
-pub mod EdgeLaws
 pub mod EdgeSets
-pub mod Written
 pub mod Theorems
 pub mod Readers
 pub mod Tables
-pub mod TailLaws

@@ -12,7 +12,8 @@ use Rattle.field.specs.Bits.{pairs, positions}
 use Rattle.order.specs.Tables.{marked, placed}
 use Rattle.tables.specs.Tables.{MisplacedOn, judgedOn}
 use Rattle.tables.specs.MovesOn.{replayOn}
-use Rattle.tables.specs.Ending.{Ends, judged-illegal, judged-misplaced, judged-settled}
+use Rattle.tables.specs.Ending.{Ends}
+use Rattle.tables.proofs.EndingLaws.{judged-illegal, judged-misplaced, judged-settled}
 use Rattle.plan.specs.Readers.{tableAnswer}
 
 module _ (s : List ℕ) (e m : ℕ) (t : List ℕ) (k : ℕ) (g h : List ℕ) (eg : g ≡ marked (replicate 4096 0) (pairs s 0 e)) (eh : h ≡ placed (replicate 64 0) 1 (positions s (6 * (2 * e)) m))

@@ -14,18 +14,18 @@ use mathlib.Core.List.{List, [], _∷_}
 use native.Mathlib.Omega.{arith}
 use lib.ListN.{length, take, drop}
 use Rattle.answers.specs.Answer.{Answer, accepted, refused, refuse, passUp}
-use Rattle.answers.specs.AnswerLaws.{refuse-not, refuse-else, passUp-refused}
+use Rattle.answers.proofs.AnswerLaws.{refuse-not, refuse-else, passUp-refused}
 use Rattle.field.specs.Bits.{field, pairs}
-use Rattle.field.specs.BitLaws.{field-lt}
-use Rattle.field.specs.UnitLaws.{Fitting, fitting, tail-units}
-use Rattle.field.specs.RecordLaws.{rest-is, pairs-drop, pairs-lt}
+use Rattle.field.proofs.BitLaws.{field-lt}
+use Rattle.field.proofs.UnitLaws.{Fitting, fitting, tail-units}
+use Rattle.field.proofs.RecordLaws.{rest-is, pairs-drop, pairs-lt}
 use Rattle.order.specs.Order.{floorOf, startsOf, goalsOf, orderAnswer}
-use Rattle.order.specs.TailLaws.{tail-edges, tail-starts, tail-goals}
+use Rattle.order.proofs.TailLaws.{tail-edges, tail-starts, tail-goals}
 use Rattle.motion.specs.Replay.{replayMoves}
 use Rattle.motion.specs.Judgement.{judged}
 use Rattle.tables.specs.Accepted.{OrderGave}
-use Rattle.tables.specs.Layers.{order-refused, record-refused, all-accepted}
-use Rattle.tables.specs.MovesOn.{matrixOf, tableOf, moves-judged}
+use Rattle.tables.proofs.Layers.{order-refused, record-refused, all-accepted}
+use Rattle.tables.proofs.MovesOnLaws.{matrixOf, tableOf, moves-judged}
 use Rattle.plan.specs.Plan.{moveCount, planMoves, wrongPlanLength, planPaddingSet, planAnswer}
 use Rattle.plan.specs.Readers.{recordAnswer, tableAnswer}
 

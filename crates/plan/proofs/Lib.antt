@@ -2,3 +2,8 @@ pub mod Record
 pub mod Turns
 pub mod Judging
 pub mod Layers
+pub mod Examples
+pub mod Limits
+pub mod PlanRecord
+pub mod SizeLaws
+pub mod SolutionsLaws

@@ -12,9 +12,9 @@ use native.Mathlib.Omega.{arith}
 use lib.ListN.{length}
 use Rattle.answers.specs.Answer.{accepted, refused}
 use Rattle.field.specs.Bits.{field}
-use Rattle.field.specs.BitLaws.{field-lt}
+use Rattle.field.proofs.BitLaws.{field-lt}
 use Rattle.field.specs.Units.{misfits, unclean}
-use Rattle.field.specs.UnitLaws.{misfits-short}
+use Rattle.field.proofs.UnitLaws.{misfits-short}
 use Rattle.plan.specs.Plan.{moveCount, wrongPlanLength, planPaddingSet}
 use Rattle.plan.specs.Readers.{recordAnswer}
 

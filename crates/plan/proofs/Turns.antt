@@ -11,10 +11,11 @@ use native.Mathlib.Omega.{arith}
 use native.Mathlib.Nat.{sub-zero}
 use lib.ListN.{getD, set}
 use Rattle.field.specs.Bits.{field, pairs}
-use Rattle.field.specs.RecordLaws.{pairs-next}
+use Rattle.field.proofs.RecordLaws.{pairs-next}
 use Rattle.tables.specs.Tables.{legalEntries, legalOn, movedOn}
 use Rattle.tables.specs.MovesOn.{replayOn}
-use Rattle.tables.specs.Ending.{Ends, Left, left-stops, left-goes, left-none}
+use Rattle.tables.specs.Ending.{Ends}
+use Rattle.tables.proofs.EndingLaws.{Left, left-stops, left-goes, left-none}
 
 module _ (s : List ℕ) (k : ℕ) (g h₀ : List ℕ) where
   -- the moves before number j + 1 were legal and left the table h

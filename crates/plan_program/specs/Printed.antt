@@ -3,16 +3,20 @@
 --
 --     planText a B           the text for the planner's answer a, where the lent bytes are B afterwards
 --     Printed s out out′ n   for the input s the program writes n bytes: those at the front of out′, which was out before
+--     PlanPrinted s p             the byte string p is the record of a plan for the order s
 -- Assumes nothing.
 use Prim.Native.Nat.{ℕ}
 use mathlib.Core.Path.{_≡_}
-use mathlib.Core.List.{List}
+use mathlib.Core.List.{List, [], _∷_}
 use lib.ListN.{length, getD, take}
 use Rattle.answers.specs.Answer.{Answer, accepted, refused}
 use Rattle.field.specs.Units.{unitsLength}
 use Rattle.field.specs.Writing.{Wrote}
 use Rattle.text.specs.Text.{refusalLine}
 use Rattle.planner.specs.Planner.{PlanMade}
+use Rattle.order.specs.Order.{positionCount}
+use Rattle.plan.specs.Plan.{planRecord, planAnswer}
+use Rattle.planner.specs.Moves.{Solves}
 
 -- "writes the plan record", whose length the count of its moves gives; "On a refusal a program prints one line and no other"
 abbrev pub planText : Answer → List ℕ → List ℕ
@@ -26,3 +30,9 @@ pub record Printed (s out out′ : List ℕ) (n : ℕ) : Type 0 where
   pub lent : length out ≡ 65536
   pub planned : PlanMade s out answer left
   pub wrote : Wrote out 0 (planText answer left) out′ n
+
+pub record PlanPrinted (s p : List ℕ) : Type 0 where
+  pub moves : List (ℕ × ℕ)
+  pub is : p ≡ planRecord moves
+  pub solves : Solves s (positionCount s) moves
+  pub checked : planAnswer s p ≡ accepted (length moves ∷ [])

@@ -17,19 +17,23 @@ use lib.Dec.{ltb}
 use lib.ListN.{length, take, drop, length-drop, drop-of-length-le}
 use lib.Seq.{drop-drop}
 use Rattle.answers.specs.Answer.{Answer, accepted, refused, refuse, passUp}
-use Rattle.field.specs.Head.{headBytes, length-headBytes, front-written}
-use Rattle.field.specs.Packing.{pack, length-pack}
-use Rattle.field.specs.RecordLaws.{rest-is}
+use Rattle.field.specs.Head.{headBytes}
+use Rattle.field.proofs.HeadLaws.{length-headBytes, front-written}
+use Rattle.field.specs.Packing.{pack}
+use Rattle.field.proofs.PackingLaws.{length-pack}
+use Rattle.field.proofs.RecordLaws.{rest-is}
 use Rattle.field.specs.Writing.{written}
 use Rattle.order.specs.Order.{positionCount, floorOf, startsOf, goalsOf, orderAnswer, counts, CountsOf}
-use Rattle.order.specs.OrderLaws.{right-head, accepted-is}
-use Rattle.motion.specs.Lawful.{replayMoves-ended}
-use Rattle.tables.specs.Accepted.{OrderGave, order-gave}
+use Rattle.order.proofs.OrderLaws.{right-head, accepted-is}
+use Rattle.motion.proofs.Lawful.{replayMoves-ended}
+use Rattle.tables.specs.Accepted.{OrderGave}
+use Rattle.tables.proofs.AcceptedLaws.{order-gave}
 use Rattle.plan.specs.Plan.{planRecord}
-use Rattle.plan.specs.PlanRecord.{record-parts}
-use Rattle.plan.specs.Solutions.{leads-small}
+use Rattle.plan.proofs.PlanRecord.{record-parts}
+use Rattle.plan.proofs.SolutionsLaws.{leads-small}
 use Rattle.floor.specs.FloorAnswer.{floorAnswer}
-use Rattle.floor.specs.FloorLaws.{Plannable, plannable-is}
+use Rattle.floor.specs.Plannable.{Plannable}
+use Rattle.floor.proofs.FloorLaws.{plannable-is}
 use Rattle.planner.specs.Moves.{Solves, Moves}
 use Rattle.planner.specs.Planner.{refusals, PlanMade, turned-down, made}
 

@@ -17,27 +17,29 @@ use Rattle.field.specs.Bits.{pairs, positions}
 use Rattle.order.specs.Floor.{Floor, joined}
 use Rattle.order.specs.Order.{positionCount, rackCount, floorOf, startsOf, goalsOf}
 use Rattle.order.specs.Tables.{placed}
-use Rattle.order.specs.TailLaws.{tail-starts, tail-goals}
+use Rattle.order.proofs.TailLaws.{tail-starts, tail-goals}
 use Rattle.motion.specs.Replay.{ended, replayMoves, replayFrom}
 use Rattle.motion.specs.Sound.{Sound}
-use Rattle.tables.specs.Tables.{Holds}
-use Rattle.tables.specs.TableLaws.{placed-holds}
+use Rattle.tables.proofs.TablesLaws.{Holds}
+use Rattle.tables.proofs.TableLaws.{placed-holds}
 use Rattle.tables.specs.Accepted.{OrderGave}
 use Rattle.graph.specs.Connected.{BiConnected, Ring}
 use Rattle.graph.specs.Rows.{Edge, Rows}
 use Rattle.graph.specs.EdgeCount.{edgeCount}
 use Rattle.breakdown.specs.Answer.{Answer}
 use Rattle.moving.specs.Went.{Same}
-use Rattle.moving.specs.WentLaws.{same-refl}
+use Rattle.moving.proofs.WentLaws.{same-refl}
 use Rattle.moving.specs.Journey.{row, Packed, Trip}
-use Rattle.moving.specs.JourneyLaws.{packed-nothing, trip-packed, went-written}
+use Rattle.moving.proofs.JourneyLaws.{packed-nothing, trip-packed, went-written}
 use Rattle.planning.specs.Placed.{Placed, Filled}
-use Rattle.planning.specs.Planned.{trip-planned}
-use Rattle.floor.specs.JoinedRows.{joinedRows, rowsOf}
+use Rattle.planning.proofs.Planned.{trip-planned}
+use Rattle.floor.specs.JoinedRows.{joinedRows}
+use Rattle.floor.proofs.JoinedRowsLaws.{rowsOf}
 use Rattle.floor.specs.FloorAnswer.{Joins}
-use Rattle.floor.specs.FloorRows.{edge-joins, filled-is, filled-rows}
-use Rattle.floor.specs.FloorLaws.{Plannable, plannable-rows}
-use Rattle.planner.specs.OrderTables.{held-by, held-placed, held-agree, tables-alike}
+use Rattle.floor.proofs.FloorRows.{edge-joins, filled-is, filled-rows}
+use Rattle.floor.specs.Plannable.{Plannable}
+use Rattle.floor.proofs.FloorLaws.{plannable-rows}
+use Rattle.planner.proofs.OrderTables.{held-by, held-placed, held-agree, tables-alike}
 use Rattle.planner.specs.Moves.{Moves}
 
 module _ (o : List ℕ) (n e m : ℕ) (gave : OrderGave o n e m) where
@@ -89,7 +91,8 @@ module _ (o : List ℕ) (n e m : ℕ) (gave : OrderGave o n e m) where
           )
 
       pub planned : (h k start goal start′ t t′ : List ℕ) (w : ℕ) → Holds (startsOf o) h → Holds (goalsOf o) k → (((p : ℕ) → p < 64 → row h p ≡ row k p) → ⊥)
-          → Filled m (row h) (row start) → Filled m (row k) (row goal) → 12 * (n * (n * n)) ≤ length t → Trip g m (8 * (n * (n * n))) start t 0 start′ t′ w → Same (row start′) (row goal)
+          → Filled m (row h) (row start) → Filled m (row k) (row goal) → 12 * (n * (n * n)) ≤ length t
+          → Trip g m (8 * (n * (n * n))) start t 0 start′ t′ w → Same (row start′) (row goal)
           → Moves o n t t′ w
       planned h k start goal start′ t t′ w a b differ fa fb room trip ends =
           let well = gave .placed-well in

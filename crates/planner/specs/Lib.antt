@@ -1,5 +1,3 @@
-pub mod OrderTables
 pub mod Moves
 pub mod Planner
-pub mod PlannerLaws
-pub mod Examples
+pub mod Planned

@@ -10,7 +10,7 @@ ghost use Prim.Native.Nat.{ℕ, _*_, _≤_, _<_};
 ghost use lib.ListN.{length};
 ghost use Rattle.answers.specs.Answer.{accepted, passUp};
 ghost use Rattle.tables.specs.Accepted.{OrderGave};
-ghost use Rattle.floor.specs.FloorLaws.{Plannable};
+ghost use Rattle.floor.specs.Plannable.{Plannable};
 ghost use Rattle.floor.specs.Verdict.{answerOf as floorAnswerOf};
 ghost use Rattle.moving.specs.Journey.{row};
 ghost use Rattle.planner.specs.Moves.{Moves};

@@ -2,7 +2,7 @@
 --
 --     placed-count         m racks leave n - m positions vacant
 --     fill-next            one vacancy more, the lowest, is filled
---     Filling, filling-begin, filling-some, filling-step, filling-all, filling-end    the state of `fill`: r racks stand, stand-ins among them
+--     Filling, filling-begin, filling-some, filling-step, filling-all, filling-end    the state of `fill`: r racks stand, with stand-ins
 -- Assumes nothing.
 use Prim.Native.Nat.{ℕ, zero, suc, _+_, _-_, _^_, _≤_, _<_}
 use mathlib.Core.Path.{_≡_, refl, sym, ap, subst, _∙_}
@@ -15,8 +15,8 @@ use lib.Count.{ones}
 use lib.ListN.{length, set, length-set}
 use lib.Seq.{getD-set-same, getD-set-other}
 use Rattle.sets.specs.Sets.{Has}
-use Rattle.sets.specs.SetLaws.{has-or, has-only, has-none, has-or-not}
-use Rattle.sets.specs.CountLaws.{ones-least, ones-most, ones-push, ones-pair, ones-third, ones-subset}
+use Rattle.sets.proofs.SetLaws.{has-or, has-only, has-none, has-or-not}
+use Rattle.sets.proofs.CountLaws.{ones-least, ones-most, ones-push, ones-pair, ones-third, ones-subset}
 use Rattle.moving.specs.Journey.{row}
 use Rattle.settling.specs.Table.{Table}
 use Rattle.planning.specs.Placed.{Placed, Filled, fillFrom, withStandIns}
@@ -90,7 +90,8 @@ fill-none : (h : List ℕ) (r : ℕ) → fillFrom r 0 h ≡ h
 unfolding fillFrom
 fill-none h r = refl
 
-pub fill-next : (h : List ℕ) (r c p : ℕ) → p < length (fillFrom r c h) → row (fillFrom r c h) p ≡ 0 → ((q : ℕ) → q < p → row (fillFrom r c h) q ≢ 0)
+pub fill-next : (h : List ℕ) (r c p : ℕ) → p < length (fillFrom r c h) → row (fillFrom r c h) p ≡ 0
+    → ((q : ℕ) → q < p → row (fillFrom r c h) q ≢ 0)
     → set (fillFrom r c h) p (suc (r + c)) ≡ fillFrom r (suc c) h
 unfolding fillFrom
 fill-next [] r zero p in-row vacant lowest = absurd (none-below in-row)
@@ -139,7 +140,8 @@ module _ {n m : ℕ} {h : List ℕ} where
       (λ e. let c = f .count in let z = ones-subset v 0 (λ p y. absurd (has-none p (subst (λ (i : ℕ). Has i p) e y))) in let o = ones-most 0 0 (λ p y. absurd (has-none p y)) in let r = f .room in omega arith)
       (λ e. omega arith)
 
-  pub filling-step : (k : List ℕ) (r v w p : ℕ) → n ≤ 64 → r + 2 < n → Has v p → ((q : ℕ) → Has v q → p ≤ q) → ((q : ℕ) → Has w q ↔ (Has v q × (q ≢ p)))
+  pub filling-step : (k : List ℕ) (r v w p : ℕ) → n ≤ 64 → r + 2 < n → Has v p → ((q : ℕ) → Has v q → p ≤ q)
+      → ((q : ℕ) → Has w q ↔ (Has v q × (q ≢ p)))
       → Filling n m h k r v → Filling n m h (set k p (r + 1)) (r + 1) w
   filling-step k r v w p small more on lowest less f =
       record {

@@ -12,17 +12,17 @@ use mathlib.Core.Logic.{_↔_, _≢_}
 use native.Mathlib.Omega.{arith}
 use lib.ListN.{length}
 use Rattle.sets.specs.Sets.{Has}
-use Rattle.graph.specs.WalkLaws.{walk-inside}
+use Rattle.graph.proofs.WalkLaws.{walk-inside}
 use Rattle.graph.specs.Connected.{BiConnected}
 use Rattle.graph.specs.Rows.{Edge, Rows}
 use Rattle.moving.specs.Went.{Went}
 use Rattle.moving.specs.Went.Went.{stay, real, stand-in}
 use Rattle.moving.specs.Journey.{row, packedOn, onto, Trip, Journey}
 use Rattle.moving.specs.Journey.Trail.{start}
-use Rattle.moving.specs.JourneyLaws.{journey-append}
+use Rattle.moving.proofs.JourneyLaws.{journey-append}
 use Rattle.moving.specs.Cleared.{Reaches, Cleared}
 use Rattle.settling.specs.Table.{Table}
-use Rattle.settling.specs.TableLaws.{table-went, table-other}
+use Rattle.settling.proofs.TableLaws.{table-went, table-other}
 use Rattle.planning.specs.Shift.{Shift}
 
 module _ {n : ℕ} (g : List ℕ) (bi : BiConnected n (Edge g)) (all x y : ℕ) (hx : x < n) (hy : y < n) (other : x ≢ y) (has : (p : ℕ) → Has all p ↔ (p < n)) where

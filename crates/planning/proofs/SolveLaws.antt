@@ -22,15 +22,15 @@ use Rattle.graph.specs.Rows.{Edge, Rows}
 use Rattle.breakdown.specs.Breakdown.{Among, Breakdown}
 use Rattle.moving.specs.Went.{Same, Back}
 use Rattle.moving.specs.Went.Back.{done}
-use Rattle.moving.specs.WentLaws.{same-refl}
-use Rattle.moving.specs.BackLaws.{back-went, back-from}
+use Rattle.moving.proofs.WentLaws.{same-refl}
+use Rattle.moving.proofs.BackLaws.{back-went, back-from}
 use Rattle.moving.specs.Turned.{Undoing}
 use Rattle.moving.specs.Journey.{row, onto, Fits, Room, Space, Trip}
-use Rattle.moving.specs.JourneyLaws.{trip-append, trip-more, trip-written}
+use Rattle.moving.proofs.JourneyLaws.{trip-append, trip-more, trip-written}
 use Rattle.settling.specs.Table.{Table}
 use Rattle.settling.specs.Circle.{Circle, On}
 use Rattle.ring.specs.From.{ringFrom}
-use Rattle.ring.specs.FromLaws.{ring-circle, ring-same}
+use Rattle.ring.proofs.FromLaws.{ring-circle, ring-same}
 use Rattle.planning.specs.Shift.{Shift}
 
 pub bound : (n r : ℕ) → 3 ≤ r → r < n → (n - r) * (4 * (n * n)) + ((2 * (n - 1) + r * (4 * (n * n) + 6)) + 2 * (n - 1)) ≤ 8 * (n * (n * n))
@@ -106,7 +106,8 @@ module _ {n r c : ℕ} {E : ℕ → ℕ → Type 0} {at start left right : ℕ �
         outside f t l = by-cases (ℕ-discrete (f p) 0) (λ e. e) (λ e. absurd (l (t .inside p e)))
 
 -- the ring as it is laid out
-pub ring-laid : {n r c : ℕ} {E : ℕ → ℕ → Type 0} (order : List ℕ) {start left right : ℕ → ℕ} → Breakdown n E r c (row order) start left right
+pub ring-laid : {n r c : ℕ} {E : ℕ → ℕ → Type 0} (order : List ℕ) {start left right : ℕ → ℕ}
+    → Breakdown n E r c (row order) start left right
     → (circle : List ℕ) → circle ≡ ringFrom order r (left 0)
     → Circle n E (row circle) r (row order r) × ((p : ℕ) → Among (row order) r p ↔ On (row circle) r p)
 ring-laid {n} {r} {E = E} order {left = left} b circle is =
@@ -123,7 +124,8 @@ undoing h symmetric s same = record { trail = s .trail; back = taken-back h symm
 
 -- Room for the shift, which writes nothing, for what settles, and for taking the shift back.
 module _ {n r : ℕ} (three : 3 ≤ r) (less : r < n) where
-  pub room-shift : {h t : List ℕ} (h′ l′ : List ℕ) → length h′ ≡ 64 → length l′ ≡ 8256 → Space h t 0 (8 * (n * (n * n))) → Room h′ l′ t 0 (2 * (n - 1))
+  pub room-shift : {h t : List ℕ} (h′ l′ : List ℕ) → length h′ ≡ 64 → length l′ ≡ 8256 → Space h t 0 (8 * (n * (n * n)))
+      → Room h′ l′ t 0 (2 * (n - 1))
   room-shift h′ l′ racks log f =
       let all = bound n r three less in
       let room = f .room in
@@ -137,8 +139,10 @@ module _ {n r : ℕ} (three : 3 ≤ r) (less : r < n) where
       let long : length t′ ≡ length t = ap length same in
       record { racks = f .racks; room = omega arith }
 
-  pub fits-back : {g : List ℕ} {m : ℕ} {h t t₁ h₂ t₂ : List ℕ} {w : ℕ} (back : List ℕ) (j : ℕ) → t₁ ≡ t → length back ≡ 8256 → n ≤ 64 → j ≤ 2 * (n - 1)
-      → Space h t 0 (8 * (n * (n * n))) → Trip g m ((n - r) * (4 * (n * n)) + (2 * (n - 1) + r * (4 * (n * n) + 6))) h t₁ 0 h₂ t₂ w → Fits h₂ back t₂ w 0 (j - 0)
+  pub fits-back : {g : List ℕ} {m : ℕ} {h t t₁ h₂ t₂ : List ℕ} {w : ℕ} (back : List ℕ) (j : ℕ) → t₁ ≡ t → length back ≡ 8256 → n ≤ 64
+      → j ≤ 2 * (n - 1)
+      → Space h t 0 (8 * (n * (n * n))) → Trip g m ((n - r) * (4 * (n * n)) + (2 * (n - 1) + r * (4 * (n * n) + 6))) h t₁ 0 h₂ t₂ w
+      → Fits h₂ back t₂ w 0 (j - 0)
   fits-back {t = t} {t₁ = t₁} back j same log small few f trip =
       let all = bound n r three less in
       let room = f .room in

@@ -1,5 +1,2 @@
 pub mod Shift
 pub mod Placed
-pub mod Held
-pub mod Planned
-pub mod Examples

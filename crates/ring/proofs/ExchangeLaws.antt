@@ -31,15 +31,15 @@ use Rattle.graph.specs.Rows.{Edge, Rows}
 use Rattle.breakdown.specs.Breakdown.{Between}
 use Rattle.moving.specs.Went.{Same}
 use Rattle.moving.specs.Went.Back.{done}
-use Rattle.moving.specs.WentLaws.{same-refl}
+use Rattle.moving.proofs.WentLaws.{same-refl}
 use Rattle.moving.specs.Journey.{row, onto, Journey}
 use Rattle.moving.specs.Journey.Trail.{start}
-use Rattle.moving.specs.JourneyLaws.{trail-below}
-use Rattle.moving.specs.BackLaws.{back-from, back-renamed}
+use Rattle.moving.proofs.JourneyLaws.{trail-below}
+use Rattle.moving.proofs.BackLaws.{back-from, back-renamed}
 use Rattle.moving.specs.Turned.{Undoing}
 use Rattle.moving.specs.Cleared.{Cleared, Brought}
 use Rattle.settling.specs.Table.{Table}
-use Rattle.settling.specs.TableLaws.{table-rack}
+use Rattle.settling.proofs.TableLaws.{table-rack}
 use Rattle.settling.specs.Circle.{Circle, On, swapped}
 use Rattle.ring.proofs.MoveLaws.{Moved, Swapped}
 use Rattle.ring.proofs.RingLaws.{on-surely, circle-on, circle-apart, circle-off, circle-beside, Filled, filled-two, ring-on}

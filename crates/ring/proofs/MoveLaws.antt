@@ -14,10 +14,10 @@ use mathlib.Core.Logic.{_≢_, by-cases}
 use native.Mathlib.Decide.{ℕ-discrete}
 use lib.ListN.{replicate, getD-replicate}
 use Rattle.sets.specs.Sets.{Has}
-use Rattle.sets.specs.SetLaws.{has-first}
+use Rattle.sets.proofs.SetLaws.{has-first}
 use Rattle.graph.specs.Rows.{Edge}
 use Rattle.moving.specs.Journey.{Fits, Journey}
-use Rattle.moving.specs.JourneyLaws.{fits-then}
+use Rattle.moving.proofs.JourneyLaws.{fits-then}
 
 abbrev pub Moved : (ℕ → ℕ) → ℕ → ℕ → (ℕ → ℕ) → Type 0
 Moved h a b k = ((p : ℕ) → p ≢ a → p ≢ b → k p ≡ h p) × (k a ≡ 0) × (k b ≡ h a)

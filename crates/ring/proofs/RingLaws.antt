@@ -26,15 +26,15 @@ use native.Mathlib.Decide.{ℕ-discrete, decLt}
 use native.Mathlib.Omega.{arith}
 use Rattle.sets.specs.Sets.{Has}
 use Rattle.graph.specs.Walk.{Way, Symmetric}
-use Rattle.graph.specs.WalkLaws.{walk-segment, walk-inside, way-reverse}
+use Rattle.graph.proofs.WalkLaws.{walk-segment, walk-inside, way-reverse}
 use Rattle.graph.specs.Connected.{Robust}
-use Rattle.graph.specs.ConnectedLaws.{whole-same}
+use Rattle.graph.proofs.ConnectedLaws.{whole-same}
 use Rattle.graph.specs.Rows.{Edge, Rows}
 use Rattle.breakdown.specs.Breakdown.{Between}
-use Rattle.breakdown.specs.StageLaws as stage
+use Rattle.breakdown.proofs.StageLaws as stage
 use Rattle.moving.specs.Cleared.{Reaches, Vacancy}
 use Rattle.settling.specs.Table.{Table}
-use Rattle.settling.specs.TableLaws.{table-other}
+use Rattle.settling.proofs.TableLaws.{table-other}
 use Rattle.settling.specs.Circle.{Circle, On}
 
 pub on-or-not : (c : ℕ → ℕ) (size p : ℕ) → On c size p ⊎ (On c size p → ⊥)

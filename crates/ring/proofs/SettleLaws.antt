@@ -23,10 +23,10 @@ use Rattle.graph.specs.Rows.{Edge, Rows}
 use Rattle.breakdown.specs.Breakdown.{Between}
 use Rattle.moving.specs.Went.{Same}
 use Rattle.moving.specs.Journey.{row, Room, Trip}
-use Rattle.moving.specs.JourneyLaws.{trip-none, trip-more, trip-append, room-less, room-then}
+use Rattle.moving.proofs.JourneyLaws.{trip-none, trip-more, trip-append, room-less, room-then}
 use Rattle.moving.specs.Cleared.{Cleared}
 use Rattle.settling.specs.Table.{Table}
-use Rattle.settling.specs.TableLaws.{table-rack}
+use Rattle.settling.proofs.TableLaws.{table-rack}
 use Rattle.settling.specs.Circle.{Circle, On, swapped, Ringing}
 use Rattle.ring.proofs.RingLaws.{on-or-not, on-surely, circle-on, circle-apart, table-two, Filled, filled-two, filled-same, ring-on}
 use Rattle.ring.proofs.ExchangeLaws.{swapped-second, swapped-other, swapped-zero}

@@ -1,3 +1,1 @@
 pub mod From
-pub mod FromLaws
-pub mod Examples

@@ -276,7 +276,7 @@ fn place_on(order: &[u8; 64], size: usize, x: usize) -> usize
 }
 
 // The base ring of a breakdown from x on, in the order round it. From the left end of the first handle on it is the ring that `settle_ring` asks for:
-// specs/FromLaws.antt.
+// proofs/FromLaws.antt.
 pub fn ring_from(order: &[u8; 64], size: usize, x: usize) -> [u8; 64]
     requires { ⌜ (0 < size) × (size ≤ 64) ⌝ }
     ensures { λ r. ⌜ r ≡ ringFrom (now (order .entry)) size x ⌝ }

@@ -12,8 +12,8 @@ use native.Mathlib.Omega.{arith}
 use lib.ListN.{length, getD, set, replicate, length-set, length-replicate}
 use lib.Seq.{getD-set-same, getD-set-other}
 use Rattle.sets.specs.Sets.{Has}
-use Rattle.sets.specs.SetLaws.{has-none}
-use Rattle.tables.specs.TableLaws.{zeros-at}
+use Rattle.sets.proofs.SetLaws.{has-none}
+use Rattle.tables.proofs.TableLaws.{zeros-at}
 use Rattle.scheduling.specs.Rows.{Left}
 use Rattle.scheduling.specs.Filling.{emptyWindow}
 

@@ -3,3 +3,16 @@ pub mod Leaving
 pub mod Passing
 pub mod Windowing
 pub mod Making
+pub mod FillingLaws
+pub mod Made
+pub mod MakerCases
+pub mod MakerLaws
+pub mod MakingCases
+pub mod RecordBytes
+pub mod RowLaws
+pub mod Schedule
+pub mod SizeLaws
+pub mod StepMoves
+pub mod Tabled
+pub mod TabledSteps
+pub mod Timing

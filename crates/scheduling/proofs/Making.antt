@@ -14,26 +14,28 @@ use borrow.Author.Tests.{lt-ltb, le-ltb}
 use lib.ListN.{length, take, drop}
 use lib.Dec.{ltb}
 use Rattle.answers.specs.Answer.{Answer, accepted, refused, refuse, passUp}
-use Rattle.answers.specs.AnswerLaws.{passUp-accepted}
-use Rattle.field.specs.Head.{headBytes, length-headBytes, front-written}
+use Rattle.answers.proofs.AnswerLaws.{passUp-accepted}
+use Rattle.field.specs.Head.{headBytes}
+use Rattle.field.proofs.HeadLaws.{length-headBytes, front-written}
 use Rattle.field.specs.Bits.{pairs}
-use Rattle.field.specs.BitLaws.{field-lt}
-use Rattle.field.specs.RecordLaws.{rest-is, pairs-drop}
-use Rattle.field.specs.UnitLaws.{Fitting, fitting, tail-units}
-use Rattle.field.specs.Writing.{written, Fits, written-front, length-written}
+use Rattle.field.proofs.BitLaws.{field-lt}
+use Rattle.field.proofs.RecordLaws.{rest-is, pairs-drop}
+use Rattle.field.proofs.UnitLaws.{Fitting, fitting, tail-units}
+use Rattle.field.specs.Writing.{written, Fits}
+use Rattle.field.proofs.WritingLaws.{written-front, length-written}
 use Rattle.order.specs.Order.{floorOf, startsOf}
 use Rattle.plan.specs.Plan.{moveCount, planMoves, wrongPlanLength, planAnswer}
-use Rattle.plan.specs.PlanRecord.{moves-counted}
+use Rattle.plan.proofs.PlanRecord.{moves-counted}
 use Rattle.timetable.specs.Timetable.{timetableRecord}
 use Rattle.scheduling.specs.Making.{timed, greatest}
 use Rattle.scheduling.specs.Rows.{stepsBytes}
 use Rattle.scheduling.specs.Filling.{latest}
-use Rattle.scheduling.specs.FillingLaws.{latest-few}
+use Rattle.scheduling.proofs.FillingLaws.{latest-few}
 use Rattle.scheduling.specs.Windows.{allSteps}
-use Rattle.scheduling.specs.TabledSteps.{latest-rule, allSteps-made}
-use Rattle.scheduling.specs.RecordBytes.{record-bytes}
+use Rattle.scheduling.proofs.TabledSteps.{latest-rule, allSteps-made}
+use Rattle.scheduling.proofs.RecordBytes.{record-bytes}
 use Rattle.scheduling.specs.Maker.{madeOf, makerAnswer, bufferAfter, leaves}
-use Rattle.scheduling.specs.MakerLaws.{PlanGave, plan-gave, made-of, made-packable}
+use Rattle.scheduling.proofs.MakerLaws.{PlanGave, plan-gave, made-of, made-packable}
 
 module _ (o p B : List ℕ) where
   -- an answer of the maker, and what it leaves

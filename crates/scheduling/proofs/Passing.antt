@@ -12,9 +12,9 @@ use native.Mathlib.Nat.{sub-zero}
 use borrow.Author.Tests.{lt-ltb, le-ltb}
 use lib.ListN.{getD, set, replicate}
 use Rattle.field.specs.Bits.{field, pairs}
-use Rattle.field.specs.RecordLaws.{pairs-next}
+use Rattle.field.proofs.RecordLaws.{pairs-next}
 use Rattle.scheduling.specs.Filling.{Pass, started, stepBy, noted, passed, pass, Filled}
-use Rattle.scheduling.specs.FillingLaws.{Early, early-started, early-passed}
+use Rattle.scheduling.proofs.FillingLaws.{Early, early-started, early-passed}
 
 module _ (first : ℕ) (w : List ℕ) (t a b : ℕ) where
   pub note-early : t ≤ first → w ≡ noted first w t a b

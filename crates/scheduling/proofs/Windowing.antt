@@ -14,14 +14,15 @@ use native.Mathlib.Omega.{arith}
 use native.Mathlib.Decide.{ℕ-discrete}
 use native.Mathlib.Numerals.{add-one}
 use native.Mathlib.Nat.{add-zero, le-refl}
-use Rattle.field.specs.RecordLaws.{BelowPairs}
-use Rattle.field.specs.Writing.{written, Fits, Wrote, fits-next, wrote-none, wrote-then, wrote-length, fits-as, wrote-as}
+use Rattle.field.specs.Bytes.{BelowPairs}
+use Rattle.field.specs.Writing.{written, Fits, Wrote}
+use Rattle.field.proofs.WritingLaws.{fits-next, wrote-none, wrote-then, wrote-length, fits-as, wrote-as}
 use Rattle.scheduling.specs.Filling.{started, emptyWindow, windowOf, latest, Filled}
-use Rattle.scheduling.specs.FillingLaws.{greatest-same, entries-empty, entries-pass}
+use Rattle.scheduling.proofs.FillingLaws.{greatest-same, entries-empty, entries-pass}
 use Rattle.scheduling.specs.Windows.{rowsOf, windowSteps, windows, allSteps}
 use lib.ListN.{length, length-append}
 use Rattle.scheduling.specs.Rows.{EntriesFit, rowMoves, rows, stepBytes, stepsBytes}
-use Rattle.scheduling.specs.RowLaws.{rows-split, rows-next, stepsBytes-append}
+use Rattle.scheduling.proofs.RowLaws.{rows-split, rows-next, stepsBytes-append}
 
 module _ (t s : List ℕ) (n at : ℕ) where
   unfoldable pub WroteRows : List ℕ → ℕ → ℕ → Type 0

@@ -26,11 +26,13 @@ use borrow.Author.Tests.{eq-eqb, ne-eqb}
 use lib.ListN.{length, getD, set, take, drop, length-append, length-drop, drop-of-length-le}
 use lib.Seq.{drop-drop, drop-at, take-at, set-at, length-take-le, take-suc}
 use lib.Dec.{eqb}
-use Rattle.field.specs.RecordLaws.{rest-is}
-use Rattle.field.specs.Packing.{pack, length-pack, putPair, added, added-is, put-next}
-use Rattle.field.specs.Writing.{written, Fits, Wrote, written-none, length-written}
+use Rattle.field.proofs.RecordLaws.{rest-is}
+use Rattle.field.specs.Packing.{pack, putPair}
+use Rattle.field.proofs.PackingLaws.{length-pack, added, added-is, put-next}
+use Rattle.field.specs.Writing.{written, Fits, Wrote}
+use Rattle.field.proofs.WritingLaws.{written-none, length-written}
 use Rattle.sets.specs.Sets.{Has}
-use Rattle.sets.specs.SetLaws.{has-none}
+use Rattle.sets.proofs.SetLaws.{has-none}
 use Rattle.scheduling.specs.Rows.{rowFrom, rowMoves, stepBytes, Left}
 
 module _ (s : List ℕ) (at n p e : ℕ) where

@@ -5,18 +5,20 @@
 --     leaves a r B             the buffer B after the answer a: with the record r in front where it is accepted, else unchanged
 --     bufferAfter o p B        the buffer B afterwards
 --     answerOf v               the maker's verdict v as an answer
+--     Timetabled o p, timetabled     the made record is at most 3 × k + 3 bytes long, and the timetable checker accepts it, with s steps and k moves
 -- Assumes nothing.
-use Prim.Native.Nat.{ℕ, _+_, _*_}
+use Prim.Native.Nat.{ℕ, _+_, _*_, _≤_}
 use mathlib.Core.List.{List, [], _∷_, _++_}
 use lib.ListN.{length, drop}
 use lib.Dec.{ltb}
 use Rattle.answers.specs.Answer.{Answer, accepted, refused, refusedBy, refuse, passUp}
 use Rattle.order.specs.Order.{startsOf}
 use Rattle.plan.specs.Plan.{moveCount, planMoves, planAnswer}
-use Rattle.timetable.specs.Timetable.{timetableRecord}
+use Rattle.timetable.specs.Timetable.{timetableRecord, timetableAnswer}
 use Rattle.scheduling.specs.Making.{timed, greatest, madeSteps}
 use Rattle.scheduling.specs.declared.MakerVerdict.{MakerVerdict}
 use Rattle.scheduling.specs.declared.MakerVerdict.the-variants.{Accepted, Refused}
+use mathlib.Core.Path.{_≡_}
 
 unfoldable pub madeOf : List ℕ → List ℕ → List (List (ℕ × ℕ))
 madeOf o p = madeSteps (startsOf o) (planMoves p)
@@ -39,3 +41,8 @@ bufferAfter o p B = leaves (makerAnswer o p (length B)) (timetableRecord (madeOf
 abbrev pub answerOf : MakerVerdict → Answer
 answerOf (Accepted steps) = accepted (steps ∷ [])
 answerOf (Refused f place) = refusedBy f place
+
+-- "For every accepted plan the made record is at most 3 × k + 3 bytes long, and the timetable checker accepts it with exactly s steps and k moves."
+pub record Timetabled (o p : List ℕ) : Type 0 where
+  pub short : length (timetableRecord (madeOf o p)) ≤ 3 * moveCount p + 3
+  pub checked : timetableAnswer o (timetableRecord (madeOf o p)) ≡ accepted (greatest (timed (startsOf o) [] (planMoves p)) ∷ moveCount p ∷ [])

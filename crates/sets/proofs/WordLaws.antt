@@ -13,7 +13,7 @@ use lib.Bits.{bitAnd, bitOr}
 use lib.Dec.{T, eqb, eqb→eq}
 use lib.Pow.{pow-pos}
 use Rattle.sets.specs.Sets.{bit, Has}
-use Rattle.sets.specs.SetLaws.{has-only, shifted, has-first, has-and, has-or, has-not, has-below}
+use Rattle.sets.proofs.SetLaws.{has-only, shifted, has-first, has-and, has-or, has-not, has-below}
 
 abbrev word : ℕ
 word = 18446744073709551616

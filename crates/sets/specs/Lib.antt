@@ -1,3 +1,1 @@
 pub mod Sets
-pub mod SetLaws
-pub mod CountLaws

@@ -9,7 +9,7 @@ use mathlib.Core.Logic.{_↔_, _≢_, _⊎_, inl, inr, ⊎-elim, by-cases}
 use native.Mathlib.Decide.{ℕ-discrete}
 use native.Mathlib.Omega.{arith}
 use Rattle.sets.specs.Sets.{Has}
-use Rattle.sets.specs.SetLaws.{has-none}
+use Rattle.sets.proofs.SetLaws.{has-none}
 use Rattle.breakdown.specs.Breakdown.{Between}
 
 abbrev pub Parting : (ℕ → ℕ) → ℕ → ℕ → ℕ → Type 0

@@ -15,7 +15,7 @@ use borrow.Author.Tests.{eq-eqb, ne-eqb}
 use lib.ListN.{getD}
 use lib.Dec.{eqb}
 use Rattle.field.specs.Bits.{field, positions}
-use Rattle.field.specs.RecordLaws.{positions-next}
+use Rattle.field.proofs.RecordLaws.{positions-next}
 use Rattle.tables.specs.Tables.{misplacedOn, MisplacedOn}
 
 module _ (s : List ℕ) (from m : ℕ) (h : List ℕ) where

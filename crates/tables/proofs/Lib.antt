@@ -1,1 +1,10 @@
 pub mod Goals
+pub mod AcceptedLaws
+pub mod EndingLaws
+pub mod Examples
+pub mod Layers
+pub mod MatrixLaws
+pub mod MovesOnLaws
+pub mod SimulationLaws
+pub mod TableLaws
+pub mod TablesLaws

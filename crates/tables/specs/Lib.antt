@@ -1,9 +1,5 @@
 pub mod Tables
-pub mod TableLaws
-pub mod MatrixLaws
 pub mod Simulation
 pub mod MovesOn
 pub mod Ending
-pub mod Layers
 pub mod Accepted
-pub mod Examples

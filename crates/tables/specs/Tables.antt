@@ -9,16 +9,14 @@
 --     misplacedOn r h G        by the table h, the lowest rack that does not stand at its goal, where G begins with rack r's; 0 where each does
 --     MisplacedOn h G m r      r is that rack, where the goals G are those of racks 1 to m, so that it is at most m
 --     judgedOn k l G counts x  the answer for a replay on tables that ended as x, as Judgement has it for arrangements
---     Holds A h                the table h says where the racks of the arrangement A stand
 -- Assumes nothing.
-use Prim.Native.Nat.{ℕ, suc, _+_, _*_, _≤_, _<_}
+use Prim.Native.Nat.{ℕ, suc, _+_, _*_, _≤_}
 use mathlib.Core.Path.{_≡_}
 use mathlib.Core.Bool.{Bool, not, cond, _&&_}
 use mathlib.Core.List.{List, [], _∷_}
-use lib.ListN.{length, getD, set}
-use lib.Dec.{T, eqb}
+use lib.ListN.{getD, set}
+use lib.Dec.{eqb}
 use Rattle.answers.specs.Answer.{Answer, accepted, refused, refuse}
-use Rattle.motion.specs.Arrangement.{Arrangement, vacant}
 use Rattle.motion.specs.Replay.{Replayed, ended, stopped}
 
 unfoldable pub edgeAt : List ℕ → ℕ × ℕ → Bool
@@ -48,9 +46,3 @@ pub record MisplacedOn (h G : List ℕ) (m r : ℕ) : Type 0 where
 unfoldable pub judgedOn : ℕ → ℕ → List ℕ → List ℕ → Replayed → Answer
 judgedOn illegal off goals counts (stopped number) = refused illegal number
 judgedOn illegal off goals counts (ended h) = refuse (not (eqb (misplacedOn 1 h goals) 0)) off (misplacedOn 1 h goals) (accepted counts)
-
--- racks are numbered from 1, so rack i + 1 is the one of index i
-pub record Holds (A : Arrangement) (h : List ℕ) : Type 0 where
-  pub size : length h ≡ 64
-  pub racks : (i : ℕ) → i < length A → getD h (getD A i 0) 0 ≡ suc i
-  pub others : (p : ℕ) → T (vacant A p) → getD h p 0 ≡ 0

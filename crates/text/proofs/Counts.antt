@@ -12,7 +12,7 @@ use lib.ListN.{length}
 use Rattle.answers.specs.Answer.{accepted, refused}
 use Rattle.timetable.specs.Timetable.{stepCount, total, partsOf, stepsOf}
 use Rattle.timetable.specs.Reading.{WellPacked, readingAnswer, moveCount}
-use Rattle.timetable.specs.ReadingLaws.{reading-accepted, count-steps, total-moves}
+use Rattle.timetable.proofs.ReadingLaws.{reading-accepted, count-steps, total-moves}
 use Rattle.text.specs.Text.{firstLine}
 
 module _ (s : List ℕ) (w : WellPacked s) where

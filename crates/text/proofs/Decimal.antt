@@ -6,9 +6,10 @@
 use Prim.Native.Nat.{ℕ, _+_, _/_, _%_, _≤_, _<_}
 use mathlib.Core.Path.{sym}
 use mathlib.Core.List.{List, [], _∷_, _++_}
-use Rattle.field.specs.Writing.{Fits, Wrote, fits-front, fits-next, fits-as, wrote-then, wrote-as}
+use Rattle.field.specs.Writing.{Fits, Wrote}
+use Rattle.field.proofs.WritingLaws.{fits-front, fits-next, fits-as, wrote-then, wrote-as}
 use Rattle.text.specs.Text.{decimal}
-use Rattle.text.specs.TextLaws.{decimal-one, decimal-more}
+use Rattle.text.proofs.TextLaws.{decimal-one, decimal-more}
 
 module _ {s : List ℕ} {at : ℕ} (n : ℕ) (f : Fits s at (decimal n)) where
   module _ (h : n < 10) where

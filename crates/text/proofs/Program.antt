@@ -12,16 +12,19 @@ use native.Mathlib.Omega.{arith}
 use lib.ListN.{length, take, drop, length-append}
 use lib.Seq.{take-at}
 use Rattle.answers.specs.Answer.{Answer, accepted, refused}
-use Rattle.field.specs.RecordLaws.{rest-is}
-use Rattle.field.specs.Writing.{Fits, Wrote, wrote-as}
+use Rattle.field.proofs.RecordLaws.{rest-is}
+use Rattle.field.specs.Writing.{Fits, Wrote}
+use Rattle.field.proofs.WritingLaws.{wrote-as}
 use Rattle.timetable.specs.Timetable.{timetableRecord, stepsOf}
 use Rattle.timetable.specs.Reading.{WellPacked}
-use Rattle.timetable.specs.RecordLength.{wholeTimetableLength, timetable-length-found}
-use Rattle.timetable.specs.TimetableRecord.{record-well-packed, stepsOf-record}
+use Rattle.timetable.specs.RecordLength.{wholeTimetableLength}
+use Rattle.timetable.proofs.RecordLengthLaws.{timetable-length-found}
+use Rattle.timetable.proofs.TimetableRecord.{record-well-packed, stepsOf-record}
 use Rattle.scheduling.specs.Maker.{madeOf, makerAnswer, bufferAfter}
-use Rattle.scheduling.specs.MakerLaws.{MakerGave, maker-gave, maker-record, made-packable, Timetabled}
+use Rattle.scheduling.proofs.MakerLaws.{MakerGave, maker-gave, maker-record, made-packable}
+use Rattle.scheduling.specs.Maker.{Timetabled}
 use Rattle.text.specs.Program.{answerText, programText}
-use Rattle.text.specs.Sizes.{timetableText-short}
+use Rattle.text.proofs.Sizes.{timetableText-short}
 use Rattle.text.specs.Split.{orderEnd, orderPart, planPart}
 use Rattle.text.specs.Text.{refusalLine, timetableText}
 

@@ -1,7 +1,3 @@
 pub mod Text
-pub mod TextLaws
-pub mod Sizes
 pub mod Split
 pub mod Program
-pub mod Examples
-pub mod ProgramExamples

@@ -11,7 +11,8 @@ use Rattle.answers.specs.Answer.{accepted, refused}
 use Rattle.field.specs.Bits.{pairs, positions}
 use Rattle.order.specs.Tables.{marked, placed}
 use Rattle.tables.specs.Tables.{MisplacedOn, judgedOn}
-use Rattle.tables.specs.Ending.{Ends, judged-illegal, judged-misplaced, judged-settled}
+use Rattle.tables.specs.Ending.{Ends}
+use Rattle.tables.proofs.EndingLaws.{judged-illegal, judged-misplaced, judged-settled}
 use Rattle.trains.specs.StepsOn.{replayStepsOn}
 use Rattle.timetable.specs.Timetable.{stepsOf}
 use Rattle.timetable.specs.Checking.{tableAnswer}

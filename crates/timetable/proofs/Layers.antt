@@ -10,22 +10,23 @@ use mathlib.Core.Bool.{false}
 use mathlib.Core.List.{List, [], _∷_}
 use lib.ListN.{length, take, drop}
 use Rattle.answers.specs.Answer.{Answer, accepted, refused, passUp}
-use Rattle.field.specs.RecordLaws.{BelowPairs, pairs-lt}
+use Rattle.field.specs.Bytes.{BelowPairs}
+use Rattle.field.proofs.RecordLaws.{pairs-lt}
 use Rattle.order.specs.Order.{floorOf, startsOf, goalsOf, orderAnswer}
-use Rattle.order.specs.TailLaws.{tail-edges, tail-starts, tail-goals}
+use Rattle.order.proofs.TailLaws.{tail-edges, tail-starts, tail-goals}
 use Rattle.motion.specs.Replay.{replaySteps}
 use Rattle.motion.specs.Judgement.{judged}
 use Rattle.tables.specs.Accepted.{OrderGave}
-use Rattle.tables.specs.Layers.{order-refused, record-refused, all-accepted}
-use Rattle.tables.specs.MovesOn.{matrixOf, tableOf}
+use Rattle.tables.proofs.Layers.{order-refused, record-refused, all-accepted}
+use Rattle.tables.proofs.MovesOnLaws.{matrixOf, tableOf}
 use Rattle.tables.specs.Simulation.{Each}
-use Rattle.trains.specs.StepsOn.{each-map, steps-judged}
+use Rattle.trains.proofs.StepsOnLaws.{each-map, steps-judged}
 use Rattle.timetable.specs.Timetable.{stepCount, partsOf, stepMoves, stepsOf, total, wrongTimetableLength, timetableAnswer}
 use Rattle.timetable.specs.Reading.{readingAnswer, WellPacked}
-use Rattle.timetable.specs.ReadingLaws.{well-packed, reading-gave, timetableAnswer-is}
+use Rattle.timetable.proofs.ReadingLaws.{well-packed, reading-gave, timetableAnswer-is}
 use Rattle.timetable.specs.Checking.{tableAnswer}
-use Rattle.timetable.specs.SizeLaws.{count-small}
-use Rattle.timetable.specs.TimetableRecord.{moves-low}
+use Rattle.timetable.proofs.SizeLaws.{count-small}
+use Rattle.timetable.proofs.TimetableRecord.{moves-low}
 
 -- 42, 43 and acceptance
 abbrev judgement : List ℕ → List ℕ → Answer

@@ -4,3 +4,15 @@ pub mod StepReader
 pub mod Turns
 pub mod Judging
 pub mod Layers
+pub mod HandedOut
+pub mod Inhabited
+pub mod Leading
+pub mod Limits
+pub mod ReadingLaws
+pub mod RecordLengthLaws
+pub mod SizeLaws
+pub mod SolutionsLaws
+pub mod StepLaws
+pub mod StepRecord
+pub mod Still
+pub mod TimetableRecord

@@ -12,9 +12,9 @@ use native.Mathlib.Nat.{sub-zero, add-zero}
 use lib.ListN.{length, getD, drop}
 use lib.Seq.{drop-drop, getD-drop}
 use Rattle.field.specs.Bits.{field}
-use Rattle.field.specs.Front.{whole-as, whole-none}
+use Rattle.field.proofs.FrontLaws.{whole-as, whole-none}
 use Rattle.timetable.specs.Timetable.{stepLength, stepCount}
-use Rattle.timetable.specs.StepLaws.{stepLength-some}
+use Rattle.timetable.proofs.StepLaws.{stepLength-some}
 use Rattle.timetable.specs.RecordLength.{stepsLength, timetableLength, wholeTimetableLength}
 
 pub record Passing (s : List ℕ) (k i at : ℕ) : Type 0 where

@@ -19,14 +19,14 @@ use borrow.Author.Tests.{ne-eqb, eq-eqb, lt-ltb, le-ltb}
 use lib.ListN.{length, getD, take, drop, length-drop}
 use lib.Dec.{eqb}
 use Rattle.answers.specs.Answer.{Answer, accepted, refused, refuse, passUp}
-use Rattle.answers.specs.AnswerLaws.{passUp-refused, passUp-accepted}
+use Rattle.answers.proofs.AnswerLaws.{passUp-refused, passUp-accepted}
 use Rattle.field.specs.Bits.{field, pad}
-use Rattle.field.specs.BitLaws.{field-drop}
-use Rattle.field.specs.RecordLaws.{rest-is, up-to-byte}
+use Rattle.field.proofs.BitLaws.{field-drop}
+use Rattle.field.proofs.RecordLaws.{rest-is, up-to-byte}
 use Rattle.order.specs.Order.{some}
 use Rattle.timetable.specs.Timetable.{stepLength, wrongSteps, stepParts, stepPadSet, total, partsOf, stepCount, wrongTimetableLength, timetablePaddingSet}
 use Rattle.timetable.specs.Reading.{stepsAnswer, readingAnswer}
-use Rattle.timetable.specs.StepLaws.{partAt, nextAt, parts-next, parts-none, Room, wrong-past, wrong-short, wrong-next, wrong-left, right-end, head-partAt, cut-is, cut-length}
+use Rattle.timetable.proofs.StepLaws.{partAt, nextAt, parts-next, parts-none, Room, wrong-past, wrong-short, wrong-next, wrong-left, right-end, head-partAt, cut-is, cut-length}
 
 module _ (p : List ℕ) (e : length p ≡ stepLength (getD p 0 0)) where
   pub pad-room : (c : ℕ) → c ≡ getD p 0 0 → 12 * c + pad (12 * c) ≤ 8 * length (take (length p - 1) (drop 1 p))

@@ -14,12 +14,12 @@ use borrow.Author.Tests.{eq-eqb, ne-eqb, lt-ltb, le-ltb}
 use lib.ListN.{length, getD, take, drop}
 use lib.Dec.{ltb, eqb}
 use Rattle.answers.specs.Answer.{Answer, accepted, refused, refuse, passUp}
-use Rattle.answers.specs.AnswerLaws.{passUp-accepted}
+use Rattle.answers.proofs.AnswerLaws.{passUp-accepted}
 use Rattle.timetable.specs.Timetable.{stepLength, stepCount, partsOf, lengthOf, offset, stepPart, stepAnswer}
 use Rattle.timetable.specs.Reading.{readingAnswer, numberAnswer, partGiven}
-use Rattle.timetable.specs.StepLaws.{length-partAt}
-use Rattle.timetable.specs.ReadingLaws.{reading-gave, stepAnswer-is, Stands, stands-next, stands-room, step-room, stepPart-is}
-use Rattle.timetable.specs.HandedOut.{Has, given-part}
+use Rattle.timetable.proofs.StepLaws.{length-partAt}
+use Rattle.timetable.proofs.ReadingLaws.{reading-gave, stepAnswer-is, Stands, stands-next, stands-room, step-room, stepPart-is}
+use Rattle.timetable.proofs.HandedOut.{Has, given-part}
 
 module _ (s : List ℕ) (i x y : ℕ) (a : accepted (x ∷ y ∷ []) ≡ readingAnswer s) where
   over : numberAnswer s i ≡ refuse (eqb i 0 || ltb (stepCount s) i) 45 0 (readingAnswer s)

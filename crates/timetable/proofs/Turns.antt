@@ -12,12 +12,13 @@ use mathlib.Core.List.{List, [], _∷_}
 use native.Mathlib.Omega.{arith}
 use lib.ListN.{length, getD, take, drop}
 use Rattle.field.specs.Bits.{pairs}
-use Rattle.tables.specs.Ending.{Ends, Left, left-stops, left-goes, left-none}
+use Rattle.tables.specs.Ending.{Ends}
+use Rattle.tables.proofs.EndingLaws.{Left, left-stops, left-goes, left-none}
 use Rattle.trains.specs.StepOn.{legalStepOn, stepOn, ranOn}
 use Rattle.trains.specs.StepsOn.{replayStepsOn}
 use Rattle.timetable.specs.Timetable.{stepLength, stepCount, stepMoves, stepsOf, wrongTimetableLength}
-use Rattle.timetable.specs.StepLaws.{partAt, nextAt, cut-is, moves-tail, moves-room}
-use Rattle.timetable.specs.ReadingLaws.{Stands, stands-first, stands-next, steps-next, steps-none}
+use Rattle.timetable.proofs.StepLaws.{partAt, nextAt, cut-is, moves-tail, moves-room}
+use Rattle.timetable.proofs.ReadingLaws.{Stands, stands-first, stands-next, steps-next, steps-none}
 
 module _ (p : List ℕ) (c : ℕ) (ec : c ≡ getD p 0 0) where
   pub run-room : length p ≡ stepLength (getD p 0 0) → 12 * c ≤ 8 * length (take (length p - 1) (drop 1 p))

@@ -1,15 +1,6 @@
 pub mod Timetable
 pub mod Reading
-pub mod StepLaws
 pub mod RecordLength
-pub mod ReadingLaws
 pub mod Checking
-pub mod StepRecord
-pub mod TimetableRecord
 pub mod Solutions
-pub mod Leading
-pub mod Limits
-pub mod Still
-pub mod Inhabited
-pub mod SizeLaws
-pub mod HandedOut
+pub mod ByteString

@@ -22,13 +22,14 @@ use native.Mathlib.Omega.{arith}
 use borrow.Author.Tests.{eq-eqb, ne-eqb}
 use lib.ListN.{length, getD, set, replicate, length-set, length-replicate}
 use lib.Seq.{getD-set-same, getD-set-other}
-use Rattle.motion.specs.Test.{equal?}
-use Rattle.tables.specs.TableLaws.{zeros-at}
+use Rattle.motion.proofs.Test.{equal?}
+use Rattle.tables.proofs.TableLaws.{zeros-at}
 use Rattle.motion.specs.Step.{every}
 use Rattle.trains.specs.StepOn.{ledOn, allLed}
 use Rattle.tables.specs.Simulation.{Each, each-more}
-use Rattle.trains.specs.Chains.{entries, Targets, Taking, Led, leads, follows, unvisited, Marks, Chain, Followed}
-use Rattle.trains.specs.ChainLaws.{led-on, unled-on}
+use Rattle.trains.specs.Chains.{entries, Targets, Taking, Led, leads, follows, Marks, Chain, Followed}
+use Rattle.trains.proofs.ChainsLaws.{unvisited}
+use Rattle.trains.proofs.ChainLaws.{led-on, unled-on}
 use Rattle.trains.proofs.Moves.{Left, left-first, left-at, left-next, left-last, entriesFrom, entries-first, entries-last}
 
 pub unvisited-less : (t v : List ℕ) (p : ℕ) → getD t p 0 ≢ 0 → getD v p 0 ≡ 0 → p < length v → unvisited t (set v p 1) < unvisited t v

@@ -20,8 +20,8 @@ use native.Mathlib.Omega.{arith}
 use lib.ListN.{getD, set, length, length-set}
 use lib.Seq.{getD-set-same, getD-set-other}
 use Rattle.field.specs.Bits.{field, pairs}
-use Rattle.field.specs.BitLaws.{field-lt}
-use Rattle.field.specs.RecordLaws.{pairs-next}
+use Rattle.field.proofs.BitLaws.{field-lt}
+use Rattle.field.proofs.RecordLaws.{pairs-next}
 use Rattle.trains.specs.Chains.{entries}
 
 module _ {S X : Type 0} (f : S → List (ℕ × ℕ) → X) (rest : ℕ → List (ℕ × ℕ)) (all : List (ℕ × ℕ)) (x₀ : S) where

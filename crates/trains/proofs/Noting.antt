@@ -21,11 +21,12 @@ use lib.ListN.{length, getD, set, replicate, length-set, length-replicate}
 use lib.Seq.{getD-set-same, getD-set-other}
 use lib.Dec.{leb, eqb, leb·zero}
 use Rattle.field.specs.Bits.{field, pairs}
-use Rattle.field.specs.RecordLaws.{BelowPairs, none₂, more₂, pairs-lt}
+use Rattle.field.specs.Bytes.{BelowPairs, none₂, more₂}
+use Rattle.field.proofs.RecordLaws.{pairs-lt}
 use Rattle.motion.specs.Step.{every, ascends, enters, enteredOnce}
-use Rattle.motion.specs.Test.{equal?}
+use Rattle.motion.proofs.Test.{equal?}
 use Rattle.tables.specs.Tables.{edgeAt, heldAt}
-use Rattle.tables.specs.TableLaws.{zeros-at}
+use Rattle.tables.proofs.TableLaws.{zeros-at}
 use Rattle.trains.specs.StepOn.{soundMoves}
 use Rattle.trains.specs.Chains.{noted, NotedMoves}
 use Rattle.trains.proofs.Moves.{Left, left-first, left-at, left-next, left-last, pairsFrom, pairs-first, pairs-at, pairs-last, Kept, kept-first, kept-next, kept-all}

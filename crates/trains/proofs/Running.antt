@@ -14,15 +14,15 @@ use borrow.Author.Tests.{eq-eqb}
 use lib.ListN.{getD, replicate}
 use lib.Dec.{T}
 use mir.Facts.{and-yes}
-use Rattle.field.specs.RecordLaws.{BelowPairs}
+use Rattle.field.specs.Bytes.{BelowPairs}
 use Rattle.motion.specs.Step.{every, ascends, leaves, enteredOnce}
-use Rattle.motion.specs.StepTests.{ascends-iff, every-iff, leaves-iff, goesTo-takes}
+use Rattle.motion.proofs.StepTestsLaws.{ascends-iff, every-iff, leaves-iff, goesTo-takes}
 use Rattle.tables.specs.Tables.{edgeAt, heldAt}
-use Rattle.tables.specs.TableLaws.{passed}
+use Rattle.tables.proofs.TableLaws.{passed}
 use Rattle.tables.specs.Simulation.{Each, each-none, each-more}
 use Rattle.trains.specs.StepOn.{soundMoves, allLed, legalStepOn, stepOn, ranOn}
 use Rattle.trains.specs.Chains.{noted, Targets, Taking}
-use Rattle.trains.specs.ChainLaws.{noted-targets}
+use Rattle.trains.proofs.ChainLaws.{noted-targets}
 
 each-member : {X : Type 0} {P : X → Type 0} (l : List X) → ((x : X) → List·Memᴰ x l → P x) → Each P l
 each-member [] f = each-none

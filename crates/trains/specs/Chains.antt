@@ -7,17 +7,15 @@
 --     Taking t h m         the move m takes a rack along that the table h has, to where the table t says
 --     Led t h n p          by the table t the chain of a move into p comes through n positions that the table h does not have vacant, and
 --                          then to one that it has: the leader's
---     unvisited t v        how many moves the marks v do not show as visited
 --     Marks t h v          the marks v are right where they say that a chain has ended at its leader
 --     Chain t h v p        the marks v where a chain is being followed that has come to p
 --     Followed t h v w p r the answer r and the marks w, where the chain was followed on from p with the marks v
 -- Assumes nothing.
 use Prim.Native.Nat.{ℕ, zero, suc, _+_, _-_, _/_, _%_, _≤_, _<_}
 use mathlib.Core.Path.{_≡_}
-use mathlib.Core.Bool.{Bool, true, false, not, cond, _&&_}
+use mathlib.Core.Bool.{Bool, true, false, cond}
 use mathlib.Core.List.{List, [], _∷_}
 use lib.ListN.{length, getD, set}
-use lib.Dec.{eqb}
 use Rattle.motion.specs.Move.{goesTo}
 use Rattle.motion.specs.Step.{leaves}
 use Rattle.trains.specs.StepOn.{soundMoves}
@@ -46,11 +44,6 @@ Taking t h m = (getD h (m .0) 0 ≡ 0 → ⊥) × (getD t (m .0) 0 ≡ m .1 + 1)
 pub data Led (t h : List ℕ) : ℕ → ℕ → Type 0 where
   leads : {p : ℕ} → getD h p 0 ≡ 0 → Led t h 0 p
   follows : {n p : ℕ} → (getD h p 0 ≡ 0 → ⊥) → (getD t p 0 ≡ 0 → ⊥) → Led t h n (getD t p 0 - 1) → Led t h (suc n) p
-
-unfoldable pub unvisited : List ℕ → List ℕ → ℕ
-unvisited [] v = 0
-unvisited (x ∷ t) [] = 0
-unvisited (x ∷ t) (y ∷ v) = cond (not (eqb x 0) && eqb y 0) 1 0 + unvisited t v
 
 -- A mark is 0 where no chain has come through, 1 where the chain that is being followed has, and 2 where a chain that ended at its
 -- leader has.

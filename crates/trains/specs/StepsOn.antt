@@ -1,63 +1,11 @@
 -- A timetable's steps on tables: judged alike, made alike, and so replayed and judged alike.
 --
 --     replayStepsOn g h steps   replay of the steps from the table h by the matrix g
---     each-map                  each of a list's images has a property that each image has
---     steps-alike               the replay on tables of steps of positions below 64 ends as the replay on arrangements does
---     steps-judged              and so it is judged
 -- Assumes nothing.
-use Prim.Native.Nat.{ℕ, _≤_}
-use mathlib.Core.Path.{_≡_, refl, sym, _∙_}
-use mathlib.Core.Bool.{false}
-use mathlib.Core.List.{List, [], _∷_, map}
-use lib.ListN.{length, replicate}
-use lib.Dec.{T}
-use Rattle.field.specs.RecordLaws.{BelowPairs}
-use Rattle.order.specs.Floor.{Floor}
-use Rattle.order.specs.Order.{wrongEdges}
-use Rattle.order.specs.Tables.{placed}
-use Rattle.motion.specs.Arrangement.{Arrangement}
-use Rattle.motion.specs.Move.{after}
-use Rattle.motion.specs.MoveLaws.{after-length}
-use Rattle.motion.specs.Step.{legalStep}
-use Rattle.motion.specs.LegalStep.{legalStep-iff}
-use Rattle.motion.specs.StepChange.{legal-valid}
-use Rattle.motion.specs.PebbleLaws.{invertible-sound}
-use Rattle.motion.specs.Replay.{Replayed, replayFrom, replaySteps}
-use Rattle.motion.specs.Judgement.{judged}
-use Rattle.motion.specs.Sound.{Sound}
-use Rattle.tables.specs.Tables.{judgedOn}
-use Rattle.tables.specs.TableLaws.{placed-holds}
-use Rattle.tables.specs.MovesOn.{matrixOf, tableOf, Kept}
-use Rattle.tables.specs.Simulation.{Each, each-none, each-more, Alike, replay-alike, judged-on}
+use Prim.Native.Nat.{ℕ}
+use mathlib.Core.List.{List}
+use Rattle.motion.specs.Replay.{Replayed, replayFrom}
 use Rattle.trains.specs.StepOn.{legalStepOn, stepOn}
-use Rattle.trains.specs.LegalOn.{legal-step-on}
-use Rattle.trains.specs.StepHolds.{step-holds}
 
 unfoldable pub replayStepsOn : List ℕ → List ℕ → List (List (ℕ × ℕ)) → Replayed
 replayStepsOn g h steps = replayFrom (legalStepOn g) stepOn 1 h steps
-
-pub each-map : {X Y : Type 0} {P : Y → Type 0} (f : X → Y) → ((x : X) → P (f x)) → (l : List X) → Each P (map f l)
-each-map f p [] = each-none
-each-map f p (x ∷ l) = each-more (p x) (each-map f p l)
-
-module _ (F : Floor) (few : F .positions ≤ 64) (below : BelowPairs 64 (F .edges)) (right : wrongEdges F ≡ false) where
-  kept-on : (k : ℕ) (A : Arrangement) (h : List ℕ) (ms : List (ℕ × ℕ)) → Kept (F .positions) k A h → BelowPairs 64 ms → T (legalStep F A ms)
-      → Kept (F .positions) k (after A ms) (stepOn h ms)
-  kept-on k A h ms r b l =
-      let s = legalStep-iff F A ms .0 l in
-      let valid = legal-valid (invertible-sound F (length A) A .1 (refl, r .0)) s in
-      (invertible-sound F (length A) (after A ms) .0 valid .1, step-holds F few A h (r .1) ms s, after-length A ms ∙ r .2)
-
-  module _ (A : Arrangement) (sound : Sound (F .positions) A) {steps : List (List (ℕ × ℕ))} (small : Each (BelowPairs 64) steps) where
-    pub steps-alike : Alike (Kept (F .positions) (length A)) (replaySteps F A steps) (replayStepsOn (matrixOf F) (tableOf A) steps)
-    unfolding replaySteps replayStepsOn tableOf
-    steps-alike =
-        replay-alike (BelowPairs 64) (Kept (F .positions) (length A)) (legalStep F) after (legalStepOn (matrixOf F)) stepOn
-        (λ B h ms r b. sym (legal-step-on F below right B h (r .1) b))
-        (kept-on (length A))
-        1 A (placed (replicate 64 0) 1 A) small (sound, placed-holds (F .positions) A few sound, refl)
-
-    pub steps-judged : (illegal off : ℕ) (G counts : List ℕ) → length G ≡ length A
-        → judgedOn illegal off G counts (replayStepsOn (matrixOf F) (tableOf A) steps) ≡ judged illegal off G counts (replaySteps F A steps)
-    steps-judged illegal off G counts e =
-        judged-on (Kept (F .positions) (length A)) illegal off G counts (λ B h r. (r .1, e ∙ sym (r .2))) steps-alike

@@ -10,7 +10,8 @@ use lib.Count.{ones}
 use Rattle.sets.specs.Sets.{Has}
 use Rattle.graph.specs.Rows.{Edge}
 use Rattle.breakdown.proofs.ChoiceLaws.{handle-skip, handle-enter, handle-stop, handle-turn, handle-leave, rest-less}
-use Rattle.breakdown.specs.Choice.{Leaves, Upto, HandleChoice}
+use Rattle.breakdown.specs.Choice.{Leaves, HandleChoice}
+use Rattle.breakdown.proofs.ChoiceFacts.{Upto}
 use Rattle.breakdown.proofs.choose_handle_at.Statement.{statement}
 use Rattle.breakdown.proofs.choose_handle_at.Tie as tie
 

@@ -7,7 +7,8 @@ use lib.Count.{ones}
 use Rattle.sets.specs.Sets.{Has}
 use Rattle.graph.specs.Rows.{Edge}
 use Rattle.breakdown.proofs.ChoiceLaws.{ring-enter, ring-turn, ring-leave, rest-less}
-use Rattle.breakdown.specs.Choice.{Upto, RingChoice}
+use Rattle.breakdown.proofs.ChoiceFacts.{Upto}
+use Rattle.breakdown.specs.Choice.{RingChoice}
 use Rattle.breakdown.proofs.choose_ring_at.Statement.{statement}
 use Rattle.breakdown.proofs.choose_ring_at.Tie as tie
 

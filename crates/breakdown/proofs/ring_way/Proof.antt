@@ -1,7 +1,7 @@
 -- `breakdown::ring_way` meets its contract. The targets are the positions beside a, without b.
 -- Assumes nothing.
 use borrow.Author.Needs.{needs}
-use Rattle.graph.specs.NearestLaws.{nearest-targets}
+use Rattle.graph.proofs.NearestLaws.{nearest-targets}
 use Rattle.graph.specs.Rows.{Edge}
 use Rattle.breakdown.specs.Choice.{Beside}
 use Rattle.breakdown.proofs.ring_way.Statement.{statement}

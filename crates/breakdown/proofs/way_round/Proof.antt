@@ -1,7 +1,7 @@
 -- `breakdown::way_round` meets its contract. The free positions are those without x.
 -- Assumes nothing.
 use borrow.Author.Needs.{needs}
-use Rattle.graph.specs.NearestLaws.{nearest-same}
+use Rattle.graph.proofs.NearestLaws.{nearest-same}
 use Rattle.breakdown.proofs.way_round.Statement.{statement}
 use Rattle.breakdown.proofs.way_round.Tie as tie
 

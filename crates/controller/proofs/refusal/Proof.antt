@@ -1,6 +1,6 @@
 -- `controller::refusal` meets its contract: a fault's number is at most 45, so the sum fits. Assumes nothing.
 use native.Mathlib.Omega.{arith}
-use Rattle.answers.specs.AnswerLaws.{numberOf-le}
+use Rattle.answers.proofs.AnswerLaws.{numberOf-le}
 use borrow.Author.Needs.{needs}
 use Rattle.controller.proofs.refusal.Statement.{statement}
 use Rattle.controller.proofs.refusal.Tie as tie

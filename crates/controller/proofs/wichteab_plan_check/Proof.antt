@@ -2,7 +2,7 @@
 use mathlib.Core.Path.{ap, sym, _∙_}
 use native.Mathlib.Omega.{arith}
 use Rattle.plan.specs.Verdict.{answerOf}
-use Rattle.plan.specs.SizeLaws.{moves-small}
+use Rattle.plan.proofs.SizeLaws.{moves-small}
 use Rattle.controller.specs.Packed.{packed, oneCount}
 use borrow.Author.Needs.{needs}
 use Rattle.controller.proofs.wichteab_plan_check.Statement.{statement}

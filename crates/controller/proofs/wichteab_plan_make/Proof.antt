@@ -5,7 +5,7 @@ use mathlib.Core.List.{List}
 use native.Mathlib.Omega.{arith}
 use Rattle.planner.specs.declared.PlannerVerdict.{PlannerVerdict}
 use Rattle.planner.specs.Planner.{PlanMade, answerOf}
-use Rattle.planner.specs.PlannerLaws.{moves-few}
+use Rattle.planner.proofs.PlannerLaws.{moves-few}
 use borrow.Author.Needs.{needs}
 use Rattle.controller.proofs.wichteab_plan_make.Statement.{statement}
 use Rattle.controller.proofs.wichteab_plan_make.Tie as tie

@@ -2,7 +2,7 @@
 use mathlib.Core.Path.{ap, sym, _∙_}
 use native.Mathlib.Omega.{arith}
 use Rattle.timetable.specs.Checking.{answerOfCheck}
-use Rattle.timetable.specs.SizeLaws.{checked-small}
+use Rattle.timetable.proofs.SizeLaws.{checked-small}
 use Rattle.controller.specs.Packed.{packed, stepsAndMoves}
 use borrow.Author.Needs.{needs}
 use Rattle.controller.proofs.wichteab_timetable_check.Statement.{statement}

@@ -3,7 +3,7 @@ use mathlib.Core.Path.{ap, sym, _∙_}
 use native.Mathlib.Omega.{arith}
 use lib.ListN.{length}
 use Rattle.scheduling.specs.Maker.{answerOf}
-use Rattle.scheduling.specs.SizeLaws.{steps-small}
+use Rattle.scheduling.proofs.SizeLaws.{steps-small}
 use Rattle.controller.specs.Packed.{packed, oneCount}
 use borrow.Author.Needs.{needs}
 use Rattle.controller.proofs.wichteab_timetable_make.Statement.{statement}

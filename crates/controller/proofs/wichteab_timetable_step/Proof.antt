@@ -2,7 +2,7 @@
 use mathlib.Core.Path.{ap, sym, _∙_}
 use native.Mathlib.Omega.{arith}
 use Rattle.timetable.specs.Reading.{answerOfStep}
-use Rattle.timetable.specs.SizeLaws.{found-small}
+use Rattle.timetable.proofs.SizeLaws.{found-small}
 use Rattle.controller.specs.Packed.{packed, lengthAndOffset}
 use borrow.Author.Needs.{needs}
 use Rattle.controller.proofs.wichteab_timetable_step.Statement.{statement}

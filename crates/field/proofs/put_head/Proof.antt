@@ -2,7 +2,8 @@
 use Prim.Native.Nat.{_/_, _%_, _*_}
 use native.Mathlib.Omega.{arith}
 use lib.ListN.{length-set}
-use Rattle.field.specs.Head.{headBytes, written-head}
+use Rattle.field.specs.Head.{headBytes}
+use Rattle.field.proofs.HeadLaws.{written-head}
 use borrow.Author.Needs.{needs}
 use Rattle.field.proofs.put_head.Statement.{statement}
 use Rattle.field.proofs.put_head.Tie as tie

@@ -2,7 +2,7 @@
 use native.Mathlib.Omega.{arith}
 use mathlib.Core.Path.{ap, sym, _∙_}
 use mathlib.Core.Bool.{not}
-use Rattle.field.specs.UnitLaws.{fitting, unclean-spare, unclean-pad, clean, pad-of-tail, tail-room}
+use Rattle.field.proofs.UnitLaws.{fitting, unclean-spare, unclean-pad, clean, pad-of-tail, tail-room}
 use borrow.Author.Needs.{needs}
 use Rattle.field.proofs.units_clean.Statement.{statement}
 use Rattle.field.proofs.units_clean.Tie as tie

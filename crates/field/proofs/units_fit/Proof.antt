@@ -2,7 +2,7 @@
 use native.Mathlib.Omega.{arith}
 use mathlib.Core.Path.{ap, sym}
 use mathlib.Core.Bool.{not}
-use Rattle.field.specs.UnitLaws.{misfits-short, misfits-not, fits}
+use Rattle.field.proofs.UnitLaws.{misfits-short, misfits-not, fits}
 use borrow.Author.Needs.{needs}
 use Rattle.field.proofs.units_fit.Statement.{statement}
 use Rattle.field.proofs.units_fit.Tie as tie

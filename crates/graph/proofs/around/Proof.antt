@@ -2,7 +2,7 @@
 -- Assumes nothing.
 use native.Mathlib.Omega.{arith}
 use lib.Count.{ones}
-use Rattle.sets.specs.CountLaws.{ones-without}
+use Rattle.sets.proofs.CountLaws.{ones-without}
 use Rattle.graph.proofs.LevelLaws.{Around, around-begin, around-next, around-end}
 use Rattle.graph.proofs.around.Statement.{statement}
 use Rattle.graph.proofs.around.Tie as tie

@@ -6,10 +6,10 @@ use mathlib.Core.Path.{sym, _∙_}
 use native.Mathlib.Omega.{arith}
 use borrow.Author.Count.{below-more, below-none}
 use borrow.Author.Tests.{not-true, not-false}
-use Rattle.graph.specs.ConnectedLaws.{biConnected-without}
+use Rattle.graph.proofs.ConnectedLaws.{biConnected-without}
 use Rattle.graph.specs.Connected.{ConnectedWithout}
 use Rattle.graph.specs.Rows.{Edge}
-use Rattle.graph.specs.Decision.{says-yes, says-no}
+use Rattle.graph.proofs.Decision.{says-yes, says-no}
 use Rattle.graph.proofs.is_biconnected.Statement.{statement}
 use Rattle.graph.proofs.is_biconnected.Tie as tie
 

@@ -2,7 +2,7 @@
 -- Assumes nothing.
 use native.Mathlib.Omega.{arith}
 use borrow.Author.Needs.{needs}
-use Rattle.graph.specs.Decision.{says-no, says-same}
+use Rattle.graph.proofs.Decision.{says-no, says-same}
 use Rattle.graph.proofs.is_ring.Statement.{statement}
 use Rattle.graph.proofs.is_ring.Tie as tie
 

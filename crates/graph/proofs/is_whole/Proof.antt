@@ -2,7 +2,7 @@
 -- Assumes nothing.
 use mathlib.Core.Path.{refl}
 use borrow.Author.Needs.{needs}
-use Rattle.graph.specs.Decision.{says-yes}
+use Rattle.graph.proofs.Decision.{says-yes}
 use Rattle.graph.proofs.SearchLaws.{whole-nothing, whole-reached, empty-test}
 use Rattle.graph.proofs.is_whole.Statement.{statement}
 use Rattle.graph.proofs.is_whole.Tie as tie

@@ -3,8 +3,8 @@
 use Prim.Native.Nat.{_+_, _-_, _*_}
 use mathlib.Core.Path.{refl, _∙_}
 use native.Mathlib.Omega.{arith}
-use Rattle.moving.specs.JourneyLaws.{trip-none, trip-more, trip-append, fits-anew, fits-then, room-less, room-then}
-use Rattle.settling.specs.TableLaws.{table-went}
+use Rattle.moving.proofs.JourneyLaws.{trip-none, trip-more, trip-append, fits-anew, fits-then, room-less, room-then}
+use Rattle.settling.proofs.TableLaws.{table-went}
 use Rattle.handles.proofs.CycleLaws.{lane-floor, lane-order, stage-below, right-below}
 use Rattle.handles.proofs.PlaceLaws.{rack-there}
 use Rattle.handles.proofs.FetchLaws.{fails, fetch-bound, lane-four, region-below, fetch-reaches-beside, fetch-reaches-end, fetch-below, fetch-kept, fetch-kept-end, fetch-beside, fetch-already, fetch-cleared, fetch-place, fetch-held, fetch-carried}

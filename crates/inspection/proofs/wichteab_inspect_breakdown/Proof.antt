@@ -7,7 +7,7 @@ use Rattle.answers.specs.Answer.{accepted}
 use Rattle.order.specs.Order.{orderAnswer}
 use Rattle.order.specs.Verdict.{answerOf}
 use Rattle.order.specs.declared.Counts.{Counts}
-use Rattle.tables.specs.Accepted.{order-gave}
+use Rattle.tables.proofs.AcceptedLaws.{order-gave}
 use Rattle.inspection.proofs.ShownLaws.{short, order-refused, rows-right, not-found, small, found}
 use borrow.Author.Needs.{needs}
 use Rattle.inspection.proofs.wichteab_inspect_breakdown.Statement.{statement}

@@ -6,7 +6,7 @@ use native.Mathlib.Omega.{arith}
 use lib.ListN.{length}
 use Rattle.sets.specs.Sets.{Has}
 use Rattle.moving.specs.Journey.{row, Fits, Journey}
-use Rattle.moving.specs.JourneyLaws.{journey-none, journey-append, journey-more, fits-less, fits-then, fits-move}
+use Rattle.moving.proofs.JourneyLaws.{journey-none, journey-append, journey-more, fits-less, fits-then, fits-move}
 use Rattle.moving.proofs.BringLaws.{rounds, passed, in-all, Bringing, bring-some, bring-short, bring-small, bringing-begin, bring-joined, bring-reaches, bring-held, bringing-step, brought}
 use Rattle.moving.proofs.bring.Statement.{statement}
 use Rattle.moving.proofs.bring.Tie as tie

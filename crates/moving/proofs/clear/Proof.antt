@@ -2,7 +2,7 @@
 -- Assumes nothing.
 use Prim.Native.Nat.{_-_}
 use native.Mathlib.Omega.{arith}
-use Rattle.moving.specs.JourneyLaws.{journey-in-more, fits-less}
+use Rattle.moving.proofs.JourneyLaws.{journey-in-more, fits-less}
 use Rattle.moving.proofs.ClearLaws.{way-some, way-short, way-inside, way-small, way-distinct, way-end, way-held, way-joined, cleared}
 use Rattle.moving.proofs.clear.Statement.{statement}
 use Rattle.moving.proofs.clear.Tie as tie

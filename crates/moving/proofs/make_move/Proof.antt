@@ -2,7 +2,7 @@
 -- Assumes nothing.
 use mathlib.Core.Path.{refl}
 use borrow.Author.Needs.{needs}
-use Rattle.moving.specs.JourneyLaws.{moved-left, moved-entered, moved-others, moved-journey}
+use Rattle.moving.proofs.JourneyLaws.{moved-left, moved-entered, moved-others, moved-journey}
 use Rattle.moving.proofs.make_move.Statement.{statement}
 use Rattle.moving.proofs.make_move.Tie as tie
 

@@ -3,7 +3,7 @@
 use mathlib.Core.Path.{refl, sym, _∙_}
 use native.Mathlib.Omega.{arith}
 use borrow.Author.Needs.{needs}
-use Rattle.moving.specs.JourneyLaws.{journey-none, journey-more}
+use Rattle.moving.proofs.JourneyLaws.{journey-none, journey-more}
 use Rattle.moving.proofs.pass_on.Statement.{statement}
 use Rattle.moving.proofs.pass_on.Tie as tie
 

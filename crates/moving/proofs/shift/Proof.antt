@@ -5,7 +5,7 @@ use mathlib.Core.Path.{_≡_, refl, sym, ap, subst, _∙_}
 use native.Mathlib.Omega.{arith}
 use lib.ListN.{length}
 use Rattle.moving.specs.Journey.{row, Fits}
-use Rattle.moving.specs.JourneyLaws.{fits-less, fits-move}
+use Rattle.moving.proofs.JourneyLaws.{fits-less, fits-move}
 use Rattle.moving.proofs.ClearLaws.{Shifting, shifting-begin, shifting-held, shifting-vacant, shifting-step, shifting-end, Shifts, shifts-begin, shifts-step, shifts-end}
 use Rattle.moving.proofs.shift.Statement.{statement}
 use Rattle.moving.proofs.shift.Tie as tie

@@ -3,7 +3,7 @@
 use Prim.Native.Nat.{_-_}
 use native.Mathlib.Omega.{arith}
 use Rattle.moving.specs.Journey.{row}
-use Rattle.moving.specs.JourneyLaws.{journey-more}
+use Rattle.moving.proofs.JourneyLaws.{journey-more}
 use Rattle.moving.proofs.TurnLaws.{round-in, round-below, Underway, underway-first, underway-next, underway-last, underway-tail, underway-fits}
 use Rattle.moving.proofs.turn.Statement.{statement}
 use Rattle.moving.proofs.turn.Tie as tie

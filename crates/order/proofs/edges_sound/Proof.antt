@@ -2,7 +2,7 @@
 use Prim.Native.Nat.{_≤_, _-_, _*_, _+_}
 use native.Mathlib.Omega.{arith}
 use borrow.Author.Needs.{needs}
-use Rattle.field.specs.BitLaws.{field-lt}
+use Rattle.field.proofs.BitLaws.{field-lt}
 use Rattle.order.proofs.Edges.{Left, left-first, not-lower, not-below, not-after, left-next, left-none}
 use Rattle.order.proofs.edges_sound.Statement.{statement}
 use Rattle.order.proofs.edges_sound.Tie as tie

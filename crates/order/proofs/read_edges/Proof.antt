@@ -3,7 +3,7 @@
 use native.Mathlib.Omega.{arith}
 use borrow.Author.Tests.{not-true, not-false}
 use mathlib.Core.Path.{ap, sym, _∙_}
-use Rattle.answers.specs.AnswerLaws.{passUp-refused}
+use Rattle.answers.proofs.AnswerLaws.{passUp-refused}
 use Rattle.order.specs.Readers.{edgesAnswer}
 use Rattle.order.specs.Verdict.{answerOf}
 use Rattle.order.proofs.Layers.{head-gave, tail-there, tail-room, edges-wrong, edges-right}

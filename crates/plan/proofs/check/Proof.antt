@@ -5,7 +5,8 @@ use mathlib.Core.List.{[], _∷_}
 use Rattle.answers.specs.Answer.{accepted}
 use Rattle.order.specs.Order.{orderAnswer}
 use Rattle.order.specs.Verdict.{answerOf as orderAnswerOf}
-use Rattle.tables.specs.Accepted.{OrderGave, order-gave}
+use Rattle.tables.specs.Accepted.{OrderGave}
+use Rattle.tables.proofs.AcceptedLaws.{order-gave}
 use Rattle.plan.specs.Readers.{recordAnswer}
 use Rattle.plan.specs.Verdict.{answerOf}
 use Rattle.plan.proofs.Layers.{order-turned-down, record-turned-down, RecordGave, record-gave, plan-room, answer-is}

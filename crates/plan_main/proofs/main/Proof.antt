@@ -2,7 +2,7 @@
 use mathlib.Core.Path.{sym}
 use native.Mathlib.Omega.{arith}
 use lib.Seq.{length-take-le}
-use Rattle.field.specs.Writing.{wrote-within}
+use Rattle.field.proofs.WritingLaws.{wrote-within}
 use borrow.Author.Needs.{needs}
 use Rattle.plan_main.proofs.main.Statement.{statement}
 use Rattle.plan_main.proofs.main.Tie as tie

@@ -3,11 +3,11 @@ use Prim.Native.Nat.{ℕ}
 use mathlib.Core.Path.{_≡_, subst}
 use mathlib.Core.List.{List}
 use native.Mathlib.Omega.{arith}
-use Rattle.text.specs.Sizes.{refusal-fits}
+use Rattle.text.proofs.Sizes.{refusal-fits}
 use Rattle.planner.specs.declared.PlannerVerdict.{PlannerVerdict}
 use Rattle.planner.specs.Planner.{PlanMade, answerOf}
-use Rattle.planner.specs.PlannerLaws.{moves-few}
-use Rattle.plan_program.specs.PrintedLaws.{made-printed, refused-printed}
+use Rattle.planner.proofs.PlannerLaws.{moves-few}
+use Rattle.plan_program.proofs.PrintedLaws.{made-printed, refused-printed}
 use borrow.Author.Needs.{needs}
 use Rattle.plan_program.proofs.plan_program.Statement.{statement}
 use Rattle.plan_program.proofs.plan_program.Tie as tie

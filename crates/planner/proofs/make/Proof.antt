@@ -3,7 +3,7 @@ use mathlib.Core.Path.{ap, sym, _∙_}
 use mathlib.Core.List.{[]}
 use native.Mathlib.Omega.{arith}
 use Rattle.floor.specs.Verdict.{answerOf as floorAnswerOf}
-use Rattle.floor.specs.FloorLaws.{plannable}
+use Rattle.floor.proofs.FloorLaws.{plannable}
 use Rattle.planner.proofs.Making.{planner-refused, head-there, gave, square, cube, planner-short, room, few-moves, planner-made}
 use borrow.Author.Needs.{needs}
 use Rattle.planner.proofs.make.Statement.{statement}

@@ -2,7 +2,7 @@
 -- Assumes nothing.
 use Prim.Native.Nat.{_-_, _≤_}
 use native.Mathlib.Omega.{arith}
-use Rattle.graph.specs.Decision.{says-yes, says-no}
+use Rattle.graph.proofs.Decision.{says-yes, says-no}
 use Rattle.moving.specs.Journey.{row}
 use Rattle.planner.proofs.SameLaws.{Alike, alike-none, alike-next}
 use Rattle.planner.proofs.same_tables.Statement.{statement}

@@ -4,7 +4,7 @@ use Prim.Native.Nat.{ℕ, _-_, _*_}
 use native.Mathlib.Omega.{arith}
 use borrow.Author.Needs.{needs}
 use lib.ListN.{length-replicate}
-use Rattle.breakdown.specs.StageLaws.{breakdown-biConnected}
+use Rattle.breakdown.proofs.StageLaws.{breakdown-biConnected}
 use Rattle.moving.specs.Journey.{row}
 use Rattle.planning.proofs.SolveLaws.{apart, ring-laid, undoing, room-shift, room-settle, fits-back, trip-all}
 use Rattle.planning.proofs.solve.Statement.{statement}

@@ -4,8 +4,8 @@ use Prim.Native.Nat.{_-_}
 use mathlib.Core.Path.{sym, _∙_}
 use native.Mathlib.Omega.{arith}
 use borrow.Author.Needs.{needs}
-use Rattle.moving.specs.JourneyLaws.{journey-append, fits-less, fits-then}
-use Rattle.settling.specs.TableLaws.{table-went}
+use Rattle.moving.proofs.JourneyLaws.{journey-append, fits-less, fits-then}
+use Rattle.settling.proofs.TableLaws.{table-went}
 use Rattle.ring.proofs.RingLaws.{circle-on, circle-below, filled-same, ring-has, ring-below, ring-robust, ring-vacancy}
 use Rattle.ring.proofs.RingLaws.{ring-reaches-without, ring-reaches-last}
 use Rattle.ring.proofs.ExchangeLaws.{rack-at, next-brought, next-cleared, next-done}

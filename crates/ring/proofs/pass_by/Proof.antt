@@ -2,7 +2,7 @@
 -- Assumes nothing.
 use mathlib.Core.Path.{sym, _∙_}
 use borrow.Author.Needs.{needs}
-use Rattle.moving.specs.JourneyLaws.{journey-append, fits-move}
+use Rattle.moving.proofs.JourneyLaws.{journey-append, fits-move}
 use Rattle.moving.specs.Journey.{row}
 use Rattle.ring.proofs.MoveLaws.{moved-by}
 use Rattle.ring.proofs.pass_by.Statement.{statement}

@@ -6,7 +6,7 @@ use native.Mathlib.Omega.{arith}
 use borrow.Author.Needs.{needs}
 use Rattle.moving.specs.Journey.{row}
 use Rattle.ring.specs.From.{placeFrom, placeOf}
-use Rattle.ring.specs.FromLaws.{placeFrom-here, placeFrom-next, placeFrom-end}
+use Rattle.ring.proofs.FromLaws.{placeFrom-here, placeFrom-next, placeFrom-end}
 use Rattle.ring.proofs.place_on.Statement.{statement}
 use Rattle.ring.proofs.place_on.Tie as tie
 

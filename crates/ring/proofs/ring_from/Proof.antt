@@ -8,7 +8,7 @@ use native.Mathlib.Omega.{arith}
 use lib.ListN.{replicate}
 use Rattle.moving.specs.Journey.{row}
 use Rattle.ring.specs.From.{round, placeOf}
-use Rattle.ring.specs.FromLaws.{placeOf-in, laid-none, laid-next}
+use Rattle.ring.proofs.FromLaws.{placeOf-in, laid-none, laid-next}
 use Rattle.ring.proofs.ring_from.Statement.{statement}
 use Rattle.ring.proofs.ring_from.Tie as tie
 

@@ -5,7 +5,7 @@ use mathlib.Core.Path.{_∙_}
 use native.Mathlib.Omega.{arith}
 use lib.ListN.{length-replicate}
 use Rattle.moving.specs.Journey.{row}
-use Rattle.moving.specs.JourneyLaws.{trip-more, trip-append, space-room, space-then, space-less}
+use Rattle.moving.proofs.JourneyLaws.{trip-more, trip-append, space-room, space-then, space-less}
 use Rattle.ring.proofs.SettleLaws.{Settling, settling-begin, settling-room, settling-next, settling-end, in-all}
 use Rattle.ring.proofs.settle_ring.Statement.{statement}
 use Rattle.ring.proofs.settle_ring.Tie as tie

@@ -2,9 +2,9 @@
 use Prim.Native.Nat.{_≤_, _-_, _+_, _/_}
 use native.Mathlib.Omega.{arith}
 use Rattle.field.specs.Bits.{pairs}
-use Rattle.field.specs.RecordLaws.{length-pairs}
+use Rattle.field.proofs.RecordLaws.{length-pairs}
 use Rattle.scheduling.specs.Filling.{latest}
-use Rattle.scheduling.specs.FillingLaws.{latest-few}
+use Rattle.scheduling.proofs.FillingLaws.{latest-few}
 use Rattle.scheduling.proofs.Windowing.{Known, known-first, known-later, known-on, known-last, WroteWindows, windows-none, windows-length, windows-room, windows-more, windows-all}
 use Rattle.scheduling.proofs.make_steps.Statement.{statement}
 use Rattle.scheduling.proofs.make_steps.Tie as tie

@@ -2,7 +2,7 @@
 use native.Mathlib.Omega.{arith}
 use borrow.Author.Needs.{needs}
 use Rattle.field.specs.Bits.{pairs}
-use Rattle.field.specs.RecordLaws.{pairs-lt}
+use Rattle.field.proofs.RecordLaws.{pairs-lt}
 use Rattle.scheduling.specs.Filling.{emptyWindow}
 use Rattle.scheduling.proofs.Leaving.{left-empty}
 use Rattle.scheduling.proofs.Windowing.{filled-few, filled-fit, filled-room, filled-wrote}

@@ -6,7 +6,7 @@ use borrow.Author.Needs.{needs}
 use lib.Count.{ones}
 use lib.ListN.{length-set}
 use mathlib.Core.Path.{_≡_, sym, _∙_}
-use Rattle.sets.specs.CountLaws.{ones-without}
+use Rattle.sets.proofs.CountLaws.{ones-without}
 use Rattle.scheduling.proofs.Writing.{part-room, Rest, rest-first, rest-small, rest-some, rest-room, rest-few, rest-next, rest-last}
 use Rattle.scheduling.proofs.Writing.{writing-last, count-at-most, at-inside, length-same}
 use Rattle.scheduling.proofs.write_step.Statement.{statement}

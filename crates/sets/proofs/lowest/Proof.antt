@@ -1,7 +1,7 @@
 -- `sets::lowest` meets its contract. Assumes nothing.
 use native.Mathlib.Omega.{arith}
 use lib.Count.{trailing-le}
-use Rattle.sets.specs.SetLaws.{trailing-first}
+use Rattle.sets.proofs.SetLaws.{trailing-first}
 use Rattle.sets.proofs.lowest.Statement.{statement}
 use Rattle.sets.proofs.lowest.Tie as tie
 

@@ -1,6 +1,6 @@
 -- `text::put_byte` meets its contract. Assumes nothing.
 use native.Mathlib.Omega.{arith}
-use Rattle.field.specs.Writing.{wrote-byte}
+use Rattle.field.proofs.WritingLaws.{wrote-byte}
 use borrow.Author.Needs.{needs}
 use Rattle.text.proofs.put_byte.Statement.{statement}
 use Rattle.text.proofs.put_byte.Tie as tie

@@ -1,6 +1,6 @@
 -- `text::put_move` meets its contract: its parts stand one behind another. Assumes nothing.
-use Rattle.field.specs.Writing.{fits-front, fits-next, fits-as, wrote-then, wrote-as}
-use Rattle.text.specs.TextLaws.{space-is, arrow-is}
+use Rattle.field.proofs.WritingLaws.{fits-front, fits-next, fits-as, wrote-then, wrote-as}
+use Rattle.text.proofs.TextLaws.{space-is, arrow-is}
 use Rattle.text.specs.Text.{moveText}
 use borrow.Author.Needs.{needs}
 use Rattle.text.proofs.put_move.Statement.{statement}

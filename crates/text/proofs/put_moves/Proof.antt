@@ -3,7 +3,7 @@ use Prim.Native.Nat.{_≤_, _-_, _+_, _*_}
 use native.Mathlib.Omega.{arith}
 use Rattle.field.specs.Bits.{pairs}
 use Rattle.text.specs.Text.{moveText, movesText}
-use Rattle.field.specs.Writing.{Left}
+use Rattle.field.proofs.WritingLaws.{Left}
 use Rattle.text.proofs.Loops.{next-fits, next-left, all-wrote, moves-first, moves-next, moves-none}
 use Rattle.text.proofs.put_moves.Statement.{statement}
 use Rattle.text.proofs.put_moves.Tie as tie

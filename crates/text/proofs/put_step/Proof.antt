@@ -1,10 +1,10 @@
 -- `text::put_step` meets its contract: its parts stand one behind another. Assumes nothing.
 use native.Mathlib.Omega.{arith}
 use lib.ListN.{getD}
-use Rattle.timetable.specs.StepLaws.{stepLength-some}
+use Rattle.timetable.proofs.StepLaws.{stepLength-some}
 use Rattle.text.specs.Text.{stepLine}
-use Rattle.text.specs.TextLaws.{newline-is}
-use Rattle.field.specs.Writing.{fits-front, fits-next, fits-as, wrote-then, wrote-as}
+use Rattle.text.proofs.TextLaws.{newline-is}
+use Rattle.field.proofs.WritingLaws.{fits-front, fits-next, fits-as, wrote-then, wrote-as}
 use Rattle.text.proofs.Loops.{part-room, part-moves}
 use borrow.Author.Needs.{needs}
 use Rattle.text.proofs.put_step.Statement.{statement}

@@ -5,9 +5,9 @@ use native.Mathlib.Omega.{arith}
 use borrow.Author.Needs.{needs}
 use lib.ListN.{take, drop}
 use Rattle.timetable.specs.Timetable.{stepMoves, stepsOf}
-use Rattle.timetable.specs.ReadingLaws.{Stands, stands-first, stands-room}
+use Rattle.timetable.proofs.ReadingLaws.{Stands, stands-first, stands-room}
 use Rattle.text.specs.Text.{stepLine, stepLines}
-use Rattle.field.specs.Writing.{Left, left-first}
+use Rattle.field.proofs.WritingLaws.{Left, left-first}
 use Rattle.text.proofs.Loops.{next-fits, next-left, all-wrote, cut-ends, cut-length, lines-next, stands-after, lines-none}
 use Rattle.text.proofs.put_steps.Statement.{statement}
 use Rattle.text.proofs.put_steps.Tie as tie

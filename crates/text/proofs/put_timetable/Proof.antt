@@ -2,7 +2,7 @@
 use mathlib.Core.Path.{ap, sym, _∙_}
 use Rattle.timetable.specs.Reading.{answerOfReading}
 use Rattle.text.specs.Text.{timetableText}
-use Rattle.field.specs.Writing.{fits-front, fits-next, fits-as, wrote-then, wrote-as}
+use Rattle.field.proofs.WritingLaws.{fits-front, fits-next, fits-as, wrote-then, wrote-as}
 use Rattle.text.proofs.Counts.{not-refused, steps-are, line-is}
 use borrow.Author.Needs.{needs}
 use Rattle.text.proofs.put_timetable.Statement.{statement}

@@ -6,7 +6,7 @@ use native.Mathlib.Omega.{arith}
 use lib.ListN.{length, take, length-append}
 use lib.Seq.{take-at}
 use Rattle.answers.specs.Family.{familyWord, familyBytes}
-use Rattle.field.specs.Writing.{fits-as, wrote-as}
+use Rattle.field.proofs.WritingLaws.{fits-as, wrote-as}
 use borrow.Author.Needs.{needs}
 use Rattle.text.proofs.put_word.Statement.{statement}
 use Rattle.text.proofs.put_word.Tie as tie

@@ -4,7 +4,7 @@ use native.Mathlib.Omega.{arith}
 use mathlib.Core.Path.{ap, sym, subst, _∙_}
 use lib.ListN.{length, replicate, length-replicate}
 use lib.Seq.{length-take-le}
-use Rattle.field.specs.Writing.{wrote-as}
+use Rattle.field.proofs.WritingLaws.{wrote-as}
 use Rattle.scheduling.specs.Maker.{answerOf}
 use Rattle.text.proofs.Program.{end-within, order-is, plan-is, refused-text, end-fits, made-packed, made-fits, made-text}
 use borrow.Author.Needs.{needs}

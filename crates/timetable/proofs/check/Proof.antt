@@ -5,7 +5,8 @@ use mathlib.Core.List.{[], _∷_}
 use Rattle.answers.specs.Answer.{accepted}
 use Rattle.order.specs.Order.{orderAnswer}
 use Rattle.order.specs.Verdict.{answerOf as orderAnswerOf}
-use Rattle.tables.specs.Accepted.{OrderGave, order-gave}
+use Rattle.tables.specs.Accepted.{OrderGave}
+use Rattle.tables.proofs.AcceptedLaws.{order-gave}
 use Rattle.timetable.specs.Reading.{readingAnswer, answerOfReading}
 use Rattle.timetable.proofs.Layers.{order-turned-down, reading-turned-down, ReadingGave, reading-told, answer-is}
 use borrow.Author.Needs.{needs}

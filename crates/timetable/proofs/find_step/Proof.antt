@@ -2,7 +2,7 @@
 use mathlib.Core.Path.{ap, sym, _∙_}
 use Rattle.timetable.specs.Reading.{answerOfReading}
 use Rattle.timetable.proofs.StepReader.{not-found, found}
-use Rattle.timetable.specs.HandedOut.{number-gave}
+use Rattle.timetable.proofs.HandedOut.{number-gave}
 use borrow.Author.Needs.{needs}
 use Rattle.timetable.proofs.find_step.Statement.{statement}
 use Rattle.timetable.proofs.find_step.Tie as tie

@@ -2,7 +2,7 @@
 use Prim.Native.Nat.{_≤_, _-_}
 use native.Mathlib.Omega.{arith}
 use borrow.Author.Needs.{needs}
-use Rattle.timetable.specs.ReadingLaws.{Stands, stands-first, stands-room}
+use Rattle.timetable.proofs.ReadingLaws.{Stands, stands-first, stands-room}
 use Rattle.timetable.proofs.StepReader.{stands-on, stands-there}
 use Rattle.timetable.proofs.offset_of.Statement.{statement}
 use Rattle.timetable.proofs.offset_of.Tie as tie

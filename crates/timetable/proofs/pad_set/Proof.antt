@@ -1,7 +1,7 @@
 -- `timetable::pad_set` meets its contract: the pad is read from the part that begins at the step's second byte. Assumes nothing.
 use native.Mathlib.Omega.{arith}
 use lib.ListN.{getD}
-use Rattle.timetable.specs.StepLaws.{stepLength-some}
+use Rattle.timetable.proofs.StepLaws.{stepLength-some}
 use Rattle.timetable.proofs.Reading.{pad-room, pad-there, pad-clear}
 use borrow.Author.Needs.{needs}
 use Rattle.timetable.proofs.pad_set.Statement.{statement}

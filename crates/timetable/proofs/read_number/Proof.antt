@@ -2,7 +2,7 @@
 -- Assumes nothing.
 use native.Mathlib.Omega.{arith}
 use mathlib.Core.Path.{ap, sym, _∙_}
-use Rattle.answers.specs.AnswerLaws.{passUp-refused}
+use Rattle.answers.proofs.AnswerLaws.{passUp-refused}
 use Rattle.timetable.specs.Reading.{answerOfReading, numberAnswer}
 use Rattle.timetable.proofs.StepReader.{step-zero, step-above, step-there}
 use borrow.Author.Needs.{needs}

@@ -3,8 +3,8 @@ use Prim.Native.Nat.{_≤_, _-_}
 use native.Mathlib.Omega.{arith}
 use borrow.Author.Needs.{needs}
 use borrow.Author.Tests.{not-true, not-false}
-use Rattle.timetable.specs.StepLaws.{cut-length}
-use Rattle.timetable.specs.ReadingLaws.{stands-room}
+use Rattle.timetable.proofs.StepLaws.{cut-length}
+use Rattle.timetable.proofs.ReadingLaws.{stands-room}
 use Rattle.timetable.proofs.Turns.{StepsLeft, steps-first, steps-stop, steps-on, steps-end}
 use Rattle.timetable.proofs.replay.Statement.{statement}
 use Rattle.timetable.proofs.replay.Tie as tie

@@ -3,7 +3,7 @@ use mathlib.Core.Path.{ap, _∙_}
 use native.Mathlib.Omega.{arith}
 use lib.ListN.{getD}
 use Rattle.trains.specs.StepOn.{legalStepOn, ranOn}
-use Rattle.timetable.specs.StepLaws.{stepLength-some}
+use Rattle.timetable.proofs.StepLaws.{stepLength-some}
 use Rattle.timetable.proofs.Turns.{run-room, run-is}
 use borrow.Author.Needs.{needs}
 use Rattle.timetable.proofs.run_part.Statement.{statement}

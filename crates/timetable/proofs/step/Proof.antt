@@ -3,7 +3,7 @@ use native.Mathlib.Omega.{arith}
 use mathlib.Core.Path.{sym, ap, _∙_}
 use Rattle.timetable.specs.Reading.{answerOfStep}
 use Rattle.timetable.proofs.StepReader.{part-given}
-use Rattle.timetable.specs.HandedOut.{given-none, none-place, given-place, end-within}
+use Rattle.timetable.proofs.HandedOut.{given-none, none-place, given-place, end-within}
 use borrow.Author.Needs.{needs}
 use Rattle.timetable.proofs.step.Statement.{statement}
 use Rattle.timetable.proofs.step.Tie as tie

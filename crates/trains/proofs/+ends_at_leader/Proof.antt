@@ -4,7 +4,7 @@ use mathlib.Core.Path.{sym, _∙_, subst}
 use native.Mathlib.Omega.{arith}
 use borrow.Author.Tests.{not-true, not-false}
 use lib.ListN.{set}
-use Rattle.trains.specs.Chains.{unvisited}
+use Rattle.trains.proofs.ChainsLaws.{unvisited}
 use Rattle.trains.proofs.Following.{chain-leads, chain-ring, chain-known, chain-stays, chain-on, chain-falls, chain-failed, chain-ended}
 use Prim.Native.Nat.{ℕ, _<_}
 use borrow.Fn.Kinds.{In}

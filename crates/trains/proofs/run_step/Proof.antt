@@ -5,7 +5,7 @@ use mathlib.Core.List.{List}
 use native.Mathlib.Omega.{arith}
 use borrow.Author.Tests.{not-true, not-false}
 use Rattle.field.specs.Bits.{pairs}
-use Rattle.field.specs.RecordLaws.{pairs-lt}
+use Rattle.field.proofs.RecordLaws.{pairs-lt}
 use Rattle.tables.specs.Simulation.{Each}
 use Rattle.trains.specs.StepOn.{allLed, stepOn}
 use Rattle.trains.specs.Chains.{Targets, Taking}

@@ -1,0 +1,173 @@
+-- How large the numbers of the answers are, for every input: they fit the fields of the C interface.
+--
+--     Sized Fits a        the answer a is accepted with counts that fit, or refused with a number from 1 to 255 at a place below 2³²
+--     NoCounts, OneCount, StepsMoves, OffsetLength    the counts that fit, by function
+--     refuse-sized, passUp-sized, judged-sized        an answer made of sized answers is sized
+--     misplaced-small, stopped-small                  a misplaced rack and the place where a replay stops are at most one above the list
+--     order-sized, floor-sized, planner-sized, made-sized, plan-sized, timetable-sized, maker-sized, step-sized
+--                         so are the answers of each function
+-- Assumes nothing.
+use Prim.Native.Nat.{ℕ, suc, _+_, _*_, _^_, _≤_, _<_}
+use mathlib.Core.Path.{_≡_, refl, sym, ap, _∙_, subst}
+use mathlib.Core.Bool.{Bool, true, false, not, _||_}
+use mathlib.Core.List.{List, [], _∷_}
+use native.Mathlib.Omega.{arith}
+use borrow.Author.Tests.{ltb-false}
+use lib.Dec.{T, ltb, eqb, lit<}
+use lib.ListN.{length, drop, length-append, length-map}
+use Rattle.answers.specs.Answer.{Answer, accepted, refused, refuse, passUp}
+use Rattle.answers.proofs.AnswerLaws.{passUp-accepted}
+use Rattle.field.proofs.BitLaws.{field-lt}
+use Rattle.field.proofs.RecordLaws.{length-positions, length-pairs}
+use Rattle.field.proofs.UnitLaws.{or-right}
+use Rattle.order.specs.Order.{positionCount, edgeCount, rackCount, floorOf, startsOf, goalsOf, orderOf, wrongLength, wrongPositions, paddingSet, wrongEdges, wrongRacks, orderAnswer}
+use Rattle.motion.specs.Arrangement.{Arrangement}
+use Rattle.motion.specs.Judgement.{misplaced, judged}
+use Rattle.motion.specs.Replay.{Replayed, ended, stopped, replayMoves, replaySteps}
+use Rattle.motion.proofs.Test.{cond-either}
+use Rattle.motion.proofs.Lawful.{Stops, replayMoves-stopped, replaySteps-stopped}
+use Rattle.floor.specs.FloorAnswer.{biConnected?, ring?, holds, floorAnswer}
+use Rattle.plan.specs.Plan.{moveCount, planMoves, wrongPlanLength, planPaddingSet, planAnswer}
+use Rattle.planner.specs.Planner.{refusals, PlanMade, turned-down, made}
+use Rattle.planner.proofs.PlannerLaws.{moves-few}
+use Rattle.timetable.specs.Timetable.{stepCount, partsOf, stepsOf, stepMoves, wrongTimetableLength, timetablePaddingSet, timetableAnswer, stepAnswer}
+use Rattle.timetable.proofs.StepLaws.{length-parts}
+use Rattle.timetable.specs.ByteString.{ByteString}
+use Rattle.timetable.proofs.SizeLaws.{count-small, total-small, offset-small, length-small}
+use Rattle.scheduling.specs.Maker.{makerAnswer}
+use Rattle.scheduling.proofs.SizeLaws.{steps-small}
+
+pub data Sized (Fits : List ℕ → Type 0) : Answer → Type 0 where
+  accepts : {v : List ℕ} → Fits v → Sized Fits (accepted v)
+  refuses : {number place : ℕ} → 0 < number → number < 256 → place < 2 ^ 32 → Sized Fits (refused number place)
+
+pub data NoCounts : List ℕ → Type 0 where
+  no-counts : NoCounts []
+
+pub data OneCount : List ℕ → Type 0 where
+  one-count : {k : ℕ} → k < 2 ^ 22 → OneCount (k ∷ [])
+
+pub data StepsMoves : List ℕ → Type 0 where
+  steps-moves : {steps moves : ℕ} → steps < 2 ^ 22 → moves < 2 ^ 30 → StepsMoves (steps ∷ moves ∷ [])
+
+pub data OffsetLength : List ℕ → Type 0 where
+  offset-length : {at n : ℕ} → at < 2 ^ 31 → n ≤ 384 → OffsetLength (at ∷ n ∷ [])
+
+-- whatever the counts are
+abbrev Any : List ℕ → Type 0
+Any v = Unit {0}
+
+refusal-sized : {Fits Fits′ : List ℕ → Type 0} {number place : ℕ} → Sized Fits (refused number place) → Sized Fits′ (refused number place)
+refusal-sized (refuses some few near) = refuses some few near
+
+pub passUp-sized : {Fits Fits′ : List ℕ → Type 0} (b a : Answer) → Sized Fits b → ((v : List ℕ) → b ≡ accepted v → Sized Fits′ a)
+    → Sized Fits′ (passUp b a)
+passUp-sized (accepted v) a below rest = rest v refl
+passUp-sized (refused number place) a below rest = refusal-sized below
+
+pub misplaced-small : (r : ℕ) (A G : Arrangement) → misplaced r A G ≤ r + length G
+unfolding misplaced
+misplaced-small r [] G = omega arith
+misplaced-small r (p ∷ A) [] = omega arith
+misplaced-small r (p ∷ A) (g ∷ G) =
+    cond-either (λ (x : ℕ). x ≤ r + length (g ∷ G)) (eqb p g) (omega (arith, misplaced-small (suc r) A G)) (omega arith)
+
+pub stopped-small : {X : Type 0} {legal : Arrangement → X → Bool} {next : Arrangement → X → Arrangement} {i : ℕ} {A : Arrangement}
+    {xs : List X} {j : ℕ} → Stops legal next i A xs j → j ≤ i + length xs
+stopped-small s = omega (arith, s .number, ap length (s .parts), length-append (s .before) (s .bad ∷ s .rest))
+
+module _ {Fits : List ℕ → Type 0} where
+  pub refuse-sized : (t : Bool) (number place : ℕ) (a : Answer) → T (ltb 0 number) → T (ltb number 256) → place < 2 ^ 32
+      → (t ≡ false → Sized Fits a) → Sized Fits (refuse t number place a)
+  refuse-sized true number place a some few near rest = refuses (lit< some) (lit< few) near
+  refuse-sized false number place a some few near rest = rest refl
+
+  pub judged-sized : (illegal off : ℕ) (G v : List ℕ) (x : Replayed) → T (ltb 0 illegal) → T (ltb illegal 256) → T (ltb 0 off)
+      → T (ltb off 256) → length G < 128 → ((j : ℕ) → x ≡ stopped j → j < 2 ^ 32) → Fits v → Sized Fits (judged illegal off G v x)
+  unfolding judged
+  judged-sized illegal off G v (stopped j) some few some′ few′ goals near fits = refuses (lit< some) (lit< few) (near j refl)
+  judged-sized illegal off G v (ended A) some few some′ few′ goals near fits =
+      refuse-sized (not (eqb (misplaced 1 A G) 0)) off (misplaced 1 A G) (accepted v) some′ few′ (omega (arith, misplaced-small 1 A G))
+      (λ none. accepts fits)
+
+pub order-sized : (o : List ℕ) → Sized Any (orderAnswer o)
+unfolding orderAnswer
+order-sized o =
+    refuse-sized (wrongLength o) 10 0 _ tt tt (lit< tt)
+    (λ _. refuse-sized (wrongPositions o) 11 0 _ tt tt (lit< tt)
+    (λ _. refuse-sized (paddingSet o) 12 0 _ tt tt (lit< tt)
+    (λ _. refuse-sized (wrongEdges (floorOf o)) 13 0 _ tt tt (lit< tt)
+    (λ _. refuse-sized (wrongRacks (orderOf o)) 14 0 _ tt tt (lit< tt)
+    (λ _. accepts tt)))))
+
+pub floor-sized : (o : List ℕ) → Sized NoCounts (floorAnswer o)
+unfolding floorAnswer
+floor-sized o =
+    passUp-sized (orderAnswer o) _ (order-sized o)
+    (λ v e. refuse-sized (ltb (positionCount o) (rackCount o + 2)) 20 0 _ tt tt (lit< tt)
+    (λ _. refuse-sized (not (holds (biConnected? (floorOf o)))) 21 0 _ tt tt (lit< tt)
+    (λ _. refuse-sized (holds (ring? (floorOf o))) 22 0 _ tt tt (lit< tt)
+    (λ _. accepts no-counts))))
+
+pub planner-sized : (o : List ℕ) (b : ℕ) → Sized NoCounts (refusals o b)
+unfolding refusals
+planner-sized o b =
+    passUp-sized (floorAnswer o) _ (floor-sized o)
+    (λ v e. refuse-sized (ltb b (12 * (positionCount o * (positionCount o * positionCount o)) + 3)) 23 0 _ tt tt (lit< tt)
+    (λ _. accepts no-counts))
+
+pub made-sized : {o B B′ : List ℕ} {a : Answer} → PlanMade o B a B′ → Sized OneCount a
+made-sized {o} {B} (turned-down e) = refusal-sized (subst (λ (a : Answer). Sized NoCounts a) e (planner-sized o (length B)))
+made-sized {o} {B} (made ms e solves) = accepts (one-count (moves-few {B = B} (made ms e solves)))
+
+goals-few : (o : List ℕ) → length (goalsOf o) < 128
+unfolding goalsOf rackCount
+goals-few o = omega (arith, length-positions o (24 + 12 * edgeCount o + 6 * rackCount o) (rackCount o), field-lt o 15 7)
+
+count-few : (p : List ℕ) → moveCount p < 2 ^ 22
+unfolding moveCount
+count-few p = field-lt p 0 22
+
+moves-listed : (p : List ℕ) → length (planMoves p) ≡ moveCount p
+unfolding planMoves
+moves-listed p = length-pairs p 24 (moveCount p)
+
+steps-listed : (s : List ℕ) → length (stepsOf s) ≡ stepCount s
+unfolding stepsOf partsOf
+steps-listed s = length-map (partsOf s) stepMoves ∙ length-parts (stepCount s) (drop 3 s)
+
+pub plan-sized : (o p : List ℕ) → Sized OneCount (planAnswer o p)
+unfolding planAnswer
+plan-sized o p =
+    passUp-sized (orderAnswer o) _ (order-sized o)
+    (λ v e. refuse-sized (wrongPlanLength p) 30 0 _ tt tt (lit< tt)
+    (λ _. refuse-sized (planPaddingSet p) 31 0 _ tt tt (lit< tt)
+    (λ _. judged-sized 32 33 (goalsOf o) _ (replayMoves (floorOf o) (startsOf o) (planMoves p)) tt tt tt tt (goals-few o)
+    (λ j e. omega (arith, stopped-small (replayMoves-stopped (floorOf o) (startsOf o) (planMoves p) j .0 e), moves-listed p, count-few p))
+    (one-count (count-few p)))))
+
+pub timetable-sized : (o s : List ℕ) → ByteString s → Sized StepsMoves (timetableAnswer o s)
+unfolding timetableAnswer
+timetable-sized o s b =
+    passUp-sized (orderAnswer o) _ (order-sized o)
+    (λ v e. refuse-sized (wrongTimetableLength s) 40 0 _ tt tt (lit< tt)
+    (λ _. refuse-sized (timetablePaddingSet s) 41 0 _ tt tt (lit< tt)
+    (λ _. judged-sized 42 43 (goalsOf o) _ (replaySteps (floorOf o) (startsOf o) (stepsOf s)) tt tt tt tt (goals-few o)
+    (λ j e. omega (arith, stopped-small (replaySteps-stopped (floorOf o) (startsOf o) (stepsOf s) j .0 e), steps-listed s, count-small s))
+    (steps-moves (count-small s) (total-small s b)))))
+
+pub maker-sized : (o p : List ℕ) (n : ℕ) → Sized OneCount (makerAnswer o p n)
+unfolding makerAnswer
+maker-sized o p n =
+    passUp-sized (planAnswer o p) _ (plan-sized o p)
+    (λ v e. refuse-sized (ltb n (3 * moveCount p + 3)) 44 0 _ tt tt (lit< tt)
+    (λ room. accepts (one-count (steps-small o p n _ (sym (passUp-accepted (planAnswer o p) _ v e ∙ rw room refl))))))
+
+pub step-sized : (s : List ℕ) (i : ℕ) → ByteString s → Sized OffsetLength (stepAnswer s i)
+unfolding stepAnswer
+step-sized s i b =
+    refuse-sized (wrongTimetableLength s) 40 0 _ tt tt (lit< tt)
+    (λ _. refuse-sized (timetablePaddingSet s) 41 0 _ tt tt (lit< tt)
+    (λ _. refuse-sized (eqb i 0 || ltb (stepCount s) i) 45 0 _ tt tt (lit< tt)
+    (λ e. let few = ltb-false (stepCount s) i (or-right (eqb i 0) (ltb (stepCount s) i) e) in
+    accepts (offset-length (offset-small s b i few) (length-small s b i)))))

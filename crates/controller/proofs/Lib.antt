@@ -1,0 +1,2 @@
+pub mod AnswerSizes
+pub mod PackedLaws

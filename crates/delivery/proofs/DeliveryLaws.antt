@@ -1,0 +1,180 @@
+-- Demand 3, from what the three calls answer and leave.
+--
+--     plan-within        a plan just written ends within its buffer
+--     length-within      so does the timetable that is found in a buffer
+--     plan-alone         the plan just written, alone
+--     timetable-alone    the timetable just made, alone
+--     delivered          demand 3
+--     callable           moves that solve an order give answers of the three calls: what they promise can be met
+-- Assumes nothing.
+use Prim.Native.Nat.{ℕ, _+_, _*_, _≤_}
+use mathlib.Core.Path.{_≡_, refl, sym, ap, _∙_}
+use mathlib.Core.List.{List, [], _∷_, _++_}
+use native.Mathlib.Omega.{arith}
+use native.Mathlib.Decide.{decLe}
+use native.Mathlib.Nat.{lt-of-not-le}
+use borrow.Author.Tests.{le-ltb}
+use lib.ListN.{length, take, drop, length-append}
+use lib.Seq.{take-at}
+use Rattle.answers.specs.Answer.{Answer, accepted, refused}
+use Rattle.answers.proofs.AnswerLaws.{passUp-accepted}
+use Rattle.field.specs.Units.{unitsLength}
+use Rattle.field.proofs.UnitLaws.{fitting}
+use Rattle.field.specs.Writing.{written}
+use Rattle.field.proofs.WritingLaws.{written-front}
+use Rattle.order.specs.Order.{positionCount, startsOf}
+use Rattle.plan.specs.Plan.{planAnswer, planRecord, planMoves, moveCount, wrongPlanLength}
+use Rattle.timetable.specs.Timetable.{timetableAnswer, timetableRecord}
+use Rattle.timetable.proofs.TimetableRecord.{record-well-packed}
+use Rattle.timetable.specs.RecordLength.{wholeTimetableLength}
+use Rattle.timetable.proofs.RecordLengthLaws.{timetable-length-found}
+use Rattle.scheduling.specs.Making.{timed, greatest}
+use Rattle.scheduling.specs.Maker.{madeOf, makerAnswer, bufferAfter, Timetabled}
+use Rattle.scheduling.proofs.MakerLaws.{made-packable, maker-record}
+use Rattle.floor.specs.Plannable.{Plannable}
+use Rattle.floor.proofs.FloorLaws.{plannable-is}
+use Rattle.planner.specs.Moves.{Solves}
+use Rattle.planner.specs.Planner.{refusals, PlanMade, turned-down, made}
+use Rattle.planner.proofs.PlannerLaws.{unrefused, packed, plan-accepted}
+use Rattle.delivery.specs.Delivery.{Call, answered, Answers, planLength, planAlone, timetableAlone, planRoom, Called, unplanned, untimed, checked, Front, Timed, Delivered, Delivers}
+
+never : {number place : ℕ} {v : List ℕ} → accepted v ≡ refused number place → ⊥
+never e = let z : _≡_ {A = ℕ} 0 1 = cc in omega arith
+
+-- none of the planner's refusals applies
+none-refuses : (o P : List ℕ) → Plannable o → planRoom o ≤ length P → refusals o (length P) ≡ accepted []
+unfolding refusals
+none-refuses o P can room =
+    let n = positionCount o in
+    rw (plannable-is o can, le-ltb (length P) (12 * (n * (n * n)) + 3) room) refl
+
+-- the plan of moves that solve an order which can be planned
+module _ (o : List ℕ) (can : Plannable o) (ms : List (ℕ × ℕ)) (solves : Solves o (positionCount o) ms) (P : List ℕ) where
+  plan-long : length (planRecord ms) ≡ planLength (length ms)
+  unfolding planLength unitsLength wrongPlanLength
+  plan-long =
+      let right = packed o can ms solves in
+      fitting (planRecord ms) (moveCount (planRecord ms)) (right .length-right) .length-is
+      ∙ ap (λ (k : ℕ). unitsLength k) (right .count-is)
+
+  written-within : planLength (length ms) ≤ length (written P 0 (planRecord ms))
+  written-within =
+      omega (arith, plan-long, ap length (written-front P (planRecord ms)), length-append (planRecord ms) (drop (length (planRecord ms)) P))
+
+  plan-alone : planAlone (length ms) (written P 0 (planRecord ms)) ≡ planRecord ms
+  unfolding planAlone
+  plan-alone =
+      ap (take (planLength (length ms))) (written-front P (planRecord ms))
+      ∙ take-at (planRecord ms) (drop (length (planRecord ms)) P) (planLength (length ms)) plan-long
+
+  plan-stands : planRoom o ≤ length P → Front (planRecord ms) P (written P 0 (planRecord ms))
+  unfolding planLength unitsLength
+  plan-stands room =
+      let most = solves .few in
+      record { fits = omega (arith, plan-long); is = written-front P (planRecord ms) }
+
+pub plan-within : {o P P′ : List ℕ} {k : ℕ} → PlanMade o P (accepted (k ∷ [])) P′ → planLength k ≤ length P′
+plan-within {o} {P} (made ms right solves) = written-within o (unrefused o (length P) right) ms solves P
+
+pub length-within : (T : List ℕ) → wholeTimetableLength T ≤ length T
+length-within T = elim (decLe 1 (wholeTimetableLength T)) [
+  | yes some ↦ timetable-length-found T .some some .0
+  | no none ↦ omega (arith, lt-of-not-le none)
+]
+
+-- the maker and the checker on an accepted plan
+module _ (o p : List ℕ) (k : ℕ) (right : planAnswer o p ≡ accepted (k ∷ [])) (count : moveCount p ≡ k)
+    (T : List ℕ) (room : 3 * k + 3 ≤ length T) where
+  answer : makerAnswer o p (length T) ≡ accepted (greatest (timed (startsOf o) [] (planMoves p)) ∷ [])
+  unfolding makerAnswer
+  answer = passUp-accepted (planAnswer o p) _ (k ∷ []) right ∙ rw (count, le-ltb (length T) (3 * k + 3) room) refl
+
+  left : (bufferAfter o p T ≡ timetableRecord (madeOf o p) ++ drop (length (timetableRecord (madeOf o p))) T) × Timetabled o p
+  left = maker-record o p T _ answer
+
+  module _ (T′ : List ℕ) (e : T′ ≡ bufferAfter o p T) where
+    timetable-alone : timetableAlone T′ ≡ timetableRecord (madeOf o p)
+    unfolding timetableAlone
+    timetable-alone =
+        let r = timetableRecord (madeOf o p) in
+        let begins : T′ ≡ r ++ drop (length r) T = e ∙ left .0 in
+        let whole = record-well-packed (madeOf o p) (made-packable o p (k ∷ []) right) .length-right in
+        let long : wholeTimetableLength T′ ≡ length r = timetable-length-found T′ .only r (drop (length r) T) begins whole in
+        ap (take (wholeTimetableLength T′)) begins ∙ take-at r (drop (length r) T) (wholeTimetableLength T′) (sym long)
+
+    judged-as : timetableAnswer o (timetableAlone T′) ≡ accepted (greatest (timed (startsOf o) [] (planMoves p)) ∷ k ∷ [])
+    judged-as =
+        ap (timetableAnswer o) timetable-alone
+        ∙ left .1 .checked
+        ∙ ap (λ (j : ℕ). accepted (greatest (timed (startsOf o) [] (planMoves p)) ∷ j ∷ [])) count
+
+    timely : (m : ℕ) (c : Answer) → makerAnswer o p (length T) ≡ accepted (m ∷ []) → c ≡ timetableAnswer o (timetableAlone T′)
+        → Timed o p k T (answered (accepted (m ∷ []))) (answered c) T′
+    timely m c a ec =
+        let both : accepted (m ∷ []) ≡ accepted (greatest (timed (startsOf o) [] (planMoves p)) ∷ []) = sym a ∙ answer in
+        let same : greatest (timed (startsOf o) [] (planMoves p)) ≡ m = cc both in
+        let short = left .1 .short in
+        record {
+          steps = m;
+          made = refl;
+          short = omega (arith, short, count);
+          stands = record { fits = omega (arith, short, count); is = e ∙ left .0 };
+          accepts = ap answered (ec ∙ judged-as ∙ ap (λ (x : ℕ). accepted (x ∷ k ∷ [])) same);
+        }
+
+-- the plan, and what comes of it
+module _ (o P : List ℕ) (can : Plannable o) (room : planRoom o ≤ length P)
+    (ms : List (ℕ × ℕ)) (solves : Solves o (positionCount o) ms) where
+  right : planAnswer o (planRecord ms) ≡ accepted (length ms ∷ [])
+  right = plan-accepted o can ms solves
+
+  count : moveCount (planRecord ms) ≡ length ms
+  count = packed o can ms solves .count-is
+
+  planned : (T T′ : List ℕ) (m c : Call) → (3 * length ms + 3 ≤ length T → Timed o (planRecord ms) (length ms) T m c T′)
+      → Delivered o P T (record { planner = accepted (length ms ∷ []); maker = m; checker = c }) (written P 0 (planRecord ms)) T′
+  planned T T′ m c then = record {
+    moves = length ms;
+    plan = planRecord ms;
+    planned = refl;
+    few = solves .few;
+    long = plan-long o can ms solves P;
+    stands = plan-stands o can ms solves P room;
+    replayed = rw (packed o can ms solves .moves-are) (solves .replayed);
+    accepts = right;
+    then = then;
+  }
+
+pub delivered : (o P T : List ℕ) {a : Answers} {P′ T′ : List ℕ} → Called o P T a P′ T′ → Delivers o P T a P′ T′
+delivered o P T (unplanned (turned-down e)) can room = absurd (never (sym (none-refuses o P can room) ∙ e))
+delivered o P T (untimed {T′ = T′} (made ms e solves) refusal left) can room =
+    let p = planRecord ms in
+    let k = length ms in
+    let own : makerAnswer o p (length T) ≡ refused _ _ = rw (plan-alone o can ms solves P) at refusal in
+    planned o P can room ms solves T T′ _ _
+    (λ h. absurd (never (sym (answer o p k (right o P can room ms solves) (count o P can room ms solves) T h) ∙ own)))
+delivered o P T (checked {s = s} {c = c} {T′ = T′} (made ms e solves) a left ec) can room =
+    let p = planRecord ms in
+    let k = length ms in
+    let own : makerAnswer o p (length T) ≡ accepted (s ∷ []) = rw (plan-alone o can ms solves P) at a in
+    let after : T′ ≡ bufferAfter o p T = rw (plan-alone o can ms solves P) at left in
+    planned o P can room ms solves T T′ _ _
+    (λ h. timely o p k (right o P can room ms solves) (count o P can room ms solves) T h T′ after s c own ec)
+
+-- and what moves that solve the order let the three calls answer: the making rule's steps of them, and the same with their number
+pub callable : (o P : List ℕ) → Plannable o → planRoom o ≤ length P
+    → (ms : List (ℕ × ℕ)) → Solves o (positionCount o) ms → (T : List ℕ) → 3 * length ms + 3 ≤ length T
+    → (s : ℕ) → greatest (timed (startsOf o) [] ms) ≡ s
+    → Called o P T (record { planner = accepted (length ms ∷ []); maker = answered (accepted (s ∷ [])); checker = answered (accepted (s ∷ length ms ∷ [])) })
+    (written P 0 (planRecord ms)) (bufferAfter o (planRecord ms) T)
+callable o P can room ms solves T enough s e =
+    let p = planRecord ms in
+    let alone = plan-alone o can ms solves P in
+    let steps : greatest (timed (startsOf o) [] (planMoves p)) ≡ s = rw (packed o can ms solves .moves-are) e in
+    let right′ = right o P can room ms solves in
+    let count′ = count o P can room ms solves in
+    let answer′ : makerAnswer o p (length T) ≡ accepted (s ∷ []) =
+    answer o p (length ms) right′ count′ T enough ∙ ap (λ (x : ℕ). accepted (x ∷ [])) steps in
+    let judged =
+    judged-as o p (length ms) right′ count′ T enough (bufferAfter o p T) refl ∙ ap (λ (x : ℕ). accepted (x ∷ length ms ∷ [])) steps in
+    checked {s = s} {T′ = bufferAfter o p T} (made ms (none-refuses o P can room) solves) (rw alone answer′) (rw alone refl) (sym judged)

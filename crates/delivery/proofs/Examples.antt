@@ -1,0 +1,58 @@
+-- Demand 3 on the case book's order, 08 0A 08 00 10 02 04 20 43 08 30 03 0C 00, for any buffers that are long enough: its hypotheses can be
+-- met, and so can what the three calls promise.
+--
+--     order₁, moves₁     the order of "Programs", and the moves of its plan
+--     room₁              the plan buffer that 23 asks for it is 771 bytes long
+--     delivered₁         with such a buffer it is delivered; the timetable buffer is 3 × k + 3 bytes long, of the k just planned
+--     solves₁            the case book's moves solve it
+--     called₁            so the three calls may answer 4 moves, 2 steps, and 2 steps with 4 moves
+-- Assumes nothing.
+use Prim.Native.Nat.{ℕ, _≤_}
+use mathlib.Core.Path.{_≡_, refl}
+use mathlib.Core.List.{List, [], _∷_}
+use native.Mathlib.Omega.{arith}
+use lib.ListN.{length}
+use lib.Dec.{lit≤}
+use Rattle.answers.specs.Answer.{accepted}
+use Rattle.field.specs.Bits.{bits, number, bitsOf, field, pairs, positions}
+use Rattle.field.specs.Writing.{written}
+use Rattle.order.specs.Floor.{isPair, among, joined}
+use Rattle.order.specs.Order.{positionCount, edgeCount, rackCount, floorOf, startsOf, goalsOf}
+use Rattle.motion.specs.Arrangement.{occupied, vacant}
+use Rattle.motion.specs.Move.{onFloor, legalMove, goesTo, after, afterMove}
+use Rattle.motion.specs.Replay.{replayFrom, replayMoves}
+use Rattle.plan.specs.Plan.{planRecord}
+use Rattle.scheduling.specs.Making.{rackFrom, rackAt, ofRack, ofLeaving, stepFor, timed, greatest}
+use Rattle.scheduling.specs.Maker.{bufferAfter}
+use Rattle.floor.proofs.ExamplesLaws.{twoRacks, plannable-met}
+use Rattle.planner.specs.Moves.{Solves}
+use Rattle.delivery.specs.Delivery.{answered, Answers, Called, Delivered, planRoom}
+use Rattle.delivery.proofs.DeliveryLaws.{delivered, callable}
+
+abbrev pub order₁ : List ℕ
+order₁ = twoRacks
+
+-- 0>1, 3>2, 1>3, 2>0
+abbrev pub moves₁ : List (ℕ × ℕ)
+moves₁ = (0, 1) ∷ (3, 2) ∷ (1, 3) ∷ (2, 0) ∷ []
+
+pub room₁ : (P : List ℕ) → 771 ≤ length P → planRoom order₁ ≤ length P
+unfolding positionCount field number bitsOf bits
+room₁ P h = h
+
+pub delivered₁ : (P T : List ℕ) {a : Answers} {P′ T′ : List ℕ} → 771 ≤ length P → Called order₁ P T a P′ T′ → Delivered order₁ P T a P′ T′
+delivered₁ P T h c = delivered order₁ P T c plannable-met (room₁ P h)
+
+pub solves₁ : Solves order₁ (positionCount order₁) moves₁
+unfolding positionCount edgeCount rackCount floorOf startsOf goalsOf field number bitsOf bits pairs positions replayMoves replayFrom legalMove onFloor joined among isPair occupied vacant goesTo after afterMove
+solves₁ = record {
+  few = lit≤ tt;
+  replayed = refl;
+  still = λ e. let z : _≡_ {A = ℕ} 0 3 = cc e in absurd (omega arith);
+}
+
+pub called₁ : (P T : List ℕ) → 771 ≤ length P → 15 ≤ length T
+    → Called order₁ P T (record { planner = accepted (4 ∷ []); maker = answered (accepted (2 ∷ [])); checker = answered (accepted (2 ∷ 4 ∷ [])) })
+    (written P 0 (planRecord moves₁)) (bufferAfter order₁ (planRecord moves₁) T)
+unfolding startsOf edgeCount rackCount field number bitsOf bits positions timed stepFor ofRack ofLeaving rackAt rackFrom greatest goesTo after afterMove
+called₁ P T h g = callable order₁ P plannable-met (room₁ P h) moves₁ solves₁ T g 2 refl

@@ -1,0 +1,77 @@
+-- Laws of what specs/Head.antt defines.
+--
+--     headBits k        the head of a record of k moves or steps, as bits
+--     headBits-are      it consists of bits
+--     length-headBits   it has 24
+--     head-bytes        the two are the same
+--     length-headBytes  there are three
+--     written-head      three bytes at the front, one after another
+--     front-written     a record written behind its head, and then its head, is the record written at the front
+-- Assumes nothing.
+use Prim.Native.Nat.{ℕ, _+_, _*_, _/_, _%_, _^_, _≤_, _<_}
+use mathlib.Core.Path.{_≡_, refl, sym, ap, ap₂, _∙_}
+use mathlib.Core.List.{List, [], _∷_, _++_, append-assoc, append-nil}
+use native.Mathlib.Omega.{arith}
+use lib.ListN.{length, set, take, drop, length-append}
+use lib.Seq.{drop-at, length-take-le}
+use Rattle.field.specs.Bits.{bits, bitsOf, toBytes}
+use Rattle.field.specs.Bytes.{none, more, Bytes}
+use Rattle.field.proofs.BitLaws.{Bits, below-append, length-bits, bits-are}
+use Rattle.field.proofs.RecordLaws.{toBytes-from}
+use Rattle.field.proofs.WholeBytes.{padded-whole}
+use Rattle.field.proofs.PackingLaws.{bits-append, bits-split}
+use Rattle.field.specs.Writing.{written}
+use Rattle.field.specs.Head.{headBytes}
+
+unfoldable pub headBits : ℕ → List ℕ
+headBits k = bits 22 k ++ bits 2 0
+
+pub headBits-are : (k : ℕ) → Bits (headBits k)
+unfolding headBits
+headBits-are k = below-append (bits-are 22 k) (bits-are 2 0)
+
+pub length-headBits : (k : ℕ) → length (headBits k) ≡ 8 * 3
+unfolding headBits
+length-headBits k = length-append (bits 22 k) (bits 2 0) ∙ ap₂ _+_ (length-bits 22 k) (length-bits 2 0)
+
+pub length-headBytes : (k : ℕ) → length (headBytes k) ≡ 3
+unfolding headBytes
+length-headBytes k = refl
+
+module _ (k : ℕ) (few : k < 2 ^ 22) where
+  head-bits : bitsOf (headBytes k) ≡ headBits k
+  unfolding bitsOf headBytes headBits
+  head-bits =
+      let first : bits 22 k ≡ bits 8 (k / 16384) ++ bits 14 (k % 16384) = bits-split 8 14 k in
+      let second : bits 14 (k % 16384) ≡ bits 8 (k % 16384 / 64) ++ bits 6 (k % 16384 % 64) = bits-split 8 6 (k % 16384) in
+      let middle : k % 16384 / 64 ≡ k / 64 % 256 = omega arith in
+      let low : k % 16384 % 64 ≡ k % 64 = omega arith in
+      let end : bits 8 (k % 64 * 4 + 0) ≡ bits 6 (k % 64) ++ bits 2 0 = bits-append 6 2 (k % 64) 0 (omega arith) in
+      let none : k % 64 * 4 + 0 ≡ k % 64 * 4 = omega arith in
+      rw (first, second, middle, low, ← none, end) (simp (append-assoc, append-nil))
+
+  head-are : Bytes (headBytes k)
+  unfolding headBytes
+  head-are = more {x = k / 16384} (omega arith) (more {x = k / 64 % 256} (omega arith) (more {x = k % 64 * 4} (omega arith) none))
+
+  pub head-bytes : toBytes (headBits k) ≡ headBytes k
+  head-bytes = sym (toBytes-from head-are (headBits-are k) (head-bits ∙ sym (padded-whole (headBits k) 3 (length-headBits k))))
+
+-- three bytes at the front, one after another
+pub written-head : (s : List ℕ) (x y z : ℕ) → 3 ≤ length s → set (set (set s 0 x) 1 y) 2 z ≡ written s 0 (x ∷ y ∷ z ∷ [])
+unfolding written
+written-head [] x y z h = absurd (omega arith)
+written-head (a ∷ []) x y z h = absurd (omega arith)
+written-head (a ∷ b ∷ []) x y z h = absurd (omega arith)
+written-head (a ∷ b ∷ c ∷ s) x y z h = refl
+
+-- three bytes in front of bytes already written behind them
+pub front-written : (B h x : List ℕ) → length h ≡ 3 → 3 + length x ≤ length B → written (written B 3 x) 0 h ≡ written B 0 (h ++ x)
+unfolding written
+front-written B h x e room =
+    let front : length (take 3 B) ≡ 3 = length-take-le 3 B (omega arith) in
+    let tail : drop 3 (take 3 B ++ (x ++ drop (3 + length x) B)) ≡ x ++ drop (3 + length x) B = drop-at (take 3 B) (x ++ drop (3 + length x) B) 3 front in
+    let three : 0 + length h ≡ 3 = omega arith in
+    let all : length (h ++ x) ≡ 3 + length x = length-append h x ∙ ap (λ (n : ℕ). n + length x) e in
+    let none : 0 + (3 + length x) ≡ 3 + length x = omega arith in
+    rw (three, tail, all, none) (sym (append-assoc h x (drop (3 + length x) B)))

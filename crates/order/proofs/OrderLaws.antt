@@ -1,0 +1,68 @@
+-- Laws of the order reader's conditions.
+--
+--     no-positions, many-positions, right-positions    11, from the facts
+--     RightHead s, right-head                          what 10 and 11 leave of a head
+--     well-formed, accepted-is                         accepted is well formed, and well formed is accepted
+-- Assumes nothing.
+use Prim.Native.Nat.{ℕ, _≤_, _<_}
+use mathlib.Core.Path.{_≡_}
+use mathlib.Core.Bool.{true, false, or-true}
+use mathlib.Core.List.{List}
+use native.Mathlib.Omega.{arith}
+use borrow.Author.Tests.{lt-ltb, le-ltb, eq-eqb, ne-eqb, ltb-false, eqb-false}
+use lib.Dec.{ltb, eqb}
+use Rattle.answers.specs.Answer.{accepted, refuse}
+use Rattle.answers.proofs.AnswerLaws.{refuse-not, refuse-else}
+use Rattle.field.proofs.UnitLaws.{Fitting, fitting, or-left, or-right}
+use Rattle.order.specs.Order.{positionCount, unitCount, wrongLength, wrongPositions, paddingSet, wrongEdges, wrongRacks, floorOf, orderOf, counts, orderAnswer, WellFormed}
+
+module _ (s : List ℕ) where
+  pub no-positions : positionCount s ≡ 0 → wrongPositions s ≡ true
+  unfolding wrongPositions
+  no-positions e = simp (eq-eqb (positionCount s) 0 e)
+
+  pub many-positions : 64 < positionCount s → wrongPositions s ≡ true
+  unfolding wrongPositions
+  many-positions h = simp (lt-ltb 64 (positionCount s) h, or-true)
+
+  pub right-positions : (positionCount s ≡ 0 → ⊥) → positionCount s ≤ 64 → wrongPositions s ≡ false
+  unfolding wrongPositions
+  right-positions d h = simp (ne-eqb (positionCount s) 0 d, le-ltb 64 (positionCount s) h)
+
+pub record RightHead (s : List ℕ) : Type 0 where
+  pub fit : Fitting s (unitCount s)
+  pub some-position : 1 ≤ positionCount s
+  pub few-positions : positionCount s ≤ 64
+
+pub right-head : (s : List ℕ) → wrongLength s ≡ false → wrongPositions s ≡ false → RightHead s
+unfolding wrongLength wrongPositions
+right-head s l p =
+    let some : (positionCount s ≡ 0 → ⊥) = eqb-false (positionCount s) 0 (or-left (eqb (positionCount s) 0) (ltb 64 (positionCount s)) p) in
+    record {
+      fit = fitting s (unitCount s) l;
+      some-position = omega arith;
+      few-positions = ltb-false 64 (positionCount s) (or-right (eqb (positionCount s) 0) (ltb 64 (positionCount s)) p);
+    }
+
+pub accepted-is : (s : List ℕ) → WellFormed s → orderAnswer s ≡ accepted (counts s)
+unfolding orderAnswer
+accepted-is s w = simp (w .length-right, w .positions-right, w .padding-clear, w .edges-right, w .racks-right)
+
+pub well-formed : (s v : List ℕ) → orderAnswer s ≡ accepted v → WellFormed s
+unfolding orderAnswer
+well-formed s v e =
+    let a₄ = refuse (wrongRacks (orderOf s)) 14 0 (accepted (counts s)) in
+    let a₃ = refuse (wrongEdges (floorOf s)) 13 0 a₄ in
+    let a₂ = refuse (paddingSet s) 12 0 a₃ in
+    let a₁ = refuse (wrongPositions s) 11 0 a₂ in
+    let e₁ : a₁ ≡ accepted v = refuse-else (wrongLength s) 10 0 a₁ v e in
+    let e₂ : a₂ ≡ accepted v = refuse-else (wrongPositions s) 11 0 a₂ v e₁ in
+    let e₃ : a₃ ≡ accepted v = refuse-else (paddingSet s) 12 0 a₃ v e₂ in
+    let e₄ : a₄ ≡ accepted v = refuse-else (wrongEdges (floorOf s)) 13 0 a₄ v e₃ in
+    record {
+      length-right = refuse-not (wrongLength s) 10 0 a₁ v e;
+      positions-right = refuse-not (wrongPositions s) 11 0 a₂ v e₁;
+      padding-clear = refuse-not (paddingSet s) 12 0 a₃ v e₂;
+      edges-right = refuse-not (wrongEdges (floorOf s)) 13 0 a₄ v e₃;
+      racks-right = refuse-not (wrongRacks (orderOf s)) 14 0 (accepted (counts s)) v e₄;
+    }

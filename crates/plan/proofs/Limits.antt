@@ -1,0 +1,134 @@
+-- Plans where nothing can move, from document 01, "The floor": "here a full floor may be checked too, and no rack on it can move. No steps at
+-- all is a solution when each start is its goal."
+--
+--     LeadingPlan o p v, accepted-leads    a plan is accepted exactly if 10 to 14, 30 and 31 pass, and its moves, each legal at its turn, lead from the starts
+--                                          to the goals
+--     EmptyPlan o p v    p lists no move, v counts none, and each start is its goal
+--     full-floor         on a full floor a plan is accepted exactly if it is empty and each start is its goal
+--     no-racks           so it is where there is no rack
+--     no-moves, nothing  and of a plan without moves on any floor: 00 00 00 is accepted exactly if each start is its goal
+-- Assumes nothing.
+use Prim.Native.Nat.{ℕ}
+use mathlib.Core.Bool.{false}
+use mathlib.Core.List.{List, [], _∷_}
+use mathlib.Core.Logic.{_↔_}
+use mathlib.Core.Path.{_≡_, refl, sym, ap, _∙_}
+use native.Mathlib.Omega.{arith}
+use lib.ListN.{length}
+use Rattle.answers.specs.Answer.{accepted}
+use Rattle.field.specs.Bits.{bits, number, bitsOf, field, pad}
+use Rattle.field.specs.Units.{unitsLength, misfits, unclean}
+use Rattle.order.specs.Order.{rackCount, floorOf, startsOf, goalsOf, WellFormed}
+use Rattle.motion.specs.Arrangement.{Arrangement}
+use Rattle.motion.proofs.Lawful.{Leads, still, lawful-none, replayMoves-ended}
+use Rattle.motion.proofs.PebbleLaws.{pebble-replay}
+use Rattle.motion.proofs.SoundLaws.{full-leads, no-racks-leads}
+use Rattle.tables.proofs.AcceptedLaws.{well-placed}
+use Rattle.plan.specs.Plan.{moveCount, planMoves, wrongPlanLength, planPaddingSet, planAnswer}
+use Rattle.plan.proofs.PlanRecord.{moves-counted}
+use Rattle.plan.proofs.SolutionsLaws.{plan-solutions}
+
+module _ (o p v : List ℕ) where
+  pub record LeadingPlan : Type 0 where
+    pub order-right : WellFormed o
+    pub length-right : wrongPlanLength p ≡ false
+    pub padding-clear : planPaddingSet p ≡ false
+    pub counted : moveCount p ∷ [] ≡ v
+    pub leads : Leads (floorOf o) (startsOf o) (planMoves p) (goalsOf o)
+
+  pub record EmptyPlan : Type 0 where
+    pub length-right : wrongPlanLength p ≡ false
+    pub padding-clear : planPaddingSet p ≡ false
+    pub empty : moveCount p ≡ 0
+    pub none-counted : 0 ∷ [] ≡ v
+    pub settled : startsOf o ≡ goalsOf o
+
+  pub accepted-leads : (planAnswer o p ≡ accepted v) ↔ LeadingPlan
+  accepted-leads = (
+    (λ a.
+        let t = plan-solutions o .0 p v .0 a in
+        let solved = pebble-replay (floorOf o) (rackCount o) (startsOf o) (goalsOf o) (well-placed o (t .order-right) .task) .0 (planMoves p) in
+        record {
+          order-right = t .order-right;
+          length-right = t .length-right;
+          padding-clear = t .padding-clear;
+          counted = t .counted;
+          leads = replayMoves-ended (floorOf o) (startsOf o) (planMoves p) (goalsOf o) .0 (solved .1 (rw moves-counted (t .solution)));
+        }),
+    (λ t.
+        let solved = pebble-replay (floorOf o) (rackCount o) (startsOf o) (goalsOf o) (well-placed o (t .order-right) .task) .0 (planMoves p) in
+        plan-solutions o .0 p v .1
+        (record {
+          order-right = t .order-right;
+          length-right = t .length-right;
+          padding-clear = t .padding-clear;
+          counted = t .counted;
+          solution = rw moves-counted at (solved .0 (replayMoves-ended (floorOf o) (startsOf o) (planMoves p) (goalsOf o) .1 (t .leads)));
+        })),
+  )
+
+  moves-none : moveCount p ≡ 0 → planMoves p ≡ []
+  moves-none e = by (planMoves p) (moves-counted p ∙ e)
+    where
+      by : (ms : List (ℕ × ℕ)) → length ms ≡ 0 → ms ≡ []
+      by [] h = refl
+      by (m ∷ ms) h = absurd (omega arith)
+
+  -- where only the empty list can lead from the starts to the goals
+  still-plans : WellFormed o → (Leads (floorOf o) (startsOf o) (planMoves p) (goalsOf o) → planMoves p ≡ []) → (planAnswer o p ≡ accepted v) ↔ EmptyPlan
+  still-plans w stuck = (
+    (λ a.
+        let t = accepted-leads .0 a in
+        let none : planMoves p ≡ [] = stuck (t .leads) in
+        let zero-count : moveCount p ≡ 0 = sym (moves-counted p) ∙ ap length none in
+        record {
+          length-right = t .length-right;
+          padding-clear = t .padding-clear;
+          empty = zero-count;
+          none-counted = ap (λ (k : ℕ). k ∷ []) (sym zero-count) ∙ t .counted;
+          settled = lawful-none (rw none at (t .leads));
+        }),
+    (λ t.
+        let here : Leads (floorOf o) (startsOf o) [] (goalsOf o) = rw (← t .settled) still in
+        accepted-leads .1
+        (record {
+          order-right = w;
+          length-right = t .length-right;
+          padding-clear = t .padding-clear;
+          counted = ap (λ (k : ℕ). k ∷ []) (t .empty) ∙ t .none-counted;
+          leads = rw (moves-none (t .empty)) here;
+        })),
+  )
+
+  pub full-floor : WellFormed o → rackCount o ≡ floorOf o .positions → (planAnswer o p ≡ accepted v) ↔ EmptyPlan
+  full-floor w full =
+      let g = well-placed o w in
+      still-plans w (λ l. full-leads (floorOf o) (startsOf o) (g .starts-sound) (g .starts-length ∙ full) (planMoves p) (goalsOf o) .0 l .0)
+
+  pub no-racks : WellFormed o → rackCount o ≡ 0 → (planAnswer o p ≡ accepted v) ↔ EmptyPlan
+  no-racks w none =
+      still-plans w
+      (λ l.
+      let empty : startsOf o ≡ [] = by (startsOf o) (well-placed o w .starts-length ∙ none) in
+      no-racks-leads (floorOf o) (planMoves p) (goalsOf o) .0 (rw empty at l) .0)
+    where
+      by : (A : Arrangement) → length A ≡ 0 → A ≡ []
+      by [] h = refl
+      by (q ∷ A) h = absurd (omega arith)
+
+  pub no-moves : WellFormed o → moveCount p ≡ 0 → (planAnswer o p ≡ accepted v) ↔ EmptyPlan
+  no-moves w empty = still-plans w (λ l. moves-none empty)
+
+-- the plan without moves
+nothing-empty : (o : List ℕ) → startsOf o ≡ goalsOf o → EmptyPlan o (0x00 ∷ 0x00 ∷ 0x00 ∷ []) (0 ∷ [])
+unfolding wrongPlanLength planPaddingSet moveCount misfits unitsLength unclean pad field number bitsOf bits
+nothing-empty o e = record { length-right = refl; padding-clear = refl; empty = refl; none-counted = refl; settled = e }
+
+nothing-counted : moveCount (0x00 ∷ 0x00 ∷ 0x00 ∷ []) ≡ 0
+unfolding moveCount field number bitsOf bits
+nothing-counted = refl
+
+pub nothing : (o : List ℕ) → WellFormed o → (planAnswer o (0x00 ∷ 0x00 ∷ 0x00 ∷ []) ≡ accepted (0 ∷ [])) ↔ (startsOf o ≡ goalsOf o)
+nothing o w =
+    let by = no-moves o (0x00 ∷ 0x00 ∷ 0x00 ∷ []) (0 ∷ []) w nothing-counted in
+    (λ a. by .0 a .settled, λ e. by .1 (nothing-empty o e))

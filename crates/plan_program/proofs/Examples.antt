@@ -1,0 +1,105 @@
+-- What the plan program writes for the case book's orders, whatever stood in the lent bytes, by computation.
+--
+--     allOfEighteen      18 positions, every two of them joined, and no racks
+--     large              it can be planned, though not in 65,536 bytes
+--     refusals-met       the planner's refusals of these orders, with 65,536 bytes
+--     floor-line         the line of 23, byte for byte
+--     lines-met          no input; F with three racks; the path of four; three positions in a ring; the 18 positions: a line each
+--     moves₁, plan₁      the plan of "Programs", and its record
+--     plan-met           the order of "Programs": that record may be written
+--     lent-met           what is asked of the lent bytes can be met
+-- Assumes nothing.
+use Prim.Native.Nat.{ℕ, _≤_}
+use mathlib.Core.Path.{_≡_, refl, ap, subst, _∙_}
+use mathlib.Core.Bool.{true}
+use mathlib.Core.List.{List, [], _∷_}
+use native.Mathlib.Omega.{arith}
+use lib.ListN.{length, getD, replicate, length-replicate}
+use lib.Dec.{lit≤}
+use Rattle.answers.specs.Answer.{accepted, refused}
+use Rattle.answers.specs.Family.{familyWord, within}
+use Rattle.field.specs.Bits.{bits, number, bitsOf, field, pairs, positions, pairBits, positionBits, pad, padded, bytes, toBytes}
+use Rattle.field.specs.Units.{unitsLength, misfits, unclean}
+use Rattle.field.specs.Writing.{written}
+use Rattle.order.specs.Floor.{isPair, among, joined}
+use Rattle.order.specs.Order.{orderBits, orderRecord, positionCount, edgeCount, rackCount, unitCount, floorOf, startsOf, goalsOf, orderOf, wrongLength, wrongPositions, paddingSet, some, badEdge, precedes, ascending, wrongEdges, repeats, wrongPlaces, wrongRacks, counts, orderAnswer}
+use Rattle.order.specs.EdgeSets.{listed, isEdge, floorFrom}
+use Rattle.motion.specs.Arrangement.{occupied, vacant}
+use Rattle.motion.specs.Move.{onFloor, legalMove, goesTo, after, afterMove}
+use Rattle.motion.specs.Replay.{replayFrom, replayMoves}
+use Rattle.plan.specs.Plan.{planBits, planRecord}
+use Rattle.text.specs.Text.{digits, decimal, space, newline, refusedText, refusalLine}
+use Rattle.floor.specs.FloorAnswer.{biConnected?, ring?, floorAnswer}
+use Rattle.floor.specs.Plannable.{Plannable}
+use Rattle.floor.proofs.FloorLaws.{plannable}
+use Rattle.floor.specs.CaseBookOrders.{threeInRing, threeRacks, pathOfFour}
+use Rattle.floor.proofs.ExamplesLaws.{twoRacks}
+use Rattle.planner.specs.Moves.{Solves}
+use Rattle.planner.specs.Planner.{refusals, made}
+use Rattle.plan_program.specs.Printed.{Printed}
+use Rattle.plan_program.proofs.PrintedLaws.{made-printed, line-printed}
+
+unfoldable pub allOfEighteen : List ℕ
+allOfEighteen = orderRecord (record { floor = floorFrom 18 (λ a b. true); starts = []; goals = [] })
+
+-- the hypotheses of `printed-large` hold of something
+pub large : Plannable allOfEighteen × (18 ≤ positionCount allOfEighteen)
+unfolding allOfEighteen orderRecord orderBits floorFrom listed isEdge bits pairBits positionBits toBytes padded pad bytes floorAnswer biConnected? ring? joined among isPair orderAnswer wrongLength misfits unitsLength unitCount wrongPositions paddingSet unclean wrongEdges some badEdge precedes ascending wrongRacks wrongPlaces repeats orderOf floorOf startsOf goalsOf counts positionCount edgeCount rackCount field number bitsOf pairs positions
+large = (plannable allOfEighteen [] refl, lit≤ tt)
+
+pub refusals-met :
+    (refusals [] 65536 ≡ refused 10 0)
+    × (refusals threeRacks 65536 ≡ refused 20 0)
+    × (refusals pathOfFour 65536 ≡ refused 21 0)
+    × (refusals threeInRing 65536 ≡ refused 22 0)
+    × (refusals allOfEighteen 65536 ≡ refused 23 0)
+    × (refusals twoRacks 65536 ≡ accepted [])
+unfolding refusals allOfEighteen orderRecord orderBits floorFrom listed isEdge bits pairBits positionBits toBytes padded pad bytes floorAnswer biConnected? ring? joined among isPair orderAnswer wrongLength misfits unitsLength unitCount wrongPositions paddingSet unclean wrongEdges some badEdge precedes ascending wrongRacks wrongPlaces repeats orderOf floorOf startsOf goalsOf counts positionCount edgeCount rackCount field number bitsOf pairs positions
+refusals-met = (refl, refl, refl, refl, refl, refl)
+
+-- refused 23 0 floor
+pub floor-line : refusalLine 23 0
+    ≡ 114 ∷ 101 ∷ 102 ∷ 117 ∷ 115 ∷ 101 ∷ 100 ∷ 32 ∷ 50 ∷ 51 ∷ 32 ∷ 48 ∷ 32 ∷ 102 ∷ 108 ∷ 111 ∷ 111 ∷ 114 ∷ 10 ∷ []
+unfolding refusalLine refusedText space newline decimal digits familyWord within
+floor-line = refl
+
+abbrev moves₁ : List (ℕ × ℕ)
+moves₁ = (0, 1) ∷ (3, 2) ∷ (2, 0) ∷ (1, 3) ∷ []
+
+abbrev pub plan₁ : List ℕ
+plan₁ = 0x00 ∷ 0x00 ∷ 0x10 ∷ 0x00 ∷ 0x10 ∷ 0xC2 ∷ 0x08 ∷ 0x00 ∷ 0x43 ∷ []
+
+record₁ : planRecord moves₁ ≡ plan₁
+unfolding planRecord planBits bits pairBits toBytes padded pad bytes number
+record₁ = refl
+
+solves₁ : Solves twoRacks (positionCount twoRacks) moves₁
+unfolding positionCount edgeCount rackCount floorOf startsOf goalsOf field number bitsOf bits pairs positions replayMoves replayFrom legalMove onFloor joined among isPair occupied vacant goesTo after afterMove
+solves₁ = record {
+  few = lit≤ tt;
+  replayed = refl;
+  still = λ e. absurd (let first : _≡_ {A = ℕ} 0 3 = ap (λ (l : List ℕ). getD l 0 0) e in omega arith);
+}
+
+pub lent-met : length (replicate {A = ℕ} 65536 0) ≡ 65536
+lent-met = length-replicate {A = ℕ} 65536 0
+
+module _ (B : List ℕ) (lent : length B ≡ 65536) where
+  pub lines-met :
+      Printed [] B (written B 0 (refusalLine 10 0)) (length (refusalLine 10 0))
+      × Printed threeRacks B (written B 0 (refusalLine 20 0)) (length (refusalLine 20 0))
+      × Printed pathOfFour B (written B 0 (refusalLine 21 0)) (length (refusalLine 21 0))
+      × Printed threeInRing B (written B 0 (refusalLine 22 0)) (length (refusalLine 22 0))
+      × Printed allOfEighteen B (written B 0 (refusalLine 23 0)) (length (refusalLine 23 0))
+  lines-met = (
+    line-printed lent (refusals-met .0),
+    line-printed lent (refusals-met .1),
+    line-printed lent (refusals-met .2),
+    line-printed lent (refusals-met .3),
+    line-printed lent (refusals-met .4),
+  )
+
+  pub plan-met : Printed twoRacks B (written B 0 plan₁) 9
+  plan-met =
+      subst (λ (p : List ℕ). Printed twoRacks B (written B 0 p) 9) record₁
+      (made-printed lent (made moves₁ (ap (refusals twoRacks) lent ∙ refusals-met .5) solves₁) refl)

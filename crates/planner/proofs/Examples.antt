@@ -1,0 +1,65 @@
+-- What the planner's contracts and laws assume can be met: the case book's order (document 01, "Programs": F, rack 1 from 0 to 3, rack 2
+-- from 3 to 0) and its plan.
+--
+--     plan-moves-met      what `planner::plan_moves` asks for, in a buffer of just the bytes that 23 asks for
+--     plan                the case book's plan
+--     solves-met          its moves solve the order
+--     moves-met           and stand packed behind the head
+--     made-met            in a buffer of 771 bytes the planner may make that plan
+--     turned-down-met     in one of 770 bytes it answers 23, and changes no byte
+-- Assumes nothing.
+use Prim.Native.Nat.{ℕ, _*_, _≤_}
+use mathlib.Core.Path.{_≡_, refl, sym, ap}
+use mathlib.Core.List.{List, [], _∷_, _++_}
+use native.Mathlib.Omega.{arith}
+use lib.Dec.{lit≤, ltb}
+use lib.ListN.{getD, length, drop, replicate, length-replicate}
+use Rattle.answers.specs.Answer.{Answer, accepted, refused, refuse, passUp}
+use Rattle.field.specs.Bits.{bitsOf, bits, number, field, pairs, positions}
+use Rattle.field.specs.Packing.{pack}
+use Rattle.field.specs.Writing.{written}
+use Rattle.order.specs.Floor.{isPair, among, joined}
+use Rattle.order.specs.Order.{positionCount, edgeCount, rackCount, floorOf, startsOf, goalsOf, counts}
+use Rattle.order.proofs.OrderLaws.{accepted-is}
+use Rattle.motion.specs.Arrangement.{occupied, vacant}
+use Rattle.motion.specs.Move.{onFloor, legalMove, goesTo, after, afterMove}
+use Rattle.motion.specs.Replay.{replayFrom, replayMoves}
+use Rattle.tables.specs.Accepted.{OrderGave}
+use Rattle.tables.proofs.AcceptedLaws.{order-gave}
+use Rattle.plan.specs.Plan.{planRecord}
+use Rattle.floor.specs.Plannable.{Plannable}
+use Rattle.floor.proofs.ExamplesLaws.{twoRacks, floors-judged, plannable-met}
+use Rattle.planner.specs.Moves.{Solves, Moves}
+use Rattle.planner.specs.Planner.{refusals, PlanMade, turned-down, made}
+
+order-read : OrderGave twoRacks 4 5 2
+order-read =
+    order-gave twoRacks 4 5 2
+    (unfold counts positionCount edgeCount rackCount field number bitsOf bits in sym (accepted-is twoRacks (plannable-met .right)))
+
+pub plan-moves-met : OrderGave twoRacks 4 5 2 × Plannable twoRacks × (12 * (4 * (4 * 4)) ≤ length (replicate {A = ℕ} 768 0))
+plan-moves-met = (order-read, plannable-met, (let n = length-replicate {A = ℕ} 768 0 in omega arith))
+
+abbrev pub plan : List (ℕ × ℕ)
+plan = (0, 1) ∷ (3, 2) ∷ (2, 0) ∷ (1, 3) ∷ []
+
+pub solves-met : Solves twoRacks 4 plan
+unfolding replayMoves replayFrom legalMove onFloor joined among isPair occupied vacant afterMove after goesTo floorOf startsOf goalsOf positionCount edgeCount rackCount field number bitsOf bits pairs positions
+solves-met = record { few = lit≤ tt; replayed = refl; still = λ e. absurd (apart (ap (λ (l : List ℕ). getD l 0 0) e)) }
+  where
+    apart : _≡_ {A = ℕ} 0 3 → ⊥
+    apart e = omega arith
+
+pub moves-met : Moves twoRacks 4 (replicate 768 0) (pack plan ++ drop (length (pack plan)) (replicate 768 0)) 4
+moves-met = record { moves = plan; count = refl; solves = solves-met; packed = record { is = refl } }
+
+-- only 23 is left to be judged
+judged : (b : ℕ) → refusals twoRacks b ≡ refuse (ltb b 771) 23 0 (accepted [])
+unfolding refusals positionCount field number bitsOf bits
+judged b = ap (λ (a : Answer). passUp a (refuse (ltb b 771) 23 0 (accepted []))) (floors-judged .2)
+
+pub made-met : PlanMade twoRacks (replicate 771 0) (accepted (4 ∷ [])) (written (replicate 771 0) 0 (planRecord plan))
+made-met = made plan (judged (length (replicate {A = ℕ} 771 0))) (unfold positionCount field number bitsOf bits in solves-met)
+
+pub turned-down-met : PlanMade twoRacks (replicate 770 0) (refused 23 0) (replicate 770 0)
+turned-down-met = turned-down {number = 23} {place = 0} (judged (length (replicate {A = ℕ} 770 0)))

@@ -1,0 +1,62 @@
+-- The hypotheses of the laws of tables hold of something: the case book's floor F (n = 4, edges 0-1, 0-2, 1-2, 1-3, 2-3) with racks at 0 and 3.
+--
+--     starts-held, move-held      its starts are held by the table that they fill, and after the move 0>1 by that table moved
+--     edge-there, none-there      an edge of F in its matrix, and a pair that no edge joins
+--     lowest-misplaced            with the goals 3 and 1, rack 1 is the lowest that is misplaced, told by the table
+--     four-judged                 four moves on the tables, judged as on arrangements
+-- Assumes nothing.
+use mathlib.Core.Path.{_≡_, refl}
+use mathlib.Core.Bool.{true, false}
+use mathlib.Core.List.{[], _∷_}
+use lib.Dec.{lit<, lit≤}
+use lib.ListN.{replicate}
+use Rattle.answers.specs.Answer.{accepted}
+use Rattle.field.specs.Bytes.{BelowPairs, none₂, more₂}
+use Rattle.order.specs.Floor.{isPair, among, joined}
+use Rattle.order.specs.Order.{some, badEdge, precedes, ascending, wrongEdges}
+use Rattle.order.specs.Tables.{marked, placed}
+use Rattle.motion.specs.Arrangement.{occupied, vacant}
+use Rattle.motion.specs.Move.{onFloor, legalMove, goesTo, after, afterMove}
+use Rattle.motion.specs.Replay.{replayFrom, replayMoves}
+use Rattle.motion.specs.Judgement.{misplaced, judged}
+use Rattle.motion.proofs.Inhabited.{floorF, starts, goals, plan, starts-sound}
+use Rattle.tables.specs.Tables.{edgeAt, movedOn, misplacedOn, judgedOn}
+use Rattle.tables.proofs.TablesLaws.{Holds}
+use Rattle.tables.proofs.TableLaws.{placed-holds, moved-holds, misplaced-on}
+use Rattle.tables.proofs.MatrixLaws.{matrix-joined}
+use Rattle.tables.proofs.MovesOnLaws.{matrixOf, tableOf, moves-judged}
+use Rattle.tables.specs.MovesOn.{replayOn}
+
+starts-held : Holds starts (placed (replicate 64 0) 1 starts)
+starts-held = placed-holds 4 starts (lit≤ tt) starts-sound
+
+move-held : Holds (1 ∷ 3 ∷ []) (movedOn (placed (replicate 64 0) 1 starts) (0, 1))
+unfolding occupied vacant afterMove after goesTo
+move-held = moved-holds 4 starts (placed (replicate 64 0) 1 starts) (lit≤ tt) starts-sound starts-held (0, 1) tt tt (lit< tt)
+
+edges-small : BelowPairs 64 (floorF .edges)
+edges-small =
+    more₂ (lit< tt) (lit< tt) (more₂ (lit< tt) (lit< tt) (more₂ (lit< tt) (lit< tt) (more₂ (lit< tt) (lit< tt) (more₂ (lit< tt) (lit< tt) none₂))))
+
+edge-there : edgeAt (marked (replicate 4096 0) (floorF .edges)) (3, 1) ≡ true
+unfolding joined among isPair
+edge-there = matrix-joined floorF 3 1 edges-small (lit< tt) (lit< tt)
+
+none-there : edgeAt (marked (replicate 4096 0) (floorF .edges)) (0, 3) ≡ false
+unfolding joined among isPair
+none-there = matrix-joined floorF 0 3 edges-small (lit< tt) (lit< tt)
+
+lowest-misplaced : misplacedOn 1 (placed (replicate 64 0) 1 starts) (3 ∷ 1 ∷ []) ≡ 1
+unfolding misplaced
+lowest-misplaced = misplaced-on starts (placed (replicate 64 0) 1 starts) (3 ∷ 1 ∷ []) starts-held refl
+
+plan-small : BelowPairs 64 plan
+plan-small = more₂ (lit< tt) (lit< tt) (more₂ (lit< tt) (lit< tt) (more₂ (lit< tt) (lit< tt) (more₂ (lit< tt) (lit< tt) none₂)))
+
+edges-right : wrongEdges floorF ≡ false
+unfolding wrongEdges some badEdge precedes ascending
+edges-right = refl
+
+four-judged : judgedOn 32 33 goals (4 ∷ []) (replayOn (matrixOf floorF) (tableOf starts) plan) ≡ accepted (4 ∷ [])
+unfolding judged misplaced replayMoves replayFrom legalMove onFloor joined among isPair occupied vacant afterMove after goesTo
+four-judged = moves-judged floorF (lit≤ tt) edges-small edges-right starts starts-sound plan-small 32 33 goals (4 ∷ []) refl

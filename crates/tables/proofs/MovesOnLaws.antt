@@ -1,0 +1,82 @@
+-- Laws of what specs/MovesOn.antt defines.
+--
+--     matrixOf F       the matrix of the floor F's edges
+--     tableOf A        the table of the arrangement A
+--     Kept n m A h     the arrangement A of m racks is sound on n positions, and the table h holds it
+--     legal-on         a move is legal by the tables exactly if it is legal
+--     moves-alike      the replay on tables of moves below 64 ends as the replay on arrangements does
+--     moves-judged     and so it is judged
+-- Assumes nothing.
+use Prim.Native.Nat.{ℕ, _≤_, _<_}
+use mathlib.Core.Path.{_≡_, refl, sym, ap, ap₂, _∙_}
+use mathlib.Core.Bool.{Bool, true, false, not, _&&_}
+use mathlib.Core.List.{List}
+use lib.ListN.{length, getD, replicate}
+use lib.Dec.{T, eqb}
+use Rattle.field.specs.Bytes.{BelowPairs, none₂, more₂}
+use Rattle.order.specs.Floor.{Floor}
+use Rattle.order.specs.Order.{wrongEdges}
+use Rattle.order.specs.Tables.{marked, placed}
+use Rattle.motion.specs.Arrangement.{Arrangement, occupied, vacant}
+use Rattle.motion.specs.Move.{onFloor, legalMove, afterMove}
+use Rattle.motion.proofs.MoveLaws.{onFloor-parts, legal-parts, move-length}
+use Rattle.motion.specs.Replay.{replayMoves}
+use Rattle.motion.specs.Judgement.{judged}
+use Rattle.motion.specs.Sound.{Sound}
+use Rattle.motion.proofs.SoundLaws.{move-sound}
+use Rattle.tables.specs.Tables.{edgeAt, heldAt, legalEntries, legalOn, movedOn, judgedOn}
+use Rattle.tables.proofs.TablesLaws.{Holds}
+use Rattle.tables.proofs.TableLaws.{held-occupied, placed-holds, moved-holds}
+use Rattle.tables.proofs.MatrixLaws.{matrix-joined, onFloor-joined}
+use Rattle.tables.specs.Simulation.{Each, each-none, each-more}
+use Rattle.tables.proofs.SimulationLaws.{Alike, replay-alike, judged-on}
+use Rattle.tables.specs.MovesOn.{replayOn}
+
+unfoldable pub matrixOf : Floor → List ℕ
+matrixOf F = marked (replicate 4096 0) (F .edges)
+
+unfoldable pub tableOf : Arrangement → List ℕ
+tableOf A = placed (replicate 64 0) 1 A
+
+-- both positions are below 64, as six bits keep them
+abbrev Small : ℕ × ℕ → Type 0
+Small m = (m .0 < 64) × (m .1 < 64)
+
+each-small : {ms : List (ℕ × ℕ)} → BelowPairs 64 ms → Each Small ms
+each-small none₂ = each-none
+each-small (more₂ h k b) = each-more (h, k) (each-small b)
+
+not-not : (b : Bool) → not (not b) ≡ b
+not-not true = refl
+not-not false = refl
+
+-- an arrangement of m racks that is sound, and the table that holds it
+abbrev pub Kept : ℕ → ℕ → Arrangement → List ℕ → Type 0
+Kept n m A h = Sound n A × Holds A h × (length A ≡ m)
+
+module _ (F : Floor) (few : F .positions ≤ 64) (below : BelowPairs 64 (F .edges)) (right : wrongEdges F ≡ false) where
+  pub legal-on : (A : Arrangement) (h : List ℕ) → Holds A h → (m : ℕ × ℕ) → m .0 < 64 → m .1 < 64 → legalMove F A m ≡ legalOn (matrixOf F) h m
+  unfolding legalMove legalOn legalEntries matrixOf edgeAt heldAt vacant
+  legal-on A h holds m a b =
+      let edge : edgeAt (marked (replicate 4096 0) (F .edges)) m ≡ onFloor F m = matrix-joined F (m .0) (m .1) below a b ∙ sym (onFloor-joined F right (m .0) (m .1)) in
+      let free : eqb (getD h (m .1) 0) 0 ≡ not (occupied A (m .1)) = sym (not-not (eqb (getD h (m .1) 0) 0)) ∙ ap not (held-occupied A h holds (m .1)) in
+      ap₂ _&&_ (ap₂ _&&_ (sym edge) (sym (held-occupied A h holds (m .0)))) (sym free)
+
+  kept-on : (k : ℕ) (A : Arrangement) (h : List ℕ) (m : ℕ × ℕ) → Kept (F .positions) k A h → Small m → T (legalMove F A m) → Kept (F .positions) k (afterMove A m) (movedOn h m)
+  kept-on k A h m r p l =
+      let t = legal-parts F A m .0 l in
+      (move-sound F A m l (r .0), moved-holds (F .positions) A h few (r .0) (r .1) m (t .1) (t .2) (onFloor-parts F m .0 (t .0) .1), move-length A m ∙ r .2)
+
+  module _ (A : Arrangement) (s : Sound (F .positions) A) {ms : List (ℕ × ℕ)} (small : BelowPairs 64 ms) where
+    pub moves-alike : Alike (Kept (F .positions) (length A)) (replayMoves F A ms) (replayOn (matrixOf F) (tableOf A) ms)
+    unfolding replayMoves replayOn tableOf
+    moves-alike =
+        replay-alike Small (Kept (F .positions) (length A)) (legalMove F) afterMove (legalOn (matrixOf F)) movedOn
+        (λ B h m r p. legal-on B h (r .1) m (p .0) (p .1))
+        (kept-on (length A))
+        1 A (placed (replicate 64 0) 1 A) (each-small small) (s, placed-holds (F .positions) A few s, refl)
+
+    pub moves-judged : (illegal off : ℕ) (G counts : List ℕ) → length G ≡ length A
+        → judgedOn illegal off G counts (replayOn (matrixOf F) (tableOf A) ms) ≡ judged illegal off G counts (replayMoves F A ms)
+    moves-judged illegal off G counts e =
+        judged-on (Kept (F .positions) (length A)) illegal off G counts (λ B h r. (r .1, e ∙ sym (r .2))) moves-alike

@@ -1,0 +1,253 @@
+-- Inhabitants: each hypothesis of the laws of timetables holds of something, computed on document 01's case book.
+--
+--     timetable₁, steps₁             the timetable of the first case, 00 00 08 02 00 10 C2 02 04 30 80, and its steps
+--     parts₁, moves₁, record₁        its parts, its steps read and its steps written
+--     bytes₁, packable₁, packed₁     it is a byte string, its steps can be packed, and neither 40 nor 41 applies
+--     string₁                        each of its bytes is below 256, as a lent slice has it
+--     second-stands, second-part     after one step what is left begins at byte 7, with a part that is a step
+--     length₁, cut₁                  it is 11 bytes long, whatever stands behind it, and no timetable where it is cut short
+--     reading₁                       the reading's counts
+--     step-zero, step-one, step-two, step-three    the step reader's answers for 0, 1, 2 and 3; step 2 is 02 04 30 80 at offset 7
+--     second-given, none-given       the part of step 2, and the empty part of step 3
+--     alike, alike-bytes, first-place, second-place    a timetable of two equal steps: their parts' bytes do not tell them apart, the
+--                                    places do
+--     cut-short, left-over, spare-bit, pad-bit     40 and 41, each by the damage that meets it
+--     order₁                         the first case's order
+--     answer₁                        the first case: accepted, 2 steps and 4 moves
+--     well-formed₁, accepted₁        its order is well formed, and what the acceptance means
+--     solution₁, only₁               its arrangements are a solution, and it is their one timetable
+--     ringOrder, ringTimetable, swapOrder, swapTimetable    the third case's orders and timetables
+--     ring-turned, swapped           the third case: a full ring turned, and two neighbours exchanged, are 42, step 1
+--     fullOrder, full-right, full-count, full-waits    a full floor, where each start is its goal: one empty step is accepted
+--     paused, paused-packable, paused-record, paused-accepted    the first case with a pause after step 1: accepted, 3 steps and 4 moves
+-- Assumes nothing.
+use Prim.Native.Nat.{ℕ}
+use mathlib.Core.Path.{_≡_, refl, ap, _∙_}
+use mathlib.Core.List.{List, [], _∷_, _++_}
+use lib.Dec.{lit<, lit≤}
+use lib.ListN.{take}
+use Rattle.answers.specs.Answer.{accepted, refused}
+use Rattle.field.specs.Bits.{bits, number, bitsOf, field, positions, pairs, pairBits, pad, padded, bytes, toBytes}
+use Rattle.field.specs.Bytes.{Bytes, none, more, none₂, more₂}
+use Rattle.field.proofs.WholeBytes.{below-each}
+use Rattle.field.specs.Units.{unitsLength, misfits, unclean}
+use Rattle.field.specs.Front.{wholeLength}
+use Rattle.order.specs.Floor.{isPair, among, joined}
+use Rattle.order.specs.Order.{positionCount, edgeCount, rackCount, unitCount, floorOf, startsOf, goalsOf, orderOf, wrongLength, wrongPositions, paddingSet, some, badEdge, precedes, ascending, wrongEdges, repeats, wrongPlaces, wrongRacks, counts, orderAnswer, WellFormed}
+use Rattle.motion.specs.Arrangement.{occupied, vacant}
+use Rattle.motion.specs.Move.{onFloor, goesTo, after}
+use Rattle.motion.specs.Step.{every, ascends, leaves, enters, enteredOnce, led, legalStep}
+use Rattle.motion.specs.Replay.{replayFrom, replaySteps, trace}
+use Rattle.motion.specs.Judgement.{misplaced, judged}
+use Rattle.timetable.specs.Timetable.{stepBits, allStepBits, timetableBits, timetableRecord, stepLength, stepCount, wrongSteps, stepParts, partsOf, wrongTimetableLength, stepPadSet, timetablePaddingSet, stepMoves, stepsOf, total, timetableAnswer, lengthOf, offset, stepPart, stepAnswer}
+use Rattle.timetable.specs.Reading.{readingAnswer, WellPacked, partGiven, placeGiven}
+use Rattle.timetable.proofs.ReadingLaws.{Stands, stands-at}
+use Rattle.timetable.specs.RecordLength.{stepsLength, timetableLength, wholeTimetableLength}
+use Rattle.timetable.proofs.RecordLengthLaws.{timetable-length-found}
+use Rattle.timetable.specs.ByteString.{ByteString}
+use Rattle.timetable.proofs.StepRecord.{Part}
+use Rattle.timetable.proofs.TimetableRecord.{no-steps, one-step, Packable}
+use Rattle.timetable.specs.Solutions.{SolutionOf, AcceptedTimetable, OnlyTimetable}
+use Rattle.timetable.proofs.SolutionsLaws.{timetable-solutions}
+use Rattle.timetable.proofs.Still.{StillTimetable, full-floor, OneMore, one-more, waiting-step}
+
+abbrev pub timetable₁ : List ℕ
+timetable₁ = 0x00 ∷ 0x00 ∷ 0x08 ∷ 0x02 ∷ 0x00 ∷ 0x10 ∷ 0xC2 ∷ 0x02 ∷ 0x04 ∷ 0x30 ∷ 0x80 ∷ []
+
+abbrev pub steps₁ : List (List (ℕ × ℕ))
+steps₁ = ((0, 1) ∷ (3, 2) ∷ []) ∷ ((1, 3) ∷ (2, 0) ∷ []) ∷ []
+
+pub parts₁ : partsOf timetable₁ ≡ (0x02 ∷ 0x00 ∷ 0x10 ∷ 0xC2 ∷ []) ∷ (0x02 ∷ 0x04 ∷ 0x30 ∷ 0x80 ∷ []) ∷ []
+unfolding partsOf stepParts stepLength stepCount field number bitsOf bits
+parts₁ = refl
+
+pub moves₁ : stepsOf timetable₁ ≡ steps₁
+unfolding stepsOf stepMoves pairs partsOf stepParts stepLength stepCount field number bitsOf bits
+moves₁ = refl
+
+pub record₁ : timetableRecord steps₁ ≡ timetable₁
+unfolding timetableRecord timetableBits allStepBits stepBits pairBits padded pad toBytes bytes number bits
+record₁ = refl
+
+pub bytes₁ : Bytes timetable₁
+bytes₁ =
+    more (lit< tt) (more (lit< tt) (more (lit< tt) (more (lit< tt) (more (lit< tt) (more (lit< tt)
+    (more (lit< tt) (more (lit< tt) (more (lit< tt) (more (lit< tt) (more (lit< tt) none))))))))))
+
+pub packable₁ : Packable steps₁
+packable₁ = record {
+  few-steps = lit< tt;
+  steps-fit =
+      one-step (lit≤ tt) (more₂ (lit< tt) (lit< tt) (more₂ (lit< tt) (lit< tt) none₂))
+      (one-step (lit≤ tt) (more₂ (lit< tt) (lit< tt) (more₂ (lit< tt) (lit< tt) none₂)) no-steps);
+}
+
+pub packed₁ : WellPacked timetable₁
+unfolding wrongTimetableLength timetablePaddingSet wrongSteps some stepPadSet pad partsOf stepParts stepLength stepCount field number bitsOf bits
+packed₁ = record { length-right = refl; padding-clear = refl }
+
+pub length₁ : (rest : List ℕ) → wholeTimetableLength (timetable₁ ++ rest) ≡ 11
+length₁ rest = timetable-length-found (timetable₁ ++ rest) .only timetable₁ rest refl (packed₁ .length-right)
+
+pub cut₁ : (wholeTimetableLength (take 10 timetable₁) ≡ 0) × (wholeTimetableLength (take 7 timetable₁) ≡ 0) × (wholeTimetableLength (take 2 timetable₁) ≡ 0)
+unfolding wholeTimetableLength wholeLength timetableLength stepsLength stepLength stepCount field number bitsOf bits
+cut₁ = (refl, refl, refl)
+
+pub string₁ : ByteString timetable₁
+string₁ = below-each (lit< tt) bytes₁
+
+pub second-stands : Stands timetable₁ 1 7
+unfolding lengthOf partsOf stepParts stepLength stepCount field number bitsOf bits
+second-stands = stands-at timetable₁ (packed₁ .length-right) 1 (lit≤ tt)
+
+pub second-part : Part (0x02 ∷ 0x04 ∷ 0x30 ∷ 0x80 ∷ [])
+unfolding stepLength stepPadSet pad field number bitsOf bits
+second-part = record { bytes-are = more (lit< tt) (more (lit< tt) (more (lit< tt) (more (lit< tt) none))); length-is = refl; pad-clear = refl }
+
+pub reading₁ : readingAnswer timetable₁ ≡ accepted (2 ∷ 4 ∷ [])
+unfolding readingAnswer total wrongTimetableLength timetablePaddingSet wrongSteps some stepPadSet pad partsOf stepParts stepLength stepCount field number bitsOf bits
+reading₁ = refl
+
+pub step-zero : stepAnswer timetable₁ 0 ≡ refused 45 0
+unfolding stepAnswer wrongTimetableLength timetablePaddingSet wrongSteps some stepPadSet pad partsOf stepParts stepLength stepCount field number bitsOf bits
+step-zero = refl
+
+pub step-one : stepAnswer timetable₁ 1 ≡ accepted (3 ∷ 4 ∷ [])
+unfolding stepAnswer offset lengthOf stepPart wrongTimetableLength timetablePaddingSet wrongSteps some stepPadSet pad partsOf stepParts stepLength stepCount field number bitsOf bits
+step-one = refl
+
+pub step-two : stepAnswer timetable₁ 2 ≡ accepted (7 ∷ 4 ∷ [])
+unfolding stepAnswer offset lengthOf stepPart wrongTimetableLength timetablePaddingSet wrongSteps some stepPadSet pad partsOf stepParts stepLength stepCount field number bitsOf bits
+step-two = refl
+
+pub step-three : stepAnswer timetable₁ 3 ≡ refused 45 0
+unfolding stepAnswer wrongTimetableLength timetablePaddingSet wrongSteps some stepPadSet pad partsOf stepParts stepLength stepCount field number bitsOf bits
+step-three = refl
+
+pub second-given : partGiven timetable₁ 2 ≡ 0x02 ∷ 0x04 ∷ 0x30 ∷ 0x80 ∷ []
+unfolding partGiven stepAnswer offset lengthOf stepPart wrongTimetableLength timetablePaddingSet wrongSteps some stepPadSet pad partsOf stepParts stepLength stepCount field number bitsOf bits
+second-given = refl
+
+pub none-given : partGiven timetable₁ 3 ≡ []
+unfolding partGiven stepAnswer wrongTimetableLength timetablePaddingSet wrongSteps some stepPadSet pad partsOf stepParts stepLength stepCount field number bitsOf bits
+none-given = refl
+
+-- two steps without moves
+abbrev pub alike : List ℕ
+alike = 0x00 ∷ 0x00 ∷ 0x08 ∷ 0x00 ∷ 0x00 ∷ []
+
+pub alike-bytes : partGiven alike 1 ≡ partGiven alike 2
+unfolding partGiven stepAnswer offset lengthOf stepPart wrongTimetableLength timetablePaddingSet wrongSteps some stepPadSet pad partsOf stepParts stepLength stepCount field number bitsOf bits
+alike-bytes = refl
+
+pub first-place : (block : ℕ) → placeGiven (block, 100) alike 1 ≡ (block, 103)
+unfolding placeGiven stepAnswer offset lengthOf stepPart wrongTimetableLength timetablePaddingSet wrongSteps some stepPadSet pad partsOf stepParts stepLength stepCount field number bitsOf bits
+first-place block = refl
+
+pub second-place : (block : ℕ) → placeGiven (block, 100) alike 2 ≡ (block, 104)
+unfolding placeGiven stepAnswer offset lengthOf stepPart wrongTimetableLength timetablePaddingSet wrongSteps some stepPadSet pad partsOf stepParts stepLength stepCount field number bitsOf bits
+second-place block = refl
+
+-- 40, by a byte too few and by a byte too many: the last step runs past the end, a byte is left over
+pub cut-short : readingAnswer (0x00 ∷ 0x00 ∷ 0x04 ∷ 0x02 ∷ 0x00 ∷ 0x10 ∷ []) ≡ refused 40 0
+unfolding readingAnswer wrongTimetableLength wrongSteps stepLength stepCount field number bitsOf bits
+cut-short = refl
+
+pub left-over : readingAnswer (0x00 ∷ 0x00 ∷ 0x04 ∷ 0x02 ∷ 0x00 ∷ 0x10 ∷ 0xC2 ∷ 0x00 ∷ []) ≡ refused 40 0
+unfolding readingAnswer wrongTimetableLength wrongSteps stepLength stepCount field number bitsOf bits
+left-over = refl
+
+-- 41, by a spare bit of the head and by a pad bit of a step of one move
+pub spare-bit : readingAnswer (0x00 ∷ 0x00 ∷ 0x05 ∷ 0x00 ∷ []) ≡ refused 41 0
+unfolding readingAnswer wrongTimetableLength timetablePaddingSet wrongSteps some stepPadSet pad partsOf stepParts stepLength stepCount field number bitsOf bits
+spare-bit = refl
+
+pub pad-bit : readingAnswer (0x00 ∷ 0x00 ∷ 0x04 ∷ 0x01 ∷ 0x00 ∷ 0x11 ∷ []) ≡ refused 41 0
+unfolding readingAnswer wrongTimetableLength timetablePaddingSet wrongSteps some stepPadSet pad partsOf stepParts stepLength stepCount field number bitsOf bits
+pad-bit = refl
+
+-- the order of document 01, "Programs": on F, racks at 0 and 3 with goals 3 and 0
+abbrev pub order₁ : List ℕ
+order₁ = 0x08 ∷ 0x0A ∷ 0x08 ∷ 0x00 ∷ 0x10 ∷ 0x02 ∷ 0x04 ∷ 0x20 ∷ 0x43 ∷ 0x08 ∷ 0x30 ∷ 0x03 ∷ 0x0C ∷ 0x00 ∷ []
+
+-- "On F, racks at 0, 1, 2: a first step 0>1, 1>2, 2>0", with the goals that it would reach
+abbrev pub ringOrder : List ℕ
+ringOrder = 0x08 ∷ 0x0A ∷ 0x0C ∷ 0x00 ∷ 0x10 ∷ 0x02 ∷ 0x04 ∷ 0x20 ∷ 0x43 ∷ 0x08 ∷ 0x30 ∷ 0x01 ∷ 0x08 ∷ 0x10 ∷ 0x80 ∷ []
+
+abbrev pub ringTimetable : List ℕ
+ringTimetable = 0x00 ∷ 0x00 ∷ 0x04 ∷ 0x03 ∷ 0x00 ∷ 0x10 ∷ 0x42 ∷ 0x08 ∷ 0x00 ∷ []
+
+-- "A first step 0>1, 1>0", with the goals that it would reach
+abbrev pub swapOrder : List ℕ
+swapOrder = 0x08 ∷ 0x0A ∷ 0x0C ∷ 0x00 ∷ 0x10 ∷ 0x02 ∷ 0x04 ∷ 0x20 ∷ 0x43 ∷ 0x08 ∷ 0x30 ∷ 0x01 ∷ 0x08 ∷ 0x10 ∷ 0x02 ∷ []
+
+abbrev pub swapTimetable : List ℕ
+swapTimetable = 0x00 ∷ 0x00 ∷ 0x04 ∷ 0x02 ∷ 0x00 ∷ 0x10 ∷ 0x40 ∷ []
+
+pub answer₁ : timetableAnswer order₁ timetable₁ ≡ accepted (2 ∷ 4 ∷ [])
+unfolding timetableAnswer judged misplaced replaySteps replayFrom legalStep every ascends leaves enters enteredOnce led occupied vacant onFloor goesTo after joined among isPair orderAnswer counts wrongRacks wrongPlaces repeats wrongEdges ascending precedes badEdge paddingSet wrongPositions wrongLength unitCount floorOf startsOf goalsOf orderOf positionCount edgeCount rackCount unclean misfits unitsLength positions total stepsOf stepMoves pairs wrongTimetableLength timetablePaddingSet wrongSteps some stepPadSet pad partsOf stepParts stepLength stepCount field number bitsOf bits
+answer₁ = refl
+
+pub well-formed₁ : WellFormed order₁
+unfolding timetableAnswer judged misplaced replaySteps replayFrom legalStep every ascends leaves enters enteredOnce led occupied vacant onFloor goesTo after joined among isPair orderAnswer counts wrongRacks wrongPlaces repeats wrongEdges ascending precedes badEdge paddingSet wrongPositions wrongLength unitCount floorOf startsOf goalsOf orderOf positionCount edgeCount rackCount unclean misfits unitsLength positions total stepsOf stepMoves pairs wrongTimetableLength timetablePaddingSet wrongSteps some stepPadSet pad partsOf stepParts stepLength stepCount field number bitsOf bits
+well-formed₁ = record { length-right = refl; positions-right = refl; padding-clear = refl; edges-right = refl; racks-right = refl }
+
+pub accepted₁ : AcceptedTimetable order₁ timetable₁ (2 ∷ 4 ∷ [])
+accepted₁ = timetable-solutions order₁ .0 timetable₁ (2 ∷ 4 ∷ []) .0 answer₁
+
+-- the racks change sides in two steps, rack 1 over position 1 and rack 2 over position 2
+pub solution₁ : SolutionOf order₁ 2 ((0 ∷ 3 ∷ []) ∷ (1 ∷ 2 ∷ []) ∷ (3 ∷ 0 ∷ []) ∷ [])
+unfolding trace after goesTo startsOf edgeCount rackCount positions stepsOf stepMoves pairs partsOf stepParts stepLength stepCount field number bitsOf bits
+solution₁ = accepted₁ .solution
+
+pub only₁ : OnlyTimetable order₁ 2 ((0 ∷ 3 ∷ []) ∷ (1 ∷ 2 ∷ []) ∷ (3 ∷ 0 ∷ []) ∷ [])
+only₁ = timetable-solutions order₁ .1 well-formed₁ 2 _ (lit< tt) solution₁
+
+pub ring-turned : timetableAnswer ringOrder ringTimetable ≡ refused 42 1
+unfolding timetableAnswer judged misplaced replaySteps replayFrom legalStep every ascends leaves enters enteredOnce led occupied vacant onFloor goesTo after joined among isPair orderAnswer counts wrongRacks wrongPlaces repeats wrongEdges ascending precedes badEdge paddingSet wrongPositions wrongLength unitCount floorOf startsOf goalsOf orderOf positionCount edgeCount rackCount unclean misfits unitsLength positions total stepsOf stepMoves pairs wrongTimetableLength timetablePaddingSet wrongSteps some stepPadSet pad partsOf stepParts stepLength stepCount field number bitsOf bits
+ring-turned = refl
+
+pub swapped : timetableAnswer swapOrder swapTimetable ≡ refused 42 1
+unfolding timetableAnswer judged misplaced replaySteps replayFrom legalStep every ascends leaves enters enteredOnce led occupied vacant onFloor goesTo after joined among isPair orderAnswer counts wrongRacks wrongPlaces repeats wrongEdges ascending precedes badEdge paddingSet wrongPositions wrongLength unitCount floorOf startsOf goalsOf orderOf positionCount edgeCount rackCount unclean misfits unitsLength positions total stepsOf stepMoves pairs wrongTimetableLength timetablePaddingSet wrongSteps some stepPadSet pad partsOf stepParts stepLength stepCount field number bitsOf bits
+swapped = refl
+
+-- two positions joined by an edge, a rack on each, and each start its goal
+abbrev pub fullOrder : List ℕ
+fullOrder = 0x04 ∷ 0x02 ∷ 0x08 ∷ 0x00 ∷ 0x10 ∷ 0x01 ∷ 0x00 ∷ 0x10 ∷ []
+
+pub full-right : WellFormed fullOrder
+unfolding orderAnswer counts wrongRacks wrongPlaces repeats wrongEdges ascending precedes badEdge paddingSet wrongPositions wrongLength unitCount floorOf startsOf goalsOf orderOf positionCount edgeCount rackCount unclean misfits unitsLength positions pairs some pad field number bitsOf bits
+full-right = record { length-right = refl; positions-right = refl; padding-clear = refl; edges-right = refl; racks-right = refl }
+
+pub full-count : rackCount fullOrder ≡ floorOf fullOrder .positions
+unfolding floorOf positionCount rackCount field number bitsOf bits
+full-count = refl
+
+full-accepted : timetableAnswer fullOrder (0x00 ∷ 0x00 ∷ 0x04 ∷ 0x00 ∷ []) ≡ accepted (1 ∷ 0 ∷ [])
+unfolding timetableAnswer judged misplaced replaySteps replayFrom legalStep every ascends leaves enters enteredOnce led occupied vacant onFloor goesTo after joined among isPair orderAnswer counts wrongRacks wrongPlaces repeats wrongEdges ascending precedes badEdge paddingSet wrongPositions wrongLength unitCount floorOf startsOf goalsOf orderOf positionCount edgeCount rackCount unclean misfits unitsLength positions total stepsOf stepMoves pairs wrongTimetableLength timetablePaddingSet wrongSteps some stepPadSet pad partsOf stepParts stepLength stepCount field number bitsOf bits
+full-accepted = refl
+
+pub full-waits : StillTimetable fullOrder (0x00 ∷ 0x00 ∷ 0x04 ∷ 0x00 ∷ []) (1 ∷ 0 ∷ [])
+full-waits = full-floor fullOrder (0x00 ∷ 0x00 ∷ 0x04 ∷ 0x00 ∷ []) (1 ∷ 0 ∷ []) full-right full-count .0 full-accepted
+
+-- a pause between the steps of the first case
+abbrev pub paused : List (List (ℕ × ℕ))
+paused = ((0, 1) ∷ (3, 2) ∷ []) ∷ [] ∷ ((1, 3) ∷ (2, 0) ∷ []) ∷ []
+
+pub paused-packable : Packable paused
+paused-packable = record {
+  few-steps = lit< tt;
+  steps-fit =
+      one-step (lit≤ tt) (more₂ (lit< tt) (lit< tt) (more₂ (lit< tt) (lit< tt) none₂))
+      (one-step (lit≤ tt) none₂ (one-step (lit≤ tt) (more₂ (lit< tt) (lit< tt) (more₂ (lit< tt) (lit< tt) none₂)) no-steps));
+}
+
+pub paused-record : timetableRecord paused ≡ 0x00 ∷ 0x00 ∷ 0x0C ∷ 0x02 ∷ 0x00 ∷ 0x10 ∷ 0xC2 ∷ 0x00 ∷ 0x02 ∷ 0x04 ∷ 0x30 ∷ 0x80 ∷ []
+unfolding timetableRecord timetableBits allStepBits stepBits pairBits padded pad toBytes bytes number bits
+paused-record = refl
+
+pub paused-accepted : timetableAnswer order₁ (timetableRecord paused) ≡ accepted (3 ∷ 4 ∷ [])
+paused-accepted =
+    let more : OneMore (timetableRecord steps₁) (timetableRecord paused) =
+    one-more (((0, 1) ∷ (3, 2) ∷ []) ∷ []) (((1, 3) ∷ (2, 0) ∷ []) ∷ []) paused-packable in
+    waiting-step (timetableRecord steps₁) (timetableRecord paused) more order₁ 2 4 .0 (ap (timetableAnswer order₁) record₁ ∙ answer₁)
