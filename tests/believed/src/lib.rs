@@ -1,0 +1,134 @@
+//! What a reader has to believe. A promise is a contract or a theorem; it cites definitions of `specs/`, and these are
+//! made of others. The files are read as text: a definition is a block that begins at the left margin, and it is made of
+//! the definitions whose names stand in it.
+
+mod source;
+
+use source::{Block, Module};
+use std::collections::{BTreeMap, BTreeSet};
+use std::fs;
+use std::path::Path;
+
+/// The contracts that a C caller or a user of the programs relies on, and demand 3's: every definition that these files
+/// cite. Of the timetable program's crate it is the program's own contract.
+const CONTRACTS: [(&str, &[&str]); 4] = [
+    ("crates/controller/src/lib.rt", &[]),
+    ("crates/delivery/src/lib.rt", &[]),
+    ("crates/plan_program/src/lib.rt", &[]),
+    ("crates/text/src/lib.rt", &["programText", "Wrote"]),
+];
+
+/// The records that the main theorems state; of a file without names, all of it.
+const THEOREMS: [(&str, &[&str]); 11] = [
+    ("crates/order/specs/Theorems.antt", &[]),
+    ("crates/plan/specs/Solutions.antt", &[]),
+    ("crates/timetable/specs/Solutions.antt", &[]),
+    ("crates/motion/specs/LegalStep.antt", &[]),
+    ("crates/motion/specs/Step.antt", &["Train"]),
+    ("crates/floor/specs/Plannable.antt", &[]),
+    ("crates/breakdown/specs/Answer.antt", &[]),
+    ("crates/controller/specs/Unpacked.antt", &[]),
+    ("crates/planner/specs/Planned.antt", &[]),
+    ("crates/scheduling/specs/Maker.antt", &["Timetabled"]),
+    ("crates/casebook/specs/CaseBook.antt", &["Claim", "starred"]),
+];
+
+/// A decision carries the proof that it decides: what it decides stands in its type, and nobody has to believe the rest.
+const DECISIONS: [&str; 1] = ["crates/floor/specs/WayDecision.antt"];
+
+pub struct Definition {
+    pub name: String,
+    pub lines: usize,
+}
+
+/// The definitions by their files.
+pub struct Believed {
+    pub files: BTreeMap<String, Vec<Definition>>,
+}
+
+impl Believed {
+    pub fn of(repository: &Path) -> Believed {
+        let modules = read_modules(repository);
+        let mut wanted: Vec<(String, String)> = Vec::new();
+        for (file, names) in CONTRACTS {
+            let cited = source::cited(&read(&repository.join(file)));
+            wanted.extend(
+                cited.into_iter().filter(|(_, name)| names.is_empty() || names.contains(&name.as_str())),
+            );
+        }
+        for (file, names) in THEOREMS {
+            let all = modules[file].blocks.iter().map(|block| block.name.as_str());
+            let names: Vec<&str> = if names.is_empty() { all.collect() } else { names.to_vec() };
+            wanted.extend(names.iter().map(|name| (file.to_string(), name.to_string())));
+        }
+        for (file, name) in &wanted {
+            assert!(modules[file.as_str()].defines(name), "{file} does not define {name}");
+        }
+        Believed { files: close(&modules, wanted) }
+    }
+
+    pub fn lines(&self) -> usize {
+        self.files.values().flatten().map(|definition| definition.lines).sum()
+    }
+}
+
+/// Every definition that is wanted, and every one that these are made of.
+fn close(
+    modules: &BTreeMap<String, Module>,
+    mut wanted: Vec<(String, String)>,
+) -> BTreeMap<String, Vec<Definition>> {
+    let mut taken: BTreeSet<(String, usize)> = BTreeSet::new();
+    while let Some((file, name)) = wanted.pop() {
+        let Some(module) = modules.get(&file) else { continue };
+        let Some(index) = module.find(&name) else { continue };
+        if DECISIONS.contains(&file.as_str()) || !taken.insert((file.clone(), index)) {
+            continue;
+        }
+        wanted.extend(made_of(&file, module, &module.blocks[index]));
+    }
+    let mut files: BTreeMap<String, Vec<Definition>> = BTreeMap::new();
+    for (file, index) in taken {
+        let block = &modules[&file].blocks[index];
+        let definition = Definition { name: block.name.clone(), lines: block.lines };
+        files.entry(file).or_default().push(definition);
+    }
+    files
+}
+
+/// The definitions whose names stand in a block: of its own file, and those that its file brings in.
+fn made_of(file: &str, module: &Module, block: &Block) -> Vec<(String, String)> {
+    let own = module
+        .blocks
+        .iter()
+        .flat_map(|other| other.names.iter())
+        .filter(|name| !block.names.contains(*name) && block.uses(name))
+        .map(|name| (file.to_string(), name.clone()));
+    let brought_in = module
+        .imports
+        .iter()
+        .filter(|import| block.uses(&import.called))
+        .map(|import| (import.file.clone(), import.name.clone()));
+    own.chain(brought_in).collect()
+}
+
+/// The files of `specs/` of every crate.
+fn read_modules(repository: &Path) -> BTreeMap<String, Module> {
+    let mut modules = BTreeMap::new();
+    for crate_folder in entries(&repository.join("crates")) {
+        for file in entries(&crate_folder.join("specs")) {
+            if file.extension().is_some_and(|extension| extension == "antt") {
+                let name = file.strip_prefix(repository).expect("it is below").display().to_string();
+                modules.insert(name, Module::parse(&read(&file)));
+            }
+        }
+    }
+    modules
+}
+
+fn entries(folder: &Path) -> Vec<std::path::PathBuf> {
+    fs::read_dir(folder).map_or_else(|_| Vec::new(), |all| all.flatten().map(|entry| entry.path()).collect())
+}
+
+fn read(file: &Path) -> String {
+    fs::read_to_string(file).unwrap_or_else(|error| panic!("{}: {error}", file.display()))
+}

@@ -1,0 +1,16 @@
+//! Prints the definitions that a reader has to believe: those that the promises below cite, and those that these
+//! are made of, file by file with their lines.
+
+use believed::Believed;
+use std::path::Path;
+
+fn main() {
+    let repository = Path::new(env!("CARGO_MANIFEST_DIR")).join("../..");
+    let believed = Believed::of(&repository);
+    for (file, definitions) in &believed.files {
+        let names: Vec<&str> = definitions.iter().map(|definition| definition.name.as_str()).collect();
+        let lines: usize = definitions.iter().map(|definition| definition.lines).sum();
+        println!("{lines:>4} {file}: {}", names.join(", "));
+    }
+    println!("{:>4} lines of definitions, in {} files", believed.lines(), believed.files.len());
+}

@@ -1,0 +1,39 @@
+//! docs/DECISIONS.md, "What a reader has to believe": its table names every file with such a definition, and no other.
+
+use believed::Believed;
+use std::collections::BTreeSet;
+use std::fs;
+use std::path::Path;
+
+/// The files that the table names. A name without a folder is in the folder of the one before it.
+fn named(document: &str) -> BTreeSet<String> {
+    let part = document.split("## What a reader has to believe").nth(1).expect("the part is there");
+    let part = part.split("\n## ").next().expect("it ends somewhere");
+    let mut files = BTreeSet::new();
+    let mut folder = String::new();
+    for row in part.lines().filter(|line| line.starts_with("| `")) {
+        let cell = row.split('|').nth(1).expect("a row has cells");
+        for name in cell.split('`').filter(|word| word.ends_with(".antt")) {
+            if let Some((before, _)) = name.rsplit_once('/') {
+                folder = before.to_string();
+            }
+            let file = name.rsplit('/').next().expect("a name has an end");
+            files.insert(format!("{folder}/{file}"));
+        }
+    }
+    files
+}
+
+#[test]
+fn the_table_names_just_the_files_with_such_definitions() {
+    let repository = Path::new(env!("CARGO_MANIFEST_DIR")).join("../..");
+    let document = fs::read_to_string(repository.join("docs/DECISIONS.md")).expect("the document is there");
+    let named = named(&document);
+    let believed: BTreeSet<String> = Believed::of(&repository).files.into_keys().collect();
+    let missing: Vec<_> = believed.difference(&named).collect();
+    let needless: Vec<_> = named.difference(&believed).collect();
+    assert!(
+        missing.is_empty() && needless.is_empty(),
+        "not named: {missing:?}; named without need: {needless:?}"
+    );
+}
