@@ -1,5 +1,4 @@
--- Writing bytes into a lent byte string, from a byte on: what a writer leaves, byte for byte, and that two writers one after the other write
--- what one would.
+-- Writing bytes into a lent byte string, from a byte on: what a writer leaves, byte for byte.
 --
 --     written s at l       the byte string s with the bytes l written from byte `at` on: what stood before them and behind them stays
 --     Fits s at l          s has room for l from byte `at` on

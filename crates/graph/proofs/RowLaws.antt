@@ -2,7 +2,6 @@
 --
 --     edge-same         an edge is counted alike from both its ends
 --     edge-loopless     no edge joins a position to itself
---     whole-rows        the positions in a set that has just those of P hang together where P does
 -- Assumes nothing.
 use Prim.Native.Nat.{ℕ}
 use mathlib.Core.Path.{_≡_, refl}

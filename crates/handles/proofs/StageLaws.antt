@@ -1,7 +1,7 @@
 -- Laws of a handle's places, and of the stage that it stands on.
 --
 --     Sought, sought-next, sought-last    the state of `place_of`: p stands at none of the places from s up to i
---     Copied, copied-none, copied-next, copied-all    the state of `copy_places`: j positions are copied
+--     Copied, copied-none, copied-next    the state of `copy_places`: j positions are copied
 --     Agreed, agreed-next    the state of `is_settled`: the places from s up to i hold what the goal has there
 --     among-between, between-among    the stage as the places from 0 on
 --     Region at s e k        the stage with what is not stacked of the handle: with the places from s + k up to e

@@ -1,7 +1,7 @@
--- What the tests of `Arrangement`, `Move` and `Step` say: one equivalence each, from the test that computes to the plain statement.
+-- What the tests of `Arrangement`, `Move` and `Step` say, as plain statements. proofs/StepTestsLaws.antt has an equivalence for each.
 --
 --     KeysDiffer key l   no two elements of l, at different places, have the same key
---     left m, entered m      the position that the move m leaves, and the one that it enters
+--     entered m              the position that the move m enters
 --     Ascends ms             of two moves, the one listed first leaves the lower position
 --     EnteredOnce ms         two moves, at different places, enter different positions
 --     OnFloor F m            both positions are below n and an edge joins them

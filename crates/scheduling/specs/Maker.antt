@@ -5,7 +5,7 @@
 --     leaves a r B             the buffer B after the answer a: with the record r in front where it is accepted, else unchanged
 --     bufferAfter o p B        the buffer B afterwards
 --     answerOf v               the maker's verdict v as an answer
---     Timetabled o p, timetabled     the made record is at most 3 × k + 3 bytes long, and the timetable checker accepts it, with s steps and k moves
+--     Timetabled o p           the made record is at most 3 × k + 3 bytes long, and the timetable checker accepts it, with s steps and k moves
 -- Assumes nothing.
 use Prim.Native.Nat.{ℕ, _+_, _*_, _≤_}
 use mathlib.Core.List.{List, [], _∷_, _++_}

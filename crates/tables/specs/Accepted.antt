@@ -1,7 +1,7 @@
 -- What an order that none of 10 to 14 turns down gives the layers above.
 --
---     WellPlaced o, well-placed   of a well-formed order: few positions, edges and racks of positions below 64, sound starts and goals
---     OrderGave o n e m, order-gave   what the order reader's acceptance with n, e and m tells
+--     WellPlaced o          of a well-formed order: few positions, edges and racks of positions below 64, sound starts and goals
+--     OrderGave o n e m     what the order reader's acceptance with n, e and m tells
 -- Assumes nothing.
 use Prim.Native.Nat.{ℕ, _+_, _-_, _*_, _≤_, _<_}
 use mathlib.Core.Path.{_≡_}

@@ -63,10 +63,11 @@ impl Module {
         let mut at = 0;
         while at < lines.len() {
             let line = lines[at];
-            if line.starts_with("use ") {
-                module.imports.extend(imports_of(line));
+            let is_import = without_marks(line).starts_with("use ");
+            if is_import {
+                module.imports.extend(imports_of(without_marks(line)));
             }
-            if line.is_empty() || line.starts_with([' ', '-']) || line.starts_with("use ") {
+            if line.is_empty() || line.starts_with([' ', '-']) || is_import {
                 at += 1;
                 continue;
             }
