@@ -36,7 +36,7 @@ use Rattle.floor.proofs.FloorLaws.{plannable-is}
 use Rattle.planner.specs.Moves.{Solves}
 use Rattle.planner.specs.Planner.{refusals, PlanMade, turned-down, made}
 use Rattle.planner.proofs.PlannerLaws.{unrefused, packed, plan-accepted}
-use Rattle.delivery.specs.Delivery.{Call, answered, Answers, planLength, planAlone, timetableAlone, planRoom, Called, unplanned, untimed, checked, Front, Timed, Delivered, Delivers}
+use Rattle.delivery.specs.Delivery.{Call, answered, Answers, planLength, planAlone, timetableAlone, planRoom, Called, unplanned, untimed, checked, Timed, Delivered, Delivers}
 
 never : {number place : ℕ} {v : List ℕ} → accepted v ≡ refused number place → ⊥
 never e = let z : _≡_ {A = ℕ} 0 1 = cc in omega arith
@@ -66,12 +66,6 @@ module _ (o : List ℕ) (can : Plannable o) (ms : List (ℕ × ℕ)) (solves : S
   plan-alone =
       ap (take (planLength (length ms))) (written-front P (planRecord ms))
       ∙ take-at (planRecord ms) (drop (length (planRecord ms)) P) (planLength (length ms)) plan-long
-
-  plan-stands : planRoom o ≤ length P → Front (planRecord ms) P (written P 0 (planRecord ms))
-  unfolding planLength unitsLength
-  plan-stands room =
-      let most = solves .few in
-      record { fits = omega (arith, plan-long); is = written-front P (planRecord ms) }
 
 pub plan-within : {o P P′ : List ℕ} {k : ℕ} → PlanMade o P (accepted (k ∷ [])) P′ → planLength k ≤ length P′
 plan-within {o} {P} (made ms right solves) = written-within o (unrefused o (length P) right) ms solves P
@@ -118,7 +112,7 @@ module _ (o p : List ℕ) (k : ℕ) (right : planAnswer o p ≡ accepted (k ∷ 
           steps = m;
           made = refl;
           short = omega (arith, short, count);
-          stands = record { fits = omega (arith, short, count); is = e ∙ left .0 };
+          stands = e ∙ left .0 ∙ sym (written-front T (timetableRecord (madeOf o p)));
           accepts = ap answered (ec ∙ judged-as ∙ ap (λ (x : ℕ). accepted (x ∷ k ∷ [])) same);
         }
 
@@ -139,7 +133,7 @@ module _ (o P : List ℕ) (can : Plannable o) (room : planRoom o ≤ length P)
     planned = refl;
     few = solves .few;
     long = plan-long o can ms solves P;
-    stands = plan-stands o can ms solves P room;
+    stands = refl;
     replayed = rw (packed o can ms solves .moves-are) (solves .replayed);
     accepts = right;
     then = then;

@@ -18,6 +18,7 @@ use lib.Dec.{lit≤}
 use Rattle.answers.specs.Answer.{accepted, refused}
 use Rattle.field.specs.Bits.{bits, number, bitsOf, field, pairs, positions, pairBits, pad, padded, bytes, toBytes}
 use Rattle.field.specs.Units.{unitsLength, misfits, unclean}
+use Rattle.field.specs.Writing.{written}
 use Rattle.order.specs.Floor.{isPair, among, joined}
 use Rattle.order.specs.Order.{positionCount, edgeCount, rackCount, unitCount, floorOf, startsOf, goalsOf, orderOf, wrongLength, wrongPositions, paddingSet, some, badEdge, precedes, ascending, wrongEdges, repeats, wrongPlaces, wrongRacks, counts, orderAnswer}
 use Rattle.motion.specs.Arrangement.{occupied, vacant}
@@ -86,7 +87,7 @@ low-first = refl
 -- five bytes stand behind the record
 pub buffer-1 : bufferAfter order₁ plan₁ (1 ∷ 2 ∷ 3 ∷ 4 ∷ 5 ∷ 6 ∷ 7 ∷ 8 ∷ 9 ∷ 10 ∷ 11 ∷ 12 ∷ 13 ∷ 14 ∷ 15 ∷ 16 ∷ [])
     ≡ 0x00 ∷ 0x00 ∷ 0x08 ∷ 0x02 ∷ 0x00 ∷ 0x10 ∷ 0xC2 ∷ 0x02 ∷ 0x04 ∷ 0x30 ∷ 0x80 ∷ 12 ∷ 13 ∷ 14 ∷ 15 ∷ 16 ∷ []
-unfolding bufferAfter makerAnswer timed stepFor rackAt rackFrom ofRack ofLeaving greatest madeOf madeSteps stepsFrom movesIn inStep sort insert timetableRecord timetableBits allStepBits stepBits pairBits padded pad toBytes bytes planAnswer wrongPlanLength planPaddingSet moveCount planMoves judged misplaced replayMoves replayFrom legalMove onFloor joined among isPair occupied vacant afterMove after goesTo orderAnswer wrongLength misfits unitsLength unitCount wrongPositions paddingSet unclean wrongEdges some badEdge precedes ascending wrongRacks wrongPlaces repeats orderOf floorOf startsOf goalsOf counts positionCount edgeCount rackCount field number bitsOf bits pairs positions
+unfolding bufferAfter written makerAnswer timed stepFor rackAt rackFrom ofRack ofLeaving greatest madeOf madeSteps stepsFrom movesIn inStep sort insert timetableRecord timetableBits allStepBits stepBits pairBits padded pad toBytes bytes planAnswer wrongPlanLength planPaddingSet moveCount planMoves judged misplaced replayMoves replayFrom legalMove onFloor joined among isPair occupied vacant afterMove after goesTo orderAnswer wrongLength misfits unitsLength unitCount wrongPositions paddingSet unclean wrongEdges some badEdge precedes ascending wrongRacks wrongPlaces repeats orderOf floorOf startsOf goalsOf counts positionCount edgeCount rackCount field number bitsOf bits pairs positions
 buffer-1 = refl
 
 pub buffer-44 : bufferAfter order₁ plan₁ (1 ∷ 2 ∷ 3 ∷ 4 ∷ 5 ∷ 6 ∷ 7 ∷ 8 ∷ 9 ∷ 10 ∷ 11 ∷ 12 ∷ 13 ∷ 14 ∷ []) ≡ 1 ∷ 2 ∷ 3 ∷ 4 ∷ 5 ∷ 6 ∷ 7 ∷ 8 ∷ 9 ∷ 10 ∷ 11 ∷ 12 ∷ 13 ∷ 14 ∷ []

@@ -24,6 +24,8 @@ use Rattle.field.proofs.HeadLaws.{length-headBytes}
 use Rattle.field.proofs.BitLaws.{field-lt}
 use Rattle.field.specs.Bytes.{BelowPairs, none₂, more₂}
 use Rattle.order.specs.Floor.{Floor}
+use Rattle.field.specs.Writing.{leftBy}
+use Rattle.field.proofs.WritingLaws.{written-front}
 use Rattle.order.specs.Order.{rackCount, floorOf, startsOf, goalsOf, counts, orderAnswer, WellFormed}
 use Rattle.order.proofs.OrderLaws.{accepted-is}
 use Rattle.motion.specs.Arrangement.{Arrangement}
@@ -48,7 +50,7 @@ use Rattle.scheduling.specs.Making.{timed, greatest, madeSteps}
 use Rattle.scheduling.proofs.Made.{Made, made}
 use Rattle.scheduling.specs.Rows.{stepsBytes}
 use Rattle.scheduling.proofs.RecordBytes.{record-bytes}
-use Rattle.scheduling.specs.Maker.{madeOf, makerAnswer, bufferAfter, leaves, Timetabled}
+use Rattle.scheduling.specs.Maker.{madeOf, makerAnswer, bufferAfter, Timetabled}
 
 pub record PlanGave (o p v : List ℕ) : Type 0 where
   pub order-right : WellFormed o
@@ -167,4 +169,7 @@ pub maker-record : (o p B v : List ℕ) → makerAnswer o p (length B) ≡ accep
     → (bufferAfter o p B ≡ timetableRecord (madeOf o p) ++ drop (length (timetableRecord (madeOf o p))) B) × Timetabled o p
 unfolding bufferAfter
 maker-record o p B v e =
-    (ap (λ (a : Answer). leaves a (timetableRecord (madeOf o p)) B) e, timetabled o p (moveCount p ∷ []) (maker-gave o p (length B) v e .plan-accepted))
+    let r = timetableRecord (madeOf o p) in (
+      ap (λ (a : Answer). leftBy a r B) e ∙ written-front B r,
+      timetabled o p (moveCount p ∷ []) (maker-gave o p (length B) v e .plan-accepted),
+    )

@@ -21,8 +21,8 @@ use Rattle.field.specs.Bits.{pairs}
 use Rattle.field.proofs.BitLaws.{field-lt}
 use Rattle.field.proofs.RecordLaws.{rest-is, pairs-drop}
 use Rattle.field.proofs.UnitLaws.{Fitting, fitting, tail-units}
-use Rattle.field.specs.Writing.{written, Fits}
-use Rattle.field.proofs.WritingLaws.{written-front, length-written}
+use Rattle.field.specs.Writing.{written, leftBy, Fits}
+use Rattle.field.proofs.WritingLaws.{length-written}
 use Rattle.order.specs.Order.{floorOf, startsOf}
 use Rattle.plan.specs.Plan.{moveCount, planMoves, wrongPlanLength, planAnswer}
 use Rattle.plan.proofs.PlanRecord.{moves-counted}
@@ -34,14 +34,14 @@ use Rattle.scheduling.proofs.FillingLaws.{latest-few}
 use Rattle.scheduling.specs.Windows.{allSteps}
 use Rattle.scheduling.proofs.TabledSteps.{latest-rule, allSteps-made}
 use Rattle.scheduling.proofs.RecordBytes.{record-bytes}
-use Rattle.scheduling.specs.Maker.{madeOf, makerAnswer, bufferAfter, leaves}
+use Rattle.scheduling.specs.Maker.{madeOf, makerAnswer, bufferAfter}
 use Rattle.scheduling.proofs.MakerLaws.{PlanGave, plan-gave, made-of, made-packable}
 
 module _ (o p B : List ℕ) where
   -- an answer of the maker, and what it leaves
   after-refusal : (n q : ℕ) → makerAnswer o p (length B) ≡ refused n q → B ≡ bufferAfter o p B
   unfolding bufferAfter
-  after-refusal n q e = sym (ap (λ (a : Answer). leaves a (timetableRecord (madeOf o p)) B) e)
+  after-refusal n q e = sym (ap (λ (a : Answer). leftBy a (timetableRecord (madeOf o p)) B) e)
 
   pub maker-refused : (a r : Answer) (n q : ℕ) → a ≡ planAnswer o p → a ≡ refused n q → r ≡ passUp a (accepted (0 ∷ []))
       → (r ≡ makerAnswer o p (length B)) × (B ≡ bufferAfter o p B)
@@ -131,6 +131,5 @@ module _ (o p B : List ℕ) where
               ap (λ (n : ℕ). accepted (n ∷ [])) rule ∙ sym up,
               buffer
                   ∙ ap (written B 0) (sym whole)
-                  ∙ written-front B (timetableRecord (madeOf o p))
-                  ∙ sym (ap (λ (a : Answer). leaves a (timetableRecord (madeOf o p)) B) up),
+                  ∙ sym (ap (λ (a : Answer). leftBy a (timetableRecord (madeOf o p)) B) up),
             )
