@@ -20,6 +20,7 @@ use mathlib.Core.Path.{_≡_, refl}
 use lib.Dec.{T, lit<, lit≤}
 use lib.ListN.{getD}
 use Rattle.order.specs.Floor.{Floor, isPair, among, joined}
+use Rattle.order.specs.Order.{some}
 use Rattle.motion.specs.Arrangement.{Arrangement, occupied, vacant}
 use Rattle.motion.specs.Move.{onFloor, legalMove, faultBy, moveFault, goesTo, after, afterMove}
 use Rattle.motion.specs.Step.{leaves, enters}
@@ -115,11 +116,11 @@ unfolding replayMoves replayFrom moveFault faultBy onFloor joined among isPair o
 detour-leads = replayMoves-ended floorF starts ((3, 1) ∷ (1, 3) ∷ (0, 1) ∷ []) (1 ∷ 3 ∷ []) .0 refl
 
 pub carried-away : Leads floorF starts ((3, 1) ∷ (1, 3) ∷ (0, 1) ∷ (1, 2) ∷ (3, 1) ∷ (1, 3) ∷ []) (2 ∷ 3 ∷ [])
-unfolding othersMoves undo turned enters joined among isPair occupied vacant afterMove after goesTo
+unfolding othersMoves undo turned enters some joined among isPair occupied vacant afterMove after goesTo
 carried-away = conjugate-carry floorF 0 2 starts-sound (lit< tt) tt tt detour-leads (lit< tt) tt
 
 pub untouched-kept : (getD starts 1 0 ≡ 3) × T (vacant (1 ∷ 3 ∷ []) 2)
-unfolding leaves enters occupied vacant
+unfolding leaves enters some occupied vacant
 untouched-kept = (rack-stays floorF 1 aside-leads (lit< tt) tt, vacant-before floorF 2 aside-leads tt tt)
 
 pub plan-dropped : Leads floorF (0 ∷ []) ((0, 1) ∷ (1, 3) ∷ []) (3 ∷ [])
