@@ -15,6 +15,7 @@ use mathlib.Core.Path.{_≡_, refl, sym, _∙_}
 use lib.Dec.{T, eqb}
 use lib.ListN.{length, getD}
 use Rattle.order.specs.Floor.{Floor}
+use Rattle.order.specs.Order.{some}
 use Rattle.motion.specs.Arrangement.{Arrangement, vacant}
 use Rattle.motion.proofs.ArrangementLaws.{vacant-racks}
 use Rattle.motion.proofs.Lawful.{Leads, still, _then_}
@@ -30,11 +31,11 @@ neither a p b t =
     (λ e. n (or-parts (eqb a p) b .1 (inl (eqb-parts a p .1 e))), not-parts b .1 (λ u. n (or-parts (eqb a p) b .1 (inr u))))
 
 pub enters-first : (m : ℕ × ℕ) (ms : List (ℕ × ℕ)) (p : ℕ) → T (not (enters (m ∷ ms) p)) → (m .1 ≢ p) × T (not (enters ms p))
-unfolding enters
+unfolding enters some
 enters-first m ms p t = neither (m .1) p (enters ms p) t
 
 pub leaves-first : (m : ℕ × ℕ) (ms : List (ℕ × ℕ)) (p : ℕ) → T (not (leaves (m ∷ ms) p)) → (m .0 ≢ p) × T (not (leaves ms p))
-unfolding leaves
+unfolding leaves some
 leaves-first m ms p t = neither (m .0) p (leaves ms p) t
 
 pub vacant-move : (A : Arrangement) (m : ℕ × ℕ) (y : ℕ) → T (vacant A y) → m .1 ≢ y → T (vacant (afterMove A m) y)

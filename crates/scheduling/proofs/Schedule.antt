@@ -47,25 +47,6 @@ arranged-from : (A : Arrangement) (t : Timed) (l : List Timed) (i : ℕ) → t .
 unfolding arranged
 arranged-from A t l i h = rw (le-leb (t .step) i h)
 
-rackFrom-later : (k q : ℕ) (A : Arrangement) (p : ℕ) → q ≢ p → rackFrom k (q ∷ A) p ≡ rackFrom (suc k) A p
-unfolding rackFrom
-rackFrom-later k q A p e = rw (ne-eqb q p e)
-
-rackFrom-finds : (k : ℕ) (A : Arrangement) (p : ℕ) → T (occupied A p) → (r : ℕ) × (r < length A) × (getD A r 0 ≡ p) × (rackFrom k A p ≡ k + r)
-unfolding rackFrom occupied
-rackFrom-finds k [] p o = absurd o
-rackFrom-finds k (q ∷ A) p o =
-    ⊎-elim
-    (λ (e : q ≡ p). (0, omega arith, e, rw (eq-eqb q p e) (omega arith)))
-    (λ (e : q ≢ p).
-    let w = rackFrom-finds (suc k) A p (⊎-elim (λ t. absurd (e (eqb-parts q p .0 t))) (λ t. t) (or-parts (eqb q p) (occupied A p) .0 o)) in
-    (suc (w .0), omega (arith, w .1), w .2, rackFrom-later k q A p e ∙ omega (arith, w .3)))
-    (equal? q p)
-
-pub rackAt-finds : (A : Arrangement) (p : ℕ) → T (occupied A p) → (r : ℕ) × (r < length A) × (getD A r 0 ≡ p) × (rackAt A p ≡ suc r)
-unfolding rackAt
-rackAt-finds A p o = let w = rackFrom-finds 1 A p o in (w .0, w .1, w .2, omega (arith, w .3))
-
 pub record Scheduled (F : Floor) (A : Arrangement) (l : List Timed) (B : Arrangement) : Type 0 where
   -- each step is legal, and leads on
   pub steps : (i : ℕ) → StepMoves F (arranged A l i) (inStep (suc i) l) (arranged A l (suc i))

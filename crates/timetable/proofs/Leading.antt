@@ -11,7 +11,7 @@ use mathlib.Core.Path.{_≡_, refl, sym, subst}
 use Rattle.answers.specs.Answer.{accepted}
 use Rattle.order.specs.Order.{rackCount, floorOf, startsOf, goalsOf, WellFormed}
 use Rattle.motion.proofs.Lawful.{LeadsSteps, replaySteps-ended}
-use Rattle.motion.specs.StepSolutions.{stepsOf as stepsBetween}
+use Rattle.motion.specs.StepSolutions.{stepsBetween}
 use Rattle.motion.proofs.StepSolutionsLaws.{solutions-iff}
 use Rattle.tables.proofs.AcceptedLaws.{well-placed}
 use Rattle.timetable.specs.Timetable.{stepCount, partsOf, stepsOf, total, timetableAnswer}

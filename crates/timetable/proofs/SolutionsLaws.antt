@@ -26,7 +26,7 @@ use Rattle.motion.proofs.LegalStepLaws.{legalStep-iff}
 use Rattle.motion.specs.Judgement.{judged}
 use Rattle.motion.proofs.JudgementLaws.{judged-accepted}
 use Rattle.motion.proofs.StepLimits.{step-size}
-use Rattle.motion.specs.StepSolutions.{stepsOf as stepsBetween}
+use Rattle.motion.specs.StepSolutions.{stepsBetween}
 use Rattle.motion.proofs.StepSolutionsLaws.{OnlySteps, solution-replay, solutions-iff}
 use Rattle.tables.proofs.AcceptedLaws.{well-placed}
 use Rattle.timetable.specs.Timetable.{timetableRecord, stepCount, partsOf, stepsOf, total, timetableAnswer}

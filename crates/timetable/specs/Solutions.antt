@@ -18,7 +18,7 @@ use Rattle.motion.specs.Arrangement.{Arrangement}
 use Rattle.motion.specs.Move.{after}
 use Rattle.motion.specs.Replay.{trace}
 use Rattle.motion.specs.ParallelPathFinding.{Solution}
-use Rattle.motion.specs.StepSolutions.{stepsOf as stepsBetween}
+use Rattle.motion.specs.StepSolutions.{stepsBetween}
 use Rattle.timetable.specs.Timetable.{stepCount, partsOf, stepsOf, total, timetableAnswer}
 use Rattle.timetable.specs.Reading.{WellPacked, moveCount}
 

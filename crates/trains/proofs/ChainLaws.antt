@@ -18,6 +18,7 @@ use lib.Seq.{getD-set-same, getD-set-other}
 use lib.Dec.{T, eqb, not-T}
 use mir.Facts.{and-yes, yes-and, or-yes}
 use Rattle.field.specs.Bytes.{BelowPairs, none₂, more₂}
+use Rattle.order.specs.Order.{some}
 use Rattle.motion.specs.Arrangement.{Arrangement, occupied, vacant}
 use Rattle.motion.specs.Move.{goesTo}
 use Rattle.motion.specs.Step.{leaves, led}
@@ -144,7 +145,7 @@ module _ (ms : List (ℕ × ℕ)) (t h : List ℕ) (targets : Targets ms t) wher
 
 noted-at : (t : List ℕ) {ms : List (ℕ × ℕ)} → BelowPairs 64 ms → length t ≡ 64 → Ascends ms → (p : ℕ)
     → getD (noted t ms) p 0 ≡ cond (leaves ms p) (goesTo ms p + 1) (getD t p 0)
-unfolding noted leaves goesTo
+unfolding noted leaves some goesTo
 noted-at t none₂ n up p = refl
 noted-at t (more₂ {p = m} {l = ms} k₀ k₁ r) n up p =
     noted-at (set t (m .0) (m .1 + 1)) r (length-set t (m .0) (m .1 + 1) ∙ n) (Pairwise·of-cons up) p

@@ -23,6 +23,7 @@ use lib.Dec.{leb, eqb, leb·zero}
 use Rattle.field.specs.Bits.{field, pairs}
 use Rattle.field.specs.Bytes.{BelowPairs, none₂, more₂}
 use Rattle.field.proofs.RecordLaws.{pairs-lt}
+use Rattle.order.specs.Order.{some}
 use Rattle.motion.specs.Step.{every, ascends, enters, enteredOnce}
 use Rattle.motion.proofs.Test.{equal?}
 use Rattle.tables.specs.Tables.{edgeAt, heldAt}
@@ -65,7 +66,7 @@ and-swap false true c = refl
 and-swap false false c = refl
 
 unflagged-set : (v : List ℕ) (p : ℕ) (ms : List (ℕ × ℕ)) → p < length v → unflagged (set v p 1) ms ≡ (not (enters ms p) && unflagged v ms)
-unfolding unflagged every enters
+unfolding unflagged every enters some
 unflagged-set v p [] h = refl
 unflagged-set v p (m ∷ ms) h =
     rw (flag-set v p (m .1) h, unflagged-set v p ms h) (regroup (eqb (m .1) p) (heldAt v (m .1)) (enters ms p) (every (λ m. not (heldAt v (m .1))) ms))

@@ -19,11 +19,11 @@ use Rattle.motion.specs.Arrangement.{Arrangement, vacant}
 use Rattle.motion.proofs.ArrangementLaws.{occupied-rack, vacant-racks}
 use Rattle.motion.specs.Move.{goesTo, after}
 use Rattle.motion.proofs.MoveLaws.{after-length, after-at}
-use Rattle.motion.specs.Step.{leaves, enters, Train, leader, follows}
+use Rattle.motion.specs.Step.{leaves, enters}
 use Rattle.motion.specs.StepTests.{EnteredOnce}
 use Rattle.motion.proofs.StepTestsLaws.{occupied-iff, vacant-iff, leaves-iff, enters-iff, Goes, taken, stays, goesTo-cases, goesTo-stays, goesTo-takes}
 use Rattle.motion.proofs.Trains.{train-member}
-use Rattle.motion.specs.LegalStep.{LegalStep}
+use Rattle.motion.specs.LegalStep.{Train, leader, follows, LegalStep}
 use Rattle.motion.proofs.ListLaws.{by-member, pairwise-rel}
 use Rattle.motion.proofs.Test.{equal?, decided}
 use Rattle.tables.proofs.TablesLaws.{Holds}
@@ -97,9 +97,9 @@ module _ (F : Floor) (few : F .positions ≤ 64) (A : Arrangement) (h : List ℕ
 
   -- no move enters a position whose rack stays
   alone : (q : ℕ) → List·Memᴰ q A → ((m : ℕ × ℕ) → List·Memᴰ m ms → m .0 ≢ q) → (m : ℕ × ℕ) → List·Memᴰ m ms → m .1 ≢ q
-  alone q there stay m k e = on (s .trains m k)
+  alone q there stay m k e = on (s .trains m k .1)
     where
-      on : Train A ms m → ⊥
+      on : {i : ℕ} → Train A ms i m → ⊥
       on (leader n v) = vacant-iff A (m .1) .0 v (Memᴰ·cast e there)
       on (follows {m′ = m′} n f t) = stay m′ (train-member A ms t) (sym f ∙ e)
 
