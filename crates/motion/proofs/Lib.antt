@@ -1,4 +1,5 @@
 pub mod ArrangementLaws
+pub mod BetweenLaws
 pub mod Choice
 pub mod Conjugation
 pub mod Exchange
