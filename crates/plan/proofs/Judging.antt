@@ -1,5 +1,5 @@
--- The judgement on tables, from what its calls give: g and h are the tables filled, r says how the replay ended and h′ is the table after it,
--- q the lowest misplaced rack or 0.
+-- The judgement on tables, from what its calls give: g and h are the tables filled, r says how the replay ended, h′ is the table after it,
+-- and q the lowest misplaced rack or 0.
 --
 --     stopped, misplaced, settled    the replay's fault, 33, and acceptance
 -- Assumes nothing.
