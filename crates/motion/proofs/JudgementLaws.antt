@@ -40,7 +40,8 @@ accepted-counts : (v w : List ℕ) → accepted v ≡ accepted w → v ≡ w
 accepted-counts v w e = cc
 
 module _ (off : ℕ) (G counts v : List ℕ) where
-  judged-to : (x : Replayed) → ((A : Arrangement) → x ≡ ended A → length A ≡ length G) → judged off G counts x ≡ accepted v → (x ≡ ended G) × (counts ≡ v)
+  judged-to : (x : Replayed) → ((A : Arrangement) → x ≡ ended A → length A ≡ length G) → judged off G counts x ≡ accepted v
+      → (x ≡ ended G) × (counts ≡ v)
   unfolding judged
   judged-to (stopped f j) l e = absurd (let z : _≡_ {A = ℕ} 0 1 = cc in omega arith)
   judged-to (ended A) l e =
@@ -52,5 +53,6 @@ module _ (off : ℕ) (G counts v : List ℕ) where
   unfolding judged
   judged-from x t = rw (t .0) (rw (misplaced-same 1 G) (ap accepted (t .1)))
 
-  pub judged-accepted : (x : Replayed) → ((A : Arrangement) → x ≡ ended A → length A ≡ length G) → (judged off G counts x ≡ accepted v) ↔ ((x ≡ ended G) × (counts ≡ v))
+  pub judged-accepted : (x : Replayed) → ((A : Arrangement) → x ≡ ended A → length A ≡ length G)
+      → (judged off G counts x ≡ accepted v) ↔ ((x ≡ ended G) × (counts ≡ v))
   judged-accepted x l = (judged-to x l, judged-from x)

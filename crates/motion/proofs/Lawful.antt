@@ -115,7 +115,8 @@ module _ {X : Type 0} (fault : Arrangement → X → ℕ) (next : Arrangement �
 -- what has no fault exactly if it is legal
 module _ {X : Type 0} (fault : Arrangement → X → ℕ) (legal : Arrangement → X → Bool) (next : Arrangement → X → Arrangement)
     (none : (A : Arrangement) (x : X) → eqb (fault A x) 0 ≡ legal A x) where
-  ended-lawful : (i : ℕ) (A : Arrangement) (xs : List X) (B : Arrangement) → replayFrom fault next i A xs ≡ ended B → Lawful legal next A xs B
+  ended-lawful : (i : ℕ) (A : Arrangement) (xs : List X) (B : Arrangement) → replayFrom fault next i A xs ≡ ended B
+      → Lawful legal next A xs B
   unfolding replayFrom
   ended-lawful i A [] B e = let same : A ≡ B = cc in rw (← same) still
   ended-lawful i A (x ∷ xs) B e =
@@ -129,7 +130,8 @@ module _ {X : Type 0} (fault : Arrangement → X → ℕ) (legal : Arrangement �
       cond-true (eqb (fault A x) 0) (replayFrom fault next (suc i) (next A x) xs) (stopped (fault A x) i) (rw (none A x) l)
       ∙ lawful-ended (suc i) p
 
-  pub replay-ended : (i : ℕ) (A : Arrangement) (xs : List X) (B : Arrangement) → (replayFrom fault next i A xs ≡ ended B) ↔ Lawful legal next A xs B
+  pub replay-ended : (i : ℕ) (A : Arrangement) (xs : List X) (B : Arrangement)
+      → (replayFrom fault next i A xs ≡ ended B) ↔ Lawful legal next A xs B
   replay-ended i A xs B = (ended-lawful i A xs B, lawful-ended i)
 
   stops-later : (i : ℕ) (A : Arrangement) (x : X) (xs : List X) (f j : ℕ) → T (legal A x)

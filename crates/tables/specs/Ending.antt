@@ -1,5 +1,5 @@
--- A replay on tables by a loop, whose function says how it ended and leaves the last table behind. What the loops of the plan checker and of
--- the timetable checker have in common.
+-- A replay on tables by a loop, whose function says how it ended and leaves the last table behind. What the loops of the plan checker and
+-- of the timetable checker have in common.
 --
 --     endOf r h      how the replay ended: stopped with the fault and the place that r has, or at the table h
 -- Assumes nothing.

@@ -1,5 +1,5 @@
-// Replay on tables: the laws of specs/ say how a matrix of edges and a table of racks stand for a floor and an arrangement. Here is what the
-// plan checker and the timetable checker share: how a replay ended, and the test that both end with.
+// Replay on tables: the laws of specs/ say how a matrix of edges and a table of racks stand for a floor and an arrangement. Here is what
+// the plan checker and the timetable checker share: how a replay ended, and the test that both end with.
 use answers::Fault;
 ghost use mathlib.Core.Path.{_≡_};
 ghost use Prim.Native.Nat.{_+_, _*_, _≤_};
