@@ -5,7 +5,7 @@
 --     computed o p           the plan checker's answer, with all that it is made of open
 --     case-1, case-7         starred cases 1, first half, and 7
 --     meets-30, ..           one plan each for the other numbers; an order's refusal is passed up
---     case-well-formed, case-accepted, case-solution, case-only    an order, its plan accepted, a solution and its one record, for the theorems
+--     case-well-formed, case-solution, case-accepted, case-told    an order, a solution, its record, and that it is accepted, for the theorems
 --     full-empty, bare-empty                        an empty plan on a full floor and on one without racks, for the limits
 --     case-written, case-read                       writing and reading the case book's moves
 -- Assumes nothing.
@@ -26,7 +26,10 @@ use Rattle.motion.specs.Judgement.{misplaced, judged}
 use Rattle.plan.specs.Plan.{planBits, planRecord, moveCount, planMoves, wrongPlanLength, planPaddingSet, planAnswer}
 use Rattle.plan.proofs.PlanRecord.{Written, written}
 use Rattle.plan.proofs.Limits.{EmptyPlan, full-floor, no-racks}
-use Rattle.plan.specs.Solutions.{SolutionOf, AcceptedPlan, OnlyRecord}
+use Rattle.plan.specs.Solutions.{SolutionOf, AcceptedPlan}
+use Rattle.motion.specs.StepOf.{moved}
+use Rattle.motion.specs.StepSolutions.{movesBetween}
+use Rattle.plan.proofs.Replayed.{ReplayedPlan, plan-replayed}
 use Rattle.plan.proofs.SolutionsLaws.{plan-solutions}
 
 -- n = 4, edges 0-1, 0-2, 1-2, 1-3, 2-3, rack 1 from 0 to 3, rack 2 from 3 to 0
@@ -91,16 +94,26 @@ pub case-well-formed : WellFormed caseBook
 unfolding computed
 case-well-formed = record { length-right = refl; positions-right = refl; padding-clear = refl; edges-right = refl; racks-right = refl }
 
--- the four moves' arrangements are a solution, and the case book's bytes are their one record
-pub case-accepted : AcceptedPlan caseBook casePlan (4 ∷ [])
-case-accepted = plan-solutions caseBook .0 casePlan (4 ∷ []) .0 case-1
+-- the four moves' arrangements are a solution, and the case book's bytes are its record
+pub case-replayed : ReplayedPlan caseBook casePlan (4 ∷ [])
+case-replayed = plan-replayed caseBook .0 casePlan (4 ∷ []) .0 case-1
 
 pub case-solution : SolutionOf caseBook 4 ((0 ∷ 3 ∷ []) ∷ (1 ∷ 3 ∷ []) ∷ (1 ∷ 2 ∷ []) ∷ (1 ∷ 0 ∷ []) ∷ (3 ∷ 0 ∷ []) ∷ [])
 unfolding moveCount planMoves startsOf edgeCount rackCount field number bitsOf bits pairs positions trace afterMove after goesTo
-case-solution = case-accepted .solution
+case-solution = case-replayed .solution
 
-pub case-only : OnlyRecord caseBook 4 ((0 ∷ 3 ∷ []) ∷ (1 ∷ 3 ∷ []) ∷ (1 ∷ 2 ∷ []) ∷ (1 ∷ 0 ∷ []) ∷ (3 ∷ 0 ∷ []) ∷ [])
-case-only = plan-solutions caseBook .1 case-well-formed 4 _ (lit< tt) case-solution
+pub case-accepted : AcceptedPlan caseBook casePlan (4 ∷ [])
+unfolding movesBetween moved planRecord planBits toBytes bytes padded pad number bits pairBits
+case-accepted =
+    record {
+      order-right = case-well-formed;
+      moves = 4;
+      few = lit< tt;
+      arrangements = (0 ∷ 3 ∷ []) ∷ (1 ∷ 3 ∷ []) ∷ (1 ∷ 2 ∷ []) ∷ (1 ∷ 0 ∷ []) ∷ (3 ∷ 0 ∷ []) ∷ [];
+      solution = case-solution;
+      is = refl;
+      counted = refl;
+    }
 
 case-small : BelowPairs 64 caseMoves
 case-small = more₂ (lit< tt) (lit< tt) (more₂ (lit< tt) (lit< tt) (more₂ (lit< tt) (lit< tt) (more₂ (lit< tt) (lit< tt) none₂)))
@@ -111,6 +124,10 @@ case-written = refl
 
 pub case-read : Written caseMoves
 case-read = written caseMoves (lit< tt) case-small
+
+-- and by the theorem it is accepted
+pub case-told : planAnswer caseBook casePlan ≡ accepted (4 ∷ [])
+case-told = plan-solutions caseBook casePlan (4 ∷ []) (rw (← case-written) (case-read .are-bytes)) .1 case-accepted
 
 -- n = 1, one rack from 0 to 0
 abbrev fullFloor : List ℕ

@@ -26,7 +26,7 @@ use Rattle.motion.proofs.SoundLaws.{full-leads, no-racks-leads}
 use Rattle.tables.proofs.AcceptedLaws.{well-placed}
 use Rattle.plan.specs.Plan.{moveCount, planMoves, wrongPlanLength, planPaddingSet, planAnswer}
 use Rattle.plan.proofs.PlanRecord.{moves-counted}
-use Rattle.plan.proofs.SolutionsLaws.{plan-solutions}
+use Rattle.plan.proofs.Replayed.{plan-replayed}
 
 module _ (o p v : List ℕ) where
   pub record LeadingPlan : Type 0 where
@@ -46,7 +46,7 @@ module _ (o p v : List ℕ) where
   pub accepted-leads : (planAnswer o p ≡ accepted v) ↔ LeadingPlan
   accepted-leads = (
     (λ a.
-        let t = plan-solutions o .0 p v .0 a in
+        let t = plan-replayed o .0 p v .0 a in
         let solved = pebble-replay (floorOf o) (rackCount o) (startsOf o) (goalsOf o) (well-placed o (t .order-right) .task) .0 (planMoves p) in
         record {
           order-right = t .order-right;
@@ -57,7 +57,7 @@ module _ (o p v : List ℕ) where
         }),
     (λ t.
         let solved = pebble-replay (floorOf o) (rackCount o) (startsOf o) (goalsOf o) (well-placed o (t .order-right) .task) .0 (planMoves p) in
-        plan-solutions o .0 p v .1
+        plan-replayed o .0 p v .1
         (record {
           order-right = t .order-right;
           length-right = t .length-right;

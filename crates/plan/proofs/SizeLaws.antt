@@ -16,13 +16,12 @@ use Rattle.field.proofs.BitLaws.{field-lt}
 use Rattle.field.specs.Units.{unitsLength}
 use Rattle.plan.specs.Plan.{planRecord, moveCount, planAnswer}
 use Rattle.plan.proofs.PlanRecord.{length-record}
-use Rattle.plan.specs.Solutions.{AcceptedPlan}
-use Rattle.plan.proofs.SolutionsLaws.{plan-solutions}
+use Rattle.plan.proofs.Replayed.{ReplayedPlan, plan-replayed}
 
 pub moves-small : (o p : List ℕ) (k : ℕ) → accepted (k ∷ []) ≡ planAnswer o p → k < 2 ^ 22
 unfolding moveCount
 moves-small o p k e =
-    let gave : AcceptedPlan o p (k ∷ []) = plan-solutions o .0 p (k ∷ []) .0 (sym e) in
+    let gave : ReplayedPlan o p (k ∷ []) = plan-replayed o .0 p (k ∷ []) .0 (sym e) in
     subst (λ (n : ℕ). n < 2 ^ 22) (head-eq-of-cons-eq (gave .counted)) (field-lt p 0 22)
 
 module _ (n : ℕ) where

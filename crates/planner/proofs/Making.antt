@@ -30,7 +30,7 @@ use Rattle.tables.specs.Accepted.{OrderGave}
 use Rattle.tables.proofs.AcceptedLaws.{order-gave}
 use Rattle.plan.specs.Plan.{planRecord}
 use Rattle.plan.proofs.PlanRecord.{record-parts}
-use Rattle.plan.proofs.SolutionsLaws.{leads-small}
+use Rattle.plan.proofs.Replayed.{leads-small}
 use Rattle.floor.specs.FloorAnswer.{floorAnswer}
 use Rattle.floor.specs.Plannable.{Plannable}
 use Rattle.floor.proofs.FloorLaws.{plannable-is}

@@ -26,7 +26,7 @@ use Rattle.tables.proofs.AcceptedLaws.{well-placed}
 use Rattle.plan.specs.Plan.{planRecord, planAnswer}
 use Rattle.plan.proofs.PlanRecord.{Written, written as written-right}
 use Rattle.plan.proofs.SizeLaws.{most-moves}
-use Rattle.plan.proofs.SolutionsLaws.{leads-small}
+use Rattle.plan.proofs.Replayed.{leads-small}
 use Rattle.floor.specs.FloorAnswer.{floorAnswer}
 use Rattle.floor.specs.Plannable.{Plannable}
 use Rattle.floor.proofs.FloorLaws.{plannable}

@@ -41,7 +41,7 @@ use Rattle.tables.specs.Accepted.{WellPlaced}
 use Rattle.tables.proofs.AcceptedLaws.{well-placed}
 use Rattle.plan.specs.Plan.{moveCount, planMoves, wrongPlanLength, planAnswer}
 use Rattle.plan.proofs.PlanRecord.{moves-counted}
-use Rattle.plan.proofs.SolutionsLaws.{plan-solutions}
+use Rattle.plan.proofs.Replayed.{plan-replayed}
 use Rattle.timetable.specs.Timetable.{timetableRecord, stepCount, partsOf, stepsOf, total, timetableAnswer}
 use Rattle.timetable.specs.Reading.{moveCount as movesOf}
 use Rattle.timetable.proofs.ReadingLaws.{total-moves}
@@ -61,7 +61,7 @@ pub record PlanGave (o p v : List ℕ) : Type 0 where
 
 pub plan-gave : (o p v : List ℕ) → planAnswer o p ≡ accepted v → PlanGave o p v
 plan-gave o p v e =
-    let a = plan-solutions o .0 p v .0 e in
+    let a = plan-replayed o .0 p v .0 e in
     let w = well-placed o (a .order-right) in
     let replayed : replayMoves (floorOf o) (startsOf o) (planMoves p) ≡ ended (goalsOf o) =
     pebble-replay (floorOf o) (rackCount o) (startsOf o) (goalsOf o) (w .task) .0 (planMoves p) .1 (rw moves-counted (a .solution)) in
