@@ -28,7 +28,7 @@ use Rattle.motion.specs.Arrangement.{occupied, vacant}
 use Rattle.motion.specs.Move.{onFloor, legalMove, goesTo, after, afterMove}
 use Rattle.motion.specs.Replay.{replayFrom, replayMoves}
 use Rattle.plan.specs.Plan.{planBits, planRecord}
-use Rattle.text.specs.Text.{digits, decimal, space, newline, refusedText, refusalLine}
+use Rattle.writers.specs.Lines.{digits, decimal, space, newline, refusedText, refusalLine}
 use Rattle.floor.specs.FloorAnswer.{biConnected?, ring?, floorAnswer}
 use Rattle.floor.specs.Plannable.{Plannable}
 use Rattle.floor.proofs.FloorLaws.{plannable}

@@ -25,7 +25,7 @@ use Rattle.field.specs.Writing.{written, Wrote}
 use Rattle.field.proofs.WritingLaws.{written-front, wrote-as}
 use Rattle.order.specs.Order.{positionCount}
 use Rattle.plan.specs.Plan.{planRecord, planAnswer, moveCount, wrongPlanLength}
-use Rattle.text.specs.Text.{refusalLine}
+use Rattle.writers.specs.Lines.{refusalLine}
 use Rattle.floor.specs.FloorAnswer.{floorAnswer}
 use Rattle.floor.specs.Plannable.{Plannable}
 use Rattle.floor.proofs.FloorLaws.{plannable-is}

@@ -12,7 +12,7 @@ use lib.ListN.{length, getD, take}
 use Rattle.answers.specs.Answer.{Answer, accepted, refused}
 use Rattle.field.specs.Units.{unitsLength}
 use Rattle.field.specs.Writing.{Wrote}
-use Rattle.text.specs.Text.{refusalLine}
+use Rattle.writers.specs.Lines.{refusalLine}
 use Rattle.planner.specs.Planner.{PlanMade}
 use Rattle.order.specs.Order.{positionCount}
 use Rattle.plan.specs.Plan.{planRecord, planAnswer}

@@ -3,7 +3,7 @@ use Prim.Native.Nat.{ℕ}
 use mathlib.Core.Path.{_≡_, subst}
 use mathlib.Core.List.{List}
 use native.Mathlib.Omega.{arith}
-use Rattle.text.proofs.Sizes.{refusal-fits}
+use Rattle.writers.proofs.LineLaws.{refusal-fits}
 use Rattle.planner.specs.declared.PlannerVerdict.{PlannerVerdict}
 use Rattle.planner.specs.Planner.{PlanMade, answerOf}
 use Rattle.planner.proofs.PlannerLaws.{moves-few}

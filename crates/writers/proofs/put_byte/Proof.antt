@@ -1,9 +1,9 @@
--- `text::put_byte` meets its contract. Assumes nothing.
+-- `writers::put_byte` meets its contract. Assumes nothing.
 use native.Mathlib.Omega.{arith}
 use Rattle.field.proofs.WritingLaws.{wrote-byte}
 use borrow.Author.Needs.{needs}
-use Rattle.text.proofs.put_byte.Statement.{statement}
-use Rattle.text.proofs.put_byte.Tie as tie
+use Rattle.writers.proofs.put_byte.Statement.{statement}
+use Rattle.writers.proofs.put_byte.Tie as tie
 
 slice-write-out : tie.Need-slice-write-out
 slice-write-out c = search needs

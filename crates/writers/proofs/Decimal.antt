@@ -1,6 +1,6 @@
 -- Writing a number in decimal: the digits of its tenth part, and the last digit behind them.
 --
---     one-fits, one-wrote            a number of one digit
+--     one-fits, one-wrote                 a number of one digit
 --     more-fits, last-fits, last-wrote    a longer one
 -- Assumes nothing.
 use Prim.Native.Nat.{ℕ, _+_, _/_, _%_, _≤_, _<_}
@@ -8,8 +8,8 @@ use mathlib.Core.Path.{sym}
 use mathlib.Core.List.{List, [], _∷_, _++_}
 use Rattle.field.specs.Writing.{Fits, Wrote}
 use Rattle.field.proofs.WritingLaws.{fits-front, fits-next, fits-as, wrote-then, wrote-as}
-use Rattle.text.specs.Text.{decimal}
-use Rattle.text.proofs.TextLaws.{decimal-one, decimal-more}
+use Rattle.writers.specs.Lines.{decimal}
+use Rattle.writers.proofs.DecimalLaws.{decimal-one, decimal-more}
 
 module _ {s : List ℕ} {at : ℕ} (n : ℕ) (f : Fits s at (decimal n)) where
   module _ (h : n < 10) where
