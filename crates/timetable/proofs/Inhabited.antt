@@ -13,6 +13,7 @@
 --                                    places do
 --     cut-short, left-over, spare-bit, pad-bit     40 and 41, each by the damage that meets it
 --     order₁                         the first case's order
+--     timetable-open o s             the timetable checker's answer, with all that it is made of open
 --     answer₁                        the first case: accepted, 2 steps and 4 moves
 --     well-formed₁, accepted₁        its order is well formed, and what the acceptance means
 --     solution₁, only₁               its arrangements are a solution, and it is their one timetable
@@ -26,7 +27,7 @@ use mathlib.Core.Path.{_≡_, refl, ap, _∙_}
 use mathlib.Core.List.{List, [], _∷_, _++_}
 use lib.Dec.{lit<, lit≤}
 use lib.ListN.{take}
-use Rattle.answers.specs.Answer.{accepted, refused}
+use Rattle.answers.specs.Answer.{Answer, accepted, refused}
 use Rattle.field.specs.Bits.{bits, number, bitsOf, field, positions, pairs, pairBits, pad, padded, bytes, toBytes}
 use Rattle.field.specs.Bytes.{Bytes, none, more, none₂, more₂}
 use Rattle.field.proofs.WholeBytes.{below-each}
@@ -197,20 +198,20 @@ swapOrder = 0x08 ∷ 0x0A ∷ 0x0C ∷ 0x00 ∷ 0x10 ∷ 0x02 ∷ 0x04 ∷ 0x20 
 abbrev pub swapTimetable : List ℕ
 swapTimetable = 0x00 ∷ 0x00 ∷ 0x04 ∷ 0x02 ∷ 0x00 ∷ 0x10 ∷ 0x40 ∷ []
 
-pub answer₁ : timetableAnswer order₁ timetable₁ ≡ accepted (2 ∷ 4 ∷ [])
+unfoldable pub timetable-open : List ℕ → List ℕ → Answer
 unfolding timetableAnswer judged misplaced replaySteps replayFrom stepFault legalStep every ascends leaves enters enteredOnce led
     occupied vacant onFloor goesTo after joined among isPair orderAnswer counts wrongRacks wrongPlaces repeats wrongEdges ascending
     precedes badEdge paddingSet wrongPositions wrongLength unitCount floorOf startsOf goalsOf orderOf positionCount edgeCount rackCount
     unclean misfits unitsLength positions total stepsOf stepMoves pairs wrongTimetableLength timetablePaddingSet wrongSteps some
     stepPadSet pad partsOf stepParts stepLength stepCount field number bitsOf bits
+timetable-open o s = timetableAnswer o s
+
+pub answer₁ : timetableAnswer order₁ timetable₁ ≡ accepted (2 ∷ 4 ∷ [])
+unfolding timetable-open
 answer₁ = refl
 
 pub well-formed₁ : WellFormed order₁
-unfolding timetableAnswer judged misplaced replaySteps replayFrom stepFault legalStep every ascends leaves enters enteredOnce led
-    occupied vacant onFloor goesTo after joined among isPair orderAnswer counts wrongRacks wrongPlaces repeats wrongEdges ascending
-    precedes badEdge paddingSet wrongPositions wrongLength unitCount floorOf startsOf goalsOf orderOf positionCount edgeCount rackCount
-    unclean misfits unitsLength positions total stepsOf stepMoves pairs wrongTimetableLength timetablePaddingSet wrongSteps some
-    stepPadSet pad partsOf stepParts stepLength stepCount field number bitsOf bits
+unfolding timetable-open
 well-formed₁ = record { length-right = refl; positions-right = refl; padding-clear = refl; edges-right = refl; racks-right = refl }
 
 pub accepted₁ : AcceptedTimetable order₁ timetable₁ (2 ∷ 4 ∷ [])
@@ -226,19 +227,11 @@ pub only₁ : OnlyTimetable order₁ 2 ((0 ∷ 3 ∷ []) ∷ (1 ∷ 2 ∷ []) �
 only₁ = timetable-solutions order₁ .1 well-formed₁ 2 _ (lit< tt) solution₁
 
 pub ring-turned : timetableAnswer ringOrder ringTimetable ≡ refused 42 1
-unfolding timetableAnswer judged misplaced replaySteps replayFrom stepFault legalStep every ascends leaves enters enteredOnce led
-    occupied vacant onFloor goesTo after joined among isPair orderAnswer counts wrongRacks wrongPlaces repeats wrongEdges ascending
-    precedes badEdge paddingSet wrongPositions wrongLength unitCount floorOf startsOf goalsOf orderOf positionCount edgeCount rackCount
-    unclean misfits unitsLength positions total stepsOf stepMoves pairs wrongTimetableLength timetablePaddingSet wrongSteps some
-    stepPadSet pad partsOf stepParts stepLength stepCount field number bitsOf bits
+unfolding timetable-open
 ring-turned = refl
 
 pub swapped : timetableAnswer swapOrder swapTimetable ≡ refused 42 1
-unfolding timetableAnswer judged misplaced replaySteps replayFrom stepFault legalStep every ascends leaves enters enteredOnce led
-    occupied vacant onFloor goesTo after joined among isPair orderAnswer counts wrongRacks wrongPlaces repeats wrongEdges ascending
-    precedes badEdge paddingSet wrongPositions wrongLength unitCount floorOf startsOf goalsOf orderOf positionCount edgeCount rackCount
-    unclean misfits unitsLength positions total stepsOf stepMoves pairs wrongTimetableLength timetablePaddingSet wrongSteps some
-    stepPadSet pad partsOf stepParts stepLength stepCount field number bitsOf bits
+unfolding timetable-open
 swapped = refl
 
 -- two positions joined by an edge, a rack on each, and each start its goal
@@ -256,11 +249,7 @@ unfolding floorOf positionCount rackCount field number bitsOf bits
 full-count = refl
 
 full-accepted : timetableAnswer fullOrder (0x00 ∷ 0x00 ∷ 0x04 ∷ 0x00 ∷ []) ≡ accepted (1 ∷ 0 ∷ [])
-unfolding timetableAnswer judged misplaced replaySteps replayFrom stepFault legalStep every ascends leaves enters enteredOnce led
-    occupied vacant onFloor goesTo after joined among isPair orderAnswer counts wrongRacks wrongPlaces repeats wrongEdges ascending
-    precedes badEdge paddingSet wrongPositions wrongLength unitCount floorOf startsOf goalsOf orderOf positionCount edgeCount rackCount
-    unclean misfits unitsLength positions total stepsOf stepMoves pairs wrongTimetableLength timetablePaddingSet wrongSteps some
-    stepPadSet pad partsOf stepParts stepLength stepCount field number bitsOf bits
+unfolding timetable-open
 full-accepted = refl
 
 pub full-waits : StillTimetable fullOrder (0x00 ∷ 0x00 ∷ 0x04 ∷ 0x00 ∷ []) (1 ∷ 0 ∷ [])

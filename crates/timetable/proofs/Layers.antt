@@ -5,13 +5,12 @@
 --     order-turned-down, reading-turned-down, answer-is   the checker's answer at each return
 -- Assumes nothing.
 use Prim.Native.Nat.{ℕ, _-_, _^_, _<_}
-use mathlib.Core.Path.{_≡_, refl, sym, ap, _∙_, subst}
+use mathlib.Core.Path.{_≡_, sym, _∙_, subst}
 use mathlib.Core.Bool.{false}
 use mathlib.Core.List.{List, [], _∷_}
 use lib.ListN.{length, take, drop}
 use Rattle.answers.specs.Answer.{Answer, accepted, refused, passUp}
 use Rattle.field.specs.Bytes.{BelowPairs}
-use Rattle.field.proofs.RecordLaws.{pairs-lt}
 use Rattle.order.specs.Order.{floorOf, startsOf, goalsOf, orderAnswer}
 use Rattle.order.proofs.TailLaws.{tail-edges, tail-starts, tail-goals}
 use Rattle.motion.specs.Replay.{replaySteps}
@@ -22,7 +21,7 @@ use Rattle.tables.proofs.MovesOnLaws.{matrixOf, tableOf}
 use Rattle.tables.specs.Simulation.{Each}
 use Rattle.trains.proofs.StepsOnLaws.{each-map, steps-judged}
 use Rattle.timetable.specs.Timetable.{stepCount, partsOf, stepMoves, stepsOf, total, wrongTimetableLength, timetableAnswer}
-use Rattle.timetable.specs.Reading.{readingAnswer, WellPacked}
+use Rattle.timetable.specs.Reading.{readingAnswer}
 use Rattle.timetable.proofs.ReadingLaws.{well-packed, reading-gave, timetableAnswer-is}
 use Rattle.timetable.specs.Checking.{tableAnswer}
 use Rattle.timetable.proofs.SizeLaws.{count-small}

@@ -24,7 +24,6 @@ use Rattle.order.specs.Order.{some, rackCount, floorOf, startsOf, goalsOf, Well
 use Rattle.motion.specs.Arrangement.{Arrangement}
 use Rattle.motion.specs.Move.{after}
 use Rattle.motion.proofs.MoveLaws.{after-length}
-use Rattle.motion.specs.Step.{legalStep}
 use Rattle.motion.proofs.ListLaws.{by-member}
 use Rattle.motion.proofs.Lawful.{LeadsSteps, still, _then_, lawful-none, lawful-first, lawful-append, lawful-apart}
 use Rattle.motion.proofs.StepReplay.{steps-lead}

@@ -8,8 +8,7 @@
 use Prim.Native.Nat.{ℕ, _+_, _-_, _*_, _≤_, _<_}
 use mathlib.Core.Path.{_≡_, refl, sym, ap, _∙_, subst}
 use mathlib.Core.Bool.{Bool, true, false}
-use mathlib.Core.List.{List, [], _∷_}
-use native.Mathlib.Omega.{arith}
+use mathlib.Core.List.{List, _∷_}
 use lib.ListN.{length, getD, take, drop}
 use Rattle.answers.specs.declared.Fault.{Fault}
 use Rattle.field.specs.Bits.{pairs}
@@ -20,7 +19,7 @@ use Rattle.tables.proofs.EndingLaws.{Left, left-stops, left-goes, left-none}
 use Rattle.trains.specs.StepOn.{legalStepOn, stepOn, ranOn}
 use Rattle.trains.specs.StepsOn.{stepFaultOn, replayStepsOn}
 use Rattle.timetable.specs.Timetable.{stepLength, stepCount, stepMoves, stepsOf, wrongTimetableLength}
-use Rattle.timetable.proofs.StepLaws.{partAt, nextAt, cut-is, moves-tail, moves-room}
+use Rattle.timetable.proofs.StepLaws.{partAt, cut-is, moves-tail, moves-room}
 use Rattle.timetable.proofs.ReadingLaws.{Stands, stands-first, stands-next, steps-next, steps-none}
 
 module _ (p : List ℕ) (c : ℕ) (ec : c ≡ getD p 0 0) where

@@ -24,7 +24,7 @@
 use Prim.Native.Nat.{ℕ, zero, suc, _+_, _-_, _*_, _/_}
 use mathlib.Core.Bool.{Bool, true, not, _||_}
 use mathlib.Core.List.{List, [], _∷_, _++_, map}
-use lib.ListN.{length, getD, take, drop, replicate}
+use lib.ListN.{length, getD, take, drop}
 use lib.Dec.{ltb, eqb}
 use Rattle.answers.specs.Answer.{Answer, accepted, refuse, passUp}
 use Rattle.field.specs.Bits.{bits, field, pairs, pairBits, pad, padded, toBytes}
