@@ -28,7 +28,7 @@ use Rattle.order.specs.Floor.{Floor, isPair, among, joined}
 use Rattle.order.specs.Order.{some}
 use Rattle.motion.specs.Arrangement.{Arrangement, occupied, vacant}
 use Rattle.motion.specs.Move.{onFloor, goesTo, after}
-use Rattle.motion.specs.Step.{every, ascends, leaves, enters, enteredOnce, led, legalStep}
+use Rattle.motion.specs.Step.{every, ascends, leaves, enters, enteredOnce, led, legalStep, stepFault}
 use Rattle.motion.specs.Replay.{ended, stopped, replayFrom, replaySteps, trace}
 use Rattle.motion.specs.Problem.{UniquelyInvertible, Instance}
 use Rattle.motion.specs.ParallelPathFinding.{Solution}
@@ -53,7 +53,8 @@ unfolding isValid separate every vacant occupied
 starts-valid = isValid-iff floorF starts .0 tt
 
 pub case-1 : replaySteps floorF starts timetable ≡ ended goals
-unfolding replaySteps replayFrom legalStep ascends every onFloor joined among isPair occupied enteredOnce enters led leaves some vacant goesTo after
+unfolding replaySteps replayFrom stepFault legalStep ascends every onFloor joined among isPair occupied enteredOnce enters led leaves
+    some vacant goesTo after
 case-1 = refl
 
 pub case-1-solution : Solution floorF 2 starts goals 2 (starts ∷ (1 ∷ 2 ∷ []) ∷ goals ∷ [])
@@ -70,7 +71,8 @@ case-1-steps = refl
 -- case 2: rack 1 from 0 to 1, rack 2 from 1 to 3
 
 pub case-2 : replaySteps floorF (0 ∷ 1 ∷ []) (((0, 1) ∷ (1, 3) ∷ []) ∷ []) ≡ ended (1 ∷ 3 ∷ [])
-unfolding replaySteps replayFrom legalStep ascends every onFloor joined among isPair occupied enteredOnce enters led leaves some vacant goesTo after
+unfolding replaySteps replayFrom stepFault legalStep ascends every onFloor joined among isPair occupied enteredOnce enters led leaves
+    some vacant goesTo after
 case-2 = refl
 
 pub case-2-legal : LegalStep floorF (0 ∷ 1 ∷ []) ((0, 1) ∷ (1, 3) ∷ [])
@@ -87,8 +89,9 @@ case-2-change = legal-change (isValid-iff floorF (0 ∷ 1 ∷ []) .0 tt) case-2-
 
 -- case 3: racks at 0, 1, 2
 
-pub case-3-ring : replaySteps floorF (0 ∷ 1 ∷ 2 ∷ []) (((0, 1) ∷ (1, 2) ∷ (2, 0) ∷ []) ∷ []) ≡ stopped 1
-unfolding replaySteps replayFrom legalStep ascends every onFloor joined among isPair occupied enteredOnce enters led leaves some vacant goesTo after
+pub case-3-ring : replaySteps floorF (0 ∷ 1 ∷ 2 ∷ []) (((0, 1) ∷ (1, 2) ∷ (2, 0) ∷ []) ∷ []) ≡ stopped 42 1
+unfolding replaySteps replayFrom stepFault legalStep ascends every onFloor joined among isPair occupied enteredOnce enters led leaves
+    some vacant goesTo after
 case-3-ring = refl
 
 pub case-3-ring-never : {F : Floor} {A : Arrangement} → LegalStep F A ((0, 1) ∷ (1, 2) ∷ (2, 0) ∷ []) → ⊥
@@ -117,8 +120,9 @@ case-3-no-leader k t = led-closed (0 ∷ 1 ∷ 2 ∷ []) ((0, 1) ∷ (1, 2) ∷ 
     round (suc (suc zero)) h = (λ t. t, omega arith)
     round (suc (suc (suc p))) h = absurd (omega arith)
 
-pub case-3-swap : replaySteps floorF (0 ∷ 1 ∷ 2 ∷ []) (((0, 1) ∷ (1, 0) ∷ []) ∷ []) ≡ stopped 1
-unfolding replaySteps replayFrom legalStep ascends every onFloor joined among isPair occupied enteredOnce enters led leaves some vacant goesTo after
+pub case-3-swap : replaySteps floorF (0 ∷ 1 ∷ 2 ∷ []) (((0, 1) ∷ (1, 0) ∷ []) ∷ []) ≡ stopped 42 1
+unfolding replaySteps replayFrom stepFault legalStep ascends every onFloor joined among isPair occupied enteredOnce enters led leaves
+    some vacant goesTo after
 case-3-swap = refl
 
 -- two racks into one position; a full floor

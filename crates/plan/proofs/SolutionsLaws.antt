@@ -32,7 +32,7 @@ use Rattle.plan.specs.Solutions.{SolutionOf, arrangements, AcceptedPlan,
 
 module _ (o p v : List ℕ) where
   judgement : Answer
-  judgement = judged 32 33 (goalsOf o) (moveCount p ∷ []) (replayMoves (floorOf o) (startsOf o) (planMoves p))
+  judgement = judged 33 (goalsOf o) (moveCount p ∷ []) (replayMoves (floorOf o) (startsOf o) (planMoves p))
 
   -- what 32 and 33 leave, for an order that 10 to 14 pass
   judged-solution : WellFormed o → (judgement ≡ accepted v) ↔ ((moveCount p ∷ [] ≡ v) × SolutionOf o (moveCount p) (arrangements o p))
@@ -41,14 +41,14 @@ module _ (o p v : List ℕ) where
       let g = well-placed o w in
       let x = replayMoves (floorOf o) (startsOf o) (planMoves p) in
       let same : (A : Arrangement) → x ≡ ended A → length A ≡ length (goalsOf o) = λ A e. leads-length (floorOf o) (replayMoves-ended (floorOf o) (startsOf o) (planMoves p) A .0 e) ∙ g .starts-length ∙ sym (g .goals-length) in
-      let by = judged-accepted 32 33 (goalsOf o) (moveCount p ∷ []) v x same in
+      let by = judged-accepted 33 (goalsOf o) (moveCount p ∷ []) v x same in
       let solved = pebble-replay (floorOf o) (rackCount o) (startsOf o) (goalsOf o) (g .task) .0 (planMoves p) in
       (λ a. (by .0 a .1, rw moves-counted at (solved .0 (by .0 a .0))), λ t. by .1 (solved .1 (rw moves-counted (t .1)), t .0))
 
   accepted-to : planAnswer o p ≡ accepted v → AcceptedPlan o p v
   unfolding planAnswer judgement
   accepted-to e =
-      let a₂ = judged 32 33 (goalsOf o) (moveCount p ∷ []) (replayMoves (floorOf o) (startsOf o) (planMoves p)) in
+      let a₂ = judged 33 (goalsOf o) (moveCount p ∷ []) (replayMoves (floorOf o) (startsOf o) (planMoves p)) in
       let a₁ = refuse (planPaddingSet p) 31 0 a₂ in
       let a₀ = refuse (wrongPlanLength p) 30 0 a₁ in
       let low = passUp-low (orderAnswer o) a₀ v e in

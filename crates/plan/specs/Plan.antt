@@ -39,11 +39,11 @@ wrongPlanLength p = misfits p (moveCount p)
 unfoldable pub planPaddingSet : List ℕ → Bool
 planPaddingSet p = unclean p (moveCount p)
 
--- 32, move number: "this move, the first such, is not legal at its turn"; 33, rack: "after the plan this rack, the lowest such, is not at
--- its goal". Accepted, the count is k.
+-- the fault of the first move that is not legal at its turn, with the move's number; 33, rack: "after the plan this rack, the lowest such,
+-- is not at its goal". Accepted, the count is k.
 unfoldable pub planAnswer : List ℕ → List ℕ → Answer
 planAnswer o p =
     passUp (orderAnswer o)
     (refuse (wrongPlanLength p) 30 0
     (refuse (planPaddingSet p) 31 0
-    (judged 32 33 (goalsOf o) (moveCount p ∷ []) (replayMoves (floorOf o) (startsOf o) (planMoves p)))))
+    (judged 33 (goalsOf o) (moveCount p ∷ []) (replayMoves (floorOf o) (startsOf o) (planMoves p)))))
