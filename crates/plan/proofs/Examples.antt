@@ -2,7 +2,7 @@
 -- So the conditions are neither empty nor everything, and each hypothesis of the theorems holds of something.
 --
 --     caseBook, casePlan     document 01's order and plan ("Programs")
---     computed o p           the plan checker's answer, with all that it is made of open
+--     plan-open o p          the plan checker's answer, with all that it is made of open
 --     case-1, case-7         starred cases 1, first half, and 7
 --     meets-30, ..           one plan each for the other numbers; an order's refusal is passed up
 --     case-well-formed, case-solution, case-accepted, case-told    an order, a solution, its record, and that it is accepted, for the theorems
@@ -43,46 +43,46 @@ casePlan = 0x00 ∷ 0x00 ∷ 0x10 ∷ 0x00 ∷ 0x10 ∷ 0xC2 ∷ 0x08 ∷ 0x00 �
 abbrev caseMoves : List (ℕ × ℕ)
 caseMoves = (0, 1) ∷ (3, 2) ∷ (2, 0) ∷ (1, 3) ∷ []
 
-unfoldable computed : List ℕ → List ℕ → Answer
+unfoldable pub plan-open : List ℕ → List ℕ → Answer
 unfolding planAnswer wrongPlanLength planPaddingSet moveCount planMoves judged misplaced replayMoves replayFrom moveFault faultBy
     onFloor joined among isPair occupied vacant afterMove after goesTo orderAnswer wrongLength misfits unitsLength unitCount
     wrongPositions paddingSet unclean pad wrongEdges some badEdge precedes ascending wrongRacks wrongPlaces repeats orderOf floorOf
     startsOf goalsOf counts positionCount edgeCount rackCount field number bitsOf bits pairs positions
-computed o p = planAnswer o p
+plan-open o p = planAnswer o p
 
 -- "The plan above is accepted."
 pub case-1 : planAnswer caseBook casePlan ≡ accepted (4 ∷ [])
-unfolding computed
+unfolding plan-open
 case-1 = refl
 
 -- "Empty plan for the order above: 33, rack 1."
 pub case-7 : planAnswer caseBook (0x00 ∷ 0x00 ∷ 0x00 ∷ []) ≡ refused 33 1
-unfolding computed
+unfolding plan-open
 case-7 = refl
 
 -- one byte too many
 meets-30 : planAnswer caseBook (0x00 ∷ 0x00 ∷ 0x00 ∷ 0x00 ∷ []) ≡ refused 30 0
-unfolding computed
+unfolding plan-open
 meets-30 = refl
 
 -- one move, and the last bit of its pad is set
 meets-31 : planAnswer caseBook (0x00 ∷ 0x00 ∷ 0x04 ∷ 0x00 ∷ 0x11 ∷ []) ≡ refused 31 0
-unfolding computed
+unfolding plan-open
 meets-31 = refl
 
 -- 0>1 and again 0>1, which no rack can make
 meets-32 : planAnswer caseBook (0x00 ∷ 0x00 ∷ 0x08 ∷ 0x00 ∷ 0x10 ∷ 0x01 ∷ []) ≡ refused 32 2
-unfolding computed
+unfolding plan-open
 meets-32 = refl
 
 -- 0>1, 1>3 into rack 2, and a third move that would be wrong too: the first such counts
 meets-32-first : planAnswer caseBook (0x00 ∷ 0x00 ∷ 0x0C ∷ 0x00 ∷ 0x10 ∷ 0x43 ∷ 0x00 ∷ 0x10 ∷ []) ≡ refused 32 2
-unfolding computed
+unfolding plan-open
 meets-32-first = refl
 
 -- rack 1 goes to its goal, 0>2, 3>1, 2>3: rack 2 is left at 1
 meets-33 : planAnswer caseBook (0x00 ∷ 0x00 ∷ 0x0C ∷ 0x00 ∷ 0x20 ∷ 0xC1 ∷ 0x08 ∷ 0x30 ∷ []) ≡ refused 33 2
-unfolding computed
+unfolding plan-open
 meets-33 = refl
 
 -- a plan of no bytes, for an order of no bytes: the lowest number
@@ -91,7 +91,7 @@ unfolding planAnswer orderAnswer wrongLength misfits
 passes-10-up = refl
 
 pub case-well-formed : WellFormed caseBook
-unfolding computed
+unfolding plan-open
 case-well-formed = record { length-right = refl; positions-right = refl; padding-clear = refl; edges-right = refl; racks-right = refl }
 
 -- the four moves' arrangements are a solution, and the case book's bytes are its record
@@ -134,11 +134,11 @@ abbrev fullFloor : List ℕ
 fullFloor = 0x02 ∷ 0x00 ∷ 0x04 ∷ 0x00 ∷ 0x00 ∷ []
 
 full-well-formed : WellFormed fullFloor
-unfolding computed
+unfolding plan-open
 full-well-formed = record { length-right = refl; positions-right = refl; padding-clear = refl; edges-right = refl; racks-right = refl }
 
 full-accepted : planAnswer fullFloor (0x00 ∷ 0x00 ∷ 0x00 ∷ []) ≡ accepted (0 ∷ [])
-unfolding computed
+unfolding plan-open
 full-accepted = refl
 
 pub full-empty : EmptyPlan fullFloor (0x00 ∷ 0x00 ∷ 0x00 ∷ []) (0 ∷ [])
@@ -150,11 +150,11 @@ abbrev bareFloor : List ℕ
 bareFloor = 0x02 ∷ 0x00 ∷ 0x00 ∷ []
 
 bare-well-formed : WellFormed bareFloor
-unfolding computed
+unfolding plan-open
 bare-well-formed = record { length-right = refl; positions-right = refl; padding-clear = refl; edges-right = refl; racks-right = refl }
 
 bare-accepted : planAnswer bareFloor (0x00 ∷ 0x00 ∷ 0x00 ∷ []) ≡ accepted (0 ∷ [])
-unfolding computed
+unfolding plan-open
 bare-accepted = refl
 
 pub bare-empty : EmptyPlan bareFloor (0x00 ∷ 0x00 ∷ 0x00 ∷ []) (0 ∷ [])

@@ -18,7 +18,8 @@ use mathlib.Core.List.{List, [], _∷_, reverseAux, List·Memᴰ, List·Memᴰ·
 use native.Mathlib.Omega.{arith}
 use lib.ListN.{length, length-append}
 use Rattle.order.specs.Floor.{Floor}
-use Rattle.motion.specs.Arrangement.{Arrangement}
+use Rattle.motion.specs.Arrangement.{Arrangement, rackAt}
+use Rattle.motion.proofs.ArrangementLaws.{rackAt-finds}
 use Rattle.motion.proofs.MoveLaws.{legal-parts, after-length}
 use Rattle.motion.specs.Replay.{ended, replayMoves, replaySteps}
 use Rattle.motion.proofs.Lawful.{Leads, LeadsSteps, still, _then_, replayMoves-ended, replaySteps-ended}
@@ -31,9 +32,9 @@ use Rattle.motion.proofs.StepLimits.{step-size}
 use Rattle.field.proofs.PackingLaws.{length-pack}
 use Rattle.timetable.specs.Reading.{moveCount}
 use Rattle.scheduling.specs.Rows.{stepBytes, stepsBytes}
-use Rattle.scheduling.specs.Making.{Timed, rackAt, ofRack, stepFor, timed, greatest, movesIn, inStep, stepsFrom, madeSteps}
+use Rattle.scheduling.specs.Making.{Timed, ofRack, stepFor, timed, greatest, movesIn, inStep, stepsFrom, madeSteps}
 use Rattle.scheduling.proofs.Timing.{Ruled, none, ruled-timed, stepFor-bounds, ruled-filled, length-movesIn, steps-total, steps-length, steps-at, history, history-length, history-greatest, history-made, history-differ}
-use Rattle.scheduling.proofs.Schedule.{Scheduled, rackAt-finds, scheduled-none, scheduled-more, scheduled-leads}
+use Rattle.scheduling.proofs.Schedule.{Scheduled, scheduled-none, scheduled-more, scheduled-leads}
 
 pub step-short : (ms : List (ℕ × ℕ)) → 1 ≤ length ms → length (stepBytes ms) ≤ 3 * length ms
 unfolding stepBytes

@@ -1,7 +1,6 @@
 -- The timetable so far, as the rule makes it move by move, and that each move joins it lawfully.
 --
 --     arranged A l i      the arrangement that the timed moves l, latest first, make of A up to step i
---     rackAt-finds        the rack that stands at an occupied position
 --     Scheduled F A l B   the steps of l, made in turn from A, are legal and come to B; where a rack of B stands, it has stood since its last step,
 --                         and what is vacant in B has been so since the last step in which it was left
 --     scheduled-none      no moves are so scheduled
@@ -16,11 +15,11 @@ use mathlib.Core.List.{List, [], _∷_}
 use native.Mathlib.Omega.{arith}
 use native.Mathlib.Decide.{decLe}
 use native.Mathlib.Nat.{add-zero, add-suc, suc-add}
-use lib.Dec.{T, eqb, leb}
+use lib.Dec.{T, leb}
 use lib.ListN.{length, getD}
-use borrow.Author.Tests.{eq-eqb, ne-eqb, le-leb, lt-leb}
+use borrow.Author.Tests.{le-leb, lt-leb}
 use Rattle.order.specs.Floor.{Floor}
-use Rattle.motion.specs.Arrangement.{Arrangement, occupied, vacant}
+use Rattle.motion.specs.Arrangement.{Arrangement, vacant}
 use Rattle.motion.proofs.ArrangementLaws.{occupied-rack, vacant-racks}
 use Rattle.motion.specs.Move.{legalMove, after, afterMove}
 use Rattle.motion.proofs.MoveLaws.{legal-parts, move-length, moved-rack, moved-other, turned, turned-legal}
@@ -28,10 +27,10 @@ use Rattle.motion.proofs.Untouched.{vacant-move}
 use Rattle.motion.specs.Sound.{Sound}
 use Rattle.motion.proofs.SoundLaws.{move-sound}
 use Rattle.motion.proofs.Lawful.{LeadsSteps, still, _then_}
-use Rattle.motion.proofs.Test.{or-parts, eqb-parts, equal?}
+use Rattle.motion.proofs.Test.{equal?}
 use Rattle.motion.proofs.LegalStepLaws.{legalStep-iff}
 use Rattle.motion.specs.StepOf.{sort}
-use Rattle.scheduling.specs.Making.{Timed, rackFrom, rackAt, ofRack, ofLeaving, greatest, inStep, movesIn, stepsFrom}
+use Rattle.scheduling.specs.Making.{Timed, ofRack, ofLeaving, greatest, inStep, movesIn, stepsFrom}
 use Rattle.scheduling.proofs.StepMoves.{StepMoves, Stays, stepMoves-none, stepMoves-legal, stepMoves-after, joining, carrying}
 use Rattle.scheduling.proofs.Timing.{ofRack-same, ofRack-other, ofLeaving-same, ofLeaving-other, greatest-most, inStep-same, inStep-other}
 

@@ -22,8 +22,8 @@ use lib.ListN.{length, getD, set, length-set, length-replicate}
 use lib.Seq.{getD-set-same, getD-set-other}
 use lib.Dec.{T, eqb}
 use Rattle.order.specs.Floor.{Floor}
-use Rattle.motion.specs.Arrangement.{Arrangement}
-use Rattle.motion.proofs.ArrangementLaws.{vacant-racks}
+use Rattle.motion.specs.Arrangement.{Arrangement, rackAt}
+use Rattle.motion.proofs.ArrangementLaws.{vacant-racks, rackAt-finds}
 use Rattle.motion.specs.Move.{legalMove, afterMove}
 use Rattle.motion.proofs.MoveLaws.{onFloor-parts, legal-parts, move-length, moved-rack, moved-other}
 use Rattle.motion.proofs.Lawful.{Leads, still, _then_}
@@ -33,9 +33,8 @@ use Rattle.motion.proofs.Test.{equal?}
 use Rattle.motion.proofs.ListLaws.{by-member}
 use Rattle.motion.proofs.StepTestsLaws.{left}
 use Rattle.tables.proofs.TableLaws.{zeros-at}
-use Rattle.scheduling.specs.Making.{Timed, rackAt, ofRack, ofLeaving, stepFor, timed, greatest, inStep}
+use Rattle.scheduling.specs.Making.{Timed, ofRack, ofLeaving, stepFor, timed, greatest, inStep}
 use Rattle.scheduling.proofs.Timing.{ofRack-same, ofRack-other, ofLeaving-same, ofLeaving-other, inStep-same, inStep-other}
-use Rattle.scheduling.proofs.Schedule.{rackAt-finds}
 use Rattle.scheduling.specs.Filling.{Pass, started, stepBy, noted, passed, pass, emptyWindow}
 
 unfoldable pub entryOf : List Timed → ℕ → ℕ → ℕ

@@ -68,7 +68,8 @@ total-moves s = moves-of-parts (partsOf s)
 pub timetableAnswer-is : (o s : List ℕ)
     → timetableAnswer o s
     ≡ passUp (orderAnswer o)
-    (passUp (readingAnswer s) (judged 42 43 (goalsOf o) (stepCount s ∷ total (partsOf s) ∷ []) (replaySteps (floorOf o) (startsOf o) (stepsOf s))))
+    (passUp (readingAnswer s)
+    (judged 43 (goalsOf o) (stepCount s ∷ total (partsOf s) ∷ []) (replaySteps (floorOf o) (startsOf o) (stepsOf s))))
 unfolding timetableAnswer readingAnswer
 timetableAnswer-is o s = ap (passUp (orderAnswer o)) (chain (wrongTimetableLength s) (timetablePaddingSet s) (stepCount s ∷ total (partsOf s) ∷ []) _)
   where

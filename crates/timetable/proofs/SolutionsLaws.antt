@@ -45,7 +45,7 @@ module _ (o s v : List ℕ) where
   outcome = replaySteps (floorOf o) (startsOf o) (stepsOf s)
 
   abbrev judgement : Answer
-  judgement = judged 42 43 (goalsOf o) (stepCount s ∷ total (partsOf s) ∷ []) outcome
+  judgement = judged 43 (goalsOf o) (stepCount s ∷ total (partsOf s) ∷ []) outcome
 
   -- what 42 and 43 leave, for an order that 10 to 14 pass
   judged-solution : WellFormed o
@@ -54,7 +54,7 @@ module _ (o s v : List ℕ) where
   judged-solution w =
       let g = well-placed o w in
       let same : (A : Arrangement) → outcome ≡ ended A → length A ≡ length (goalsOf o) = λ A e. steps-length (floorOf o) (replaySteps-ended (floorOf o) (startsOf o) (stepsOf s) A .0 e) ∙ g .starts-length ∙ sym (g .goals-length) in
-      let by = judged-accepted 42 43 (goalsOf o) (stepCount s ∷ total (partsOf s) ∷ []) v outcome same in
+      let by = judged-accepted 43 (goalsOf o) (stepCount s ∷ total (partsOf s) ∷ []) v outcome same in
       let solved = solutions-iff (floorOf o) (rackCount o) (startsOf o) (goalsOf o) (g .task .initial) (stepsOf s) (arrangements o s) in (
         λ a. let t = solved .0 (by .0 a .0, refl) in (by .0 a .1, subst (λ (k : ℕ). SolutionOf o k (arrangements o s)) (count-steps s) (t .0), t .1),
         λ t. by .1 (solved .1 (subst (λ (k : ℕ). SolutionOf o k (arrangements o s)) (sym (count-steps s)) (t .1), t .2) .0, t .0),

@@ -24,9 +24,9 @@ use Rattle.order.specs.Order.{some, rackCount, floorOf, startsOf, goalsOf, Well
 use Rattle.motion.specs.Arrangement.{Arrangement}
 use Rattle.motion.specs.Move.{after}
 use Rattle.motion.proofs.MoveLaws.{after-length}
-use Rattle.motion.specs.Step.{legalStep}
 use Rattle.motion.proofs.ListLaws.{by-member}
-use Rattle.motion.proofs.Lawful.{LeadsSteps, still, _then_, lawful-none, lawful-first, lawful-append, lawful-apart, replay-ended}
+use Rattle.motion.proofs.Lawful.{LeadsSteps, still, _then_, lawful-none, lawful-first, lawful-append, lawful-apart}
+use Rattle.motion.proofs.StepReplay.{steps-lead}
 use Rattle.motion.proofs.LegalStepLaws.{legalStep-iff, legal-nothing}
 use Rattle.motion.proofs.StepLimits.{step-racks, full-iff}
 use Rattle.tables.proofs.AcceptedLaws.{well-placed}
@@ -111,7 +111,7 @@ module _ (o s v : List ℕ) (w : WellFormed o) where
   full-floor full =
       still-timetables
       (λ l.
-      let replayed = replay-ended (legalStep (floorOf o)) after 1 (startsOf o) (stepsOf s) (goalsOf o) .1 l in
+      let replayed = steps-lead (floorOf o) 1 (startsOf o) (stepsOf s) (goalsOf o) .1 l in
       full-iff (floorOf o) (rackCount o) (startsOf o) (goalsOf o) 1 (stepsOf s) (well-placed o w .task .initial) full .0 replayed .1)
 
   pub no-racks : rackCount o ≡ 0 → (timetableAnswer o s ≡ accepted v) ↔ StillTimetable o s v

@@ -1,6 +1,7 @@
 -- Laws of chains on tables.
 --
 --     led-same           where a table has racks where an arrangement has them, chains are led alike
+--     led-short          a train has at most one move more than the step
 --     led-iff-on         by a table of targets a chain ends at its leader exactly if `ledOn` finds that it does
 --     led-on, unled-on   both as equations
 --     noted-targets      the targets noted of ascending moves are the step's
@@ -25,7 +26,7 @@ use Rattle.motion.specs.Step.{leaves, led}
 use Rattle.motion.proofs.StepTestsLaws.{or-left, or-right, leaves-iff}
 use Rattle.motion.specs.StepTests.{Ascends}
 use Rattle.motion.proofs.ListLaws.{pairwise-rel}
-use Rattle.motion.proofs.Trains.{led-enough}
+use Rattle.motion.proofs.Trains.{Chain, ends, leads as onward, chain-led, chain-length, led-enough}
 use Rattle.motion.proofs.Test.{equal?, eqb-parts}
 use Rattle.tables.specs.Tables.{heldAt}
 use Rattle.tables.proofs.TableLaws.{passed, failed, zeros-at}
@@ -86,11 +87,6 @@ held-standing h p =
     within : T (heldAt h p) → p < length h
     within t = dite (decLt p (length h)) (λ l. l) (λ l. absurd (rw (List·getD-eq-default h 0 {n = p} (omega arith)) at t))
 
-enough-on : (ms : List (ℕ × ℕ)) (h : List ℕ) (k p : ℕ) → T (ledOn k ms h p) → T (ledOn (length ms) ms h p)
-enough-on ms h k p t =
-    let A : Arrangement = standing (length h) h in
-    rw (led-same A h (held-standing h) ms (length ms) p) (led-enough A ms k p (rw (led-same A h (held-standing h) ms k p) at t))
-
 vacant-on : (h : List ℕ) (p : ℕ) → T (not (heldAt h p)) ↔ (getD h p 0 ≡ 0)
 unfolding heldAt
 vacant-on h p = (
@@ -112,19 +108,35 @@ module _ (ms : List (ℕ × ℕ)) (t h : List ℕ) (targets : Targets ms t) wher
       let g : getD t p 0 ≡ goesTo ms p + 1 = rw (passed (leaves ms p) l) at (targets .goes p) in
       (λ z. omega (arith, g, z), omega (arith, g))
 
-  led-to : (n : ℕ) {p : ℕ} → Led t h n p → T (ledOn n ms h p)
-  unfolding ledOn
-  led-to zero {p} (leads e) = vacant-on h p .1 e
-  led-to (suc n) {p} (follows o m l) =
-      let w = target-left p m in
-      or-right (not (heldAt h p)) _ (yes-and (leaves ms p) _ (w .0) (subst (λ (q : ℕ). T (ledOn n ms h q)) (w .1) (led-to n l)))
+  -- the racks of the table h, as an arrangement
+  abbrev there : Arrangement
+  there = standing (length h) h
+
+  same-there : (k p : ℕ) → ledOn k ms h p ≡ led k ms there p
+  same-there = led-same (standing (length h) h) h (held-standing h) ms
+
+  vacant-there : (p : ℕ) → T (vacant there p) ↔ (getD h p 0 ≡ 0)
+  unfolding vacant
+  vacant-there p = rw (← held-standing h p) (vacant-on h p)
+
+  -- a train comes through as many positions as it has moves behind its first
+  led-passes : {n p : ℕ} → Led t h n p → (ps : List ℕ) × (n ≡ suc (length ps)) × Chain there ms p ps
+  led-passes {p} (leads e) = ([], refl, ends (vacant-there p .1 e))
+  led-passes {p} (follows o m l) =
+      let w = led-passes l in
+      let g = target-left p m in
+      let on : Chain there ms (goesTo ms p) (w .0) = subst (λ (q : ℕ). Chain there ms q (w .0)) (g .1) (w .2) in
+      (p ∷ w .0, ap suc (w .1), onward (λ v. o (vacant-there p .0 v)) (g .0) on)
+
+  pub led-short : (n p : ℕ) → Led t h n p → n ≤ suc (length ms)
+  led-short n p l = let w = led-passes l in omega (arith, w .1, chain-length there ms (w .2))
 
   led-from : (k p : ℕ) → T (ledOn k ms h p) → (n : ℕ) × Led t h n p
   unfolding ledOn
-  led-from zero p u = (0, leads (vacant-on h p .0 u))
+  led-from zero p u = (1, leads (vacant-on h p .0 u))
   led-from (suc k) p u =
       ⊎-elim
-      (λ (e : getD h p 0 ≡ 0). (0, leads e))
+      (λ (e : getD h p 0 ≡ 0). (1, leads e))
       (λ (d : getD h p 0 ≢ 0).
       let b = ⊎-elim (λ v. absurd (d (vacant-on h p .0 v))) (and-yes (leaves ms p) (ledOn k ms h (goesTo ms p))) (or-yes (not (heldAt h p)) _ u) in
       let g = left-target p (b .0) in
@@ -133,7 +145,12 @@ module _ (ms : List (ℕ × ℕ)) (t h : List ℕ) (targets : Targets ms t) wher
       (equal? (getD h p 0) 0)
 
   pub led-iff-on : (p : ℕ) → ((n : ℕ) × Led t h n p) ↔ T (ledOn (length ms) ms h p)
-  led-iff-on p = (λ w. enough-on ms h (w .0) p (led-to (w .0) (w .1)), led-from (length ms) p)
+  led-iff-on p = (
+    λ w.
+        let c = led-passes (w .1) in
+        rw (same-there (length ms) p) (led-enough there ms (length (c .0)) p (chain-led there ms (c .2))),
+    led-from (length ms) p,
+  )
 
   pub led-on : (p : ℕ) → (n : ℕ) × Led t h n p → ledOn (length ms) ms h p ≡ true
   led-on p w = passed (ledOn (length ms) ms h p) (led-iff-on p .0 w)
