@@ -40,16 +40,18 @@ use Rattle.motion.specs.Move.{onFloor, goesTo, after}
 use Rattle.motion.specs.Step.{every, ascends, leaves, enters, enteredOnce, led, legalStep, stepFault}
 use Rattle.motion.specs.Replay.{replayFrom, replaySteps, trace}
 use Rattle.motion.specs.Judgement.{misplaced, judged}
+use Rattle.motion.specs.StepOf.{moved, insert, sort, stepOf}
+use Rattle.motion.specs.StepSolutions.{stepsThrough, stepsBetween}
 use Rattle.timetable.specs.Timetable.{stepBits, allStepBits, timetableBits, timetableRecord, stepLength, stepCount, wrongSteps, stepParts, partsOf, wrongTimetableLength, stepPadSet, timetablePaddingSet, stepMoves, stepsOf, total, timetableAnswer, lengthOf, offset, stepPart, stepAnswer}
-use Rattle.timetable.specs.Reading.{readingAnswer, WellPacked, partGiven, placeGiven}
+use Rattle.timetable.specs.Reading.{readingAnswer, WellPacked, moveCount, partGiven, placeGiven}
 use Rattle.timetable.proofs.ReadingLaws.{Stands, stands-at}
 use Rattle.timetable.specs.RecordLength.{stepsLength, timetableLength, wholeTimetableLength}
 use Rattle.timetable.proofs.RecordLengthLaws.{timetable-length-found}
 use Rattle.timetable.specs.ByteString.{ByteString}
 use Rattle.timetable.proofs.StepRecord.{Part}
 use Rattle.timetable.proofs.TimetableRecord.{no-steps, one-step, Packable}
-use Rattle.timetable.specs.Solutions.{SolutionOf, AcceptedTimetable, OnlyTimetable}
-use Rattle.timetable.proofs.SolutionsLaws.{timetable-solutions}
+use Rattle.timetable.specs.Solutions.{SolutionOf, AcceptedTimetable}
+use Rattle.timetable.proofs.Replayed.{ReplayedTimetable, OnlyTimetable, timetable-replayed}
 use Rattle.timetable.proofs.Still.{StillTimetable, full-floor, OneMore, one-more, waiting-step}
 
 abbrev pub timetable₁ : List ℕ
@@ -214,17 +216,31 @@ pub well-formed₁ : WellFormed order₁
 unfolding timetable-open
 well-formed₁ = record { length-right = refl; positions-right = refl; padding-clear = refl; edges-right = refl; racks-right = refl }
 
-pub accepted₁ : AcceptedTimetable order₁ timetable₁ (2 ∷ 4 ∷ [])
-accepted₁ = timetable-solutions order₁ .0 timetable₁ (2 ∷ 4 ∷ []) .0 answer₁
+pub replayed₁ : ReplayedTimetable order₁ timetable₁ (2 ∷ 4 ∷ [])
+replayed₁ = timetable-replayed order₁ .0 timetable₁ (2 ∷ 4 ∷ []) .0 answer₁
 
 -- the racks change sides in two steps, rack 1 over position 1 and rack 2 over position 2
 pub solution₁ : SolutionOf order₁ 2 ((0 ∷ 3 ∷ []) ∷ (1 ∷ 2 ∷ []) ∷ (3 ∷ 0 ∷ []) ∷ [])
 unfolding trace after goesTo startsOf edgeCount rackCount positions stepsOf stepMoves pairs partsOf stepParts stepLength stepCount field
     number bitsOf bits
-solution₁ = accepted₁ .solution
+solution₁ = replayed₁ .solution
+
+pub accepted₁ : AcceptedTimetable order₁ timetable₁ (2 ∷ 4 ∷ [])
+unfolding stepsBetween stepsThrough stepOf sort insert moved moveCount timetableRecord timetableBits allStepBits stepBits pairBits padded pad
+    toBytes bytes number bits
+accepted₁ =
+    record {
+      order-right = well-formed₁;
+      steps = 2;
+      few = lit< tt;
+      arrangements = (0 ∷ 3 ∷ []) ∷ (1 ∷ 2 ∷ []) ∷ (3 ∷ 0 ∷ []) ∷ [];
+      solution = solution₁;
+      is = refl;
+      counted = refl;
+    }
 
 pub only₁ : OnlyTimetable order₁ 2 ((0 ∷ 3 ∷ []) ∷ (1 ∷ 2 ∷ []) ∷ (3 ∷ 0 ∷ []) ∷ [])
-only₁ = timetable-solutions order₁ .1 well-formed₁ 2 _ (lit< tt) solution₁
+only₁ = timetable-replayed order₁ .1 well-formed₁ 2 _ (lit< tt) solution₁
 
 pub ring-turned : timetableAnswer ringOrder ringTimetable ≡ refused 42 1
 unfolding timetable-open
