@@ -14,7 +14,10 @@ use mathlib.Core.Bool.{Bool, true, false, cond}
 use lib.Dec.{eqb, lit≤}
 use Rattle.answers.specs.Answer.{Answer, accepted, refused, refuse, passUp, numberOf}
 use Rattle.answers.specs.declared.Fault.{Fault}
-use Rattle.answers.specs.declared.Fault.the-variants.{OrderLength, OrderPositions, OrderPadding, OrderEdge, OrderRack, FloorCrowded, FloorNotBiconnected, FloorRing, PlanBuffer, PlanLength, PlanPadding, PlanMove, PlanGoal, TimetableLength, TimetablePadding, TimetableStep, TimetableGoal, TimetableBuffer, StepNumber}
+use Rattle.answers.specs.declared.Fault.the-variants.{OrderLength, OrderPositions, OrderPadding, OrderEdge, OrderRack, FloorCrowded}
+use Rattle.answers.specs.declared.Fault.the-variants.{FloorNotBiconnected, FloorRing, PlanBuffer, PlanLength, PlanPadding, PlanMove}
+use Rattle.answers.specs.declared.Fault.the-variants.{PlanGoal, TimetableLength, TimetablePadding, TimetableStep, TimetableGoal}
+use Rattle.answers.specs.declared.Fault.the-variants.{TimetableBuffer, StepNumber}
 
 pub numberOf-le : (f : Fault) → numberOf f ≤ 45
 numberOf-le OrderLength = lit≤ tt

@@ -10,7 +10,10 @@ use Prim.Native.Nat.{ℕ}
 use mathlib.Core.Bool.{Bool, true, false}
 use mathlib.Core.List.{List}
 use Rattle.answers.specs.declared.Fault.{Fault}
-use Rattle.answers.specs.declared.Fault.the-variants.{OrderLength, OrderPositions, OrderPadding, OrderEdge, OrderRack, FloorCrowded, FloorNotBiconnected, FloorRing, PlanBuffer, PlanLength, PlanPadding, PlanMove, PlanGoal, TimetableLength, TimetablePadding, TimetableStep, TimetableGoal, TimetableBuffer, StepNumber}
+use Rattle.answers.specs.declared.Fault.the-variants.{OrderLength, OrderPositions, OrderPadding, OrderEdge, OrderRack, FloorCrowded}
+use Rattle.answers.specs.declared.Fault.the-variants.{FloorNotBiconnected, FloorRing, PlanBuffer, PlanLength, PlanPadding, PlanMove}
+use Rattle.answers.specs.declared.Fault.the-variants.{PlanGoal, TimetableLength, TimetablePadding, TimetableStep, TimetableGoal}
+use Rattle.answers.specs.declared.Fault.the-variants.{TimetableBuffer, StepNumber}
 
 -- "either accepted, with counts, or refused, with a place and one of the faults"
 pub data Answer : Type 0 where

@@ -18,8 +18,13 @@ use borrow.Author.Tests.{ne-eqb}
 use Rattle.answers.specs.Answer.{Answer, accepted, refused}
 use Rattle.order.specs.Order.{orderAnswer}
 use Rattle.controller.specs.Packed.{packed, nothing, oneCount, stepsAndMoves, lengthAndOffset}
-use Rattle.controller.specs.Unpacked.{numberIn, placeIn, planMovesIn, stepsIn, movesIn, offsetIn, lengthIn, nothingOf, planMovesOf, madeStepsOf, stepsAndMovesOf, offsetAndLengthOf, takenApart, uncounted, Undone, OrderCheckGives, FloorCheckGives, PlanMakeGives, PlanCheckGives, TimetableCheckGives, TimetableMakeGives, TimetableStepGives}
-use Rattle.controller.proofs.AnswerSizes.{Sized, accepts, refuses, NoCounts, no-counts, OneCount, one-count, StepsMoves, steps-moves, OffsetLength, offset-length, order-sized, floor-sized, made-sized, plan-sized, timetable-sized, maker-sized, step-sized}
+use Rattle.controller.specs.Unpacked.{numberIn, placeIn, planMovesIn, stepsIn, movesIn, offsetIn, lengthIn, nothingOf, planMovesOf}
+use Rattle.controller.specs.Unpacked.{madeStepsOf, stepsAndMovesOf, offsetAndLengthOf, takenApart, uncounted, Undone}
+use Rattle.controller.specs.Unpacked.{OrderCheckGives, FloorCheckGives, PlanMakeGives, PlanCheckGives, TimetableCheckGives}
+use Rattle.controller.specs.Unpacked.{TimetableMakeGives, TimetableStepGives}
+use Rattle.controller.proofs.AnswerSizes.{Sized, accepts, refuses, NoCounts, no-counts, OneCount, one-count, StepsMoves}
+use Rattle.controller.proofs.AnswerSizes.{steps-moves, OffsetLength, offset-length, order-sized, floor-sized, made-sized}
+use Rattle.controller.proofs.AnswerSizes.{plan-sized, timetable-sized, maker-sized, step-sized}
 
 pub record Packs (rest : List ℕ → ℕ) (values : ℕ → List ℕ) (Fits : List ℕ → Type 0) : Type 0 where
   pub room : (v : List ℕ) → Fits v → rest v < 2 ^ 56

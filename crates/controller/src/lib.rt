@@ -54,7 +54,8 @@ pub extern "C" fn wichteab_floor_check(order: &[u8]) -> u64
 // Makes a plan for an order and writes it to the front of the buffer, judged by 10 to 14 and 20 to 23. Accepted, it gives the plan's moves.
 #[no_mangle]
 pub extern "C" fn wichteab_plan_make(order: &[u8], buffer: &mut [u8]) -> u64
-    ensures { λ r. ⌜ ((a : Answer) × (r ≡ packed oneCount a) × PlanMade (now (order .entry)) (now (buffer .entry)) a (now (buffer .exit))) ⌝ }
+    ensures { λ r. ⌜ ((a : Answer) × (r ≡ packed oneCount a)
+        × PlanMade (now (order .entry)) (now (buffer .entry)) a (now (buffer .exit))) ⌝ }
 {
     match planner::make(order, buffer) {
         PlannerVerdict::Planned(moves) => (moves as u64) * 256,
@@ -85,8 +86,8 @@ pub extern "C" fn wichteab_timetable_check(order: &[u8], timetable: &[u8]) -> u6
     }
 }
 
-// Makes the timetable of a plan for an order and writes it to the front of the buffer, judged by 10 to 14, 30 to 33 and 44. Accepted, it gives
-// the timetable's steps.
+// Makes the timetable of a plan for an order and writes it to the front of the buffer, judged by 10 to 14, 30 to 33 and 44. Accepted, it
+// gives the timetable's steps.
 #[no_mangle]
 pub extern "C" fn wichteab_timetable_make(order: &[u8], plan: &[u8], buffer: &mut [u8]) -> u64
     ensures { λ r. ⌜ r ≡ packed oneCount (makerAnswer (now (order .entry)) (now (plan .entry)) (length (now (buffer .entry)))) ⌝ }

@@ -9,7 +9,8 @@
 --     timetableAlone T          the timetable at the front of the buffer T, alone
 --     Called o P T a P′ T′      on the order o and the buffers P and T the three calls may answer a and leave P′ and T′ behind
 --     Front r B B′              the record r stands at the front of the buffer B′, and behind it what stood there in B
---     Timed o p k T m c T′      of the plan p of k moves the making rule's timetable is made, and accepted with the maker's steps and k moves
+--     Timed o p k T m c T′      of the plan p of k moves the making rule's timetable is made, and accepted with the
+--                               maker's steps and k moves
 --     Delivered o P T a P′ T′   the plan just written is accepted, and so is the timetable made of it
 --     planRoom o                how long a plan buffer 23 asks for
 --     Delivers o P T a P′ T′    demand 3: every order that can be planned is delivered, given such a buffer

@@ -5,7 +5,8 @@
 --     leaves a r B             the buffer B after the answer a: with the record r in front where it is accepted, else unchanged
 --     bufferAfter o p B        the buffer B afterwards
 --     answerOf v               the maker's verdict v as an answer
---     Timetabled o p           the made record is at most 3 × k + 3 bytes long, and the timetable checker accepts it, with s steps and k moves
+--     Timetabled o p           the made record is at most 3 × k + 3 bytes long, and the timetable checker accepts it,
+--                              with s steps and k moves
 -- Assumes nothing.
 use Prim.Native.Nat.{ℕ, _+_, _*_, _≤_}
 use mathlib.Core.List.{List, [], _∷_, _++_}
@@ -42,7 +43,9 @@ abbrev pub answerOf : MakerVerdict → Answer
 answerOf (Accepted steps) = accepted (steps ∷ [])
 answerOf (Refused f place) = refusedBy f place
 
--- "For every accepted plan the made record is at most 3 × k + 3 bytes long, and the timetable checker accepts it with exactly s steps and k moves."
+-- "For every accepted plan the made record is at most 3 × k + 3 bytes long, and the timetable checker accepts it with
+-- exactly s steps and k moves."
 pub record Timetabled (o p : List ℕ) : Type 0 where
   pub short : length (timetableRecord (madeOf o p)) ≤ 3 * moveCount p + 3
-  pub checked : timetableAnswer o (timetableRecord (madeOf o p)) ≡ accepted (greatest (timed (startsOf o) [] (planMoves p)) ∷ moveCount p ∷ [])
+  pub checked : timetableAnswer o (timetableRecord (madeOf o p))
+      ≡ accepted (greatest (timed (startsOf o) [] (planMoves p)) ∷ moveCount p ∷ [])

@@ -23,7 +23,8 @@ returns c = ap (packed nothing) (ap answerOf (sym (c .enum-told .given .1)) ∙ 
 
 returns-2 : tie.Need-returns-2
 returns-2 c =
-    c .refusal .ensures ∙ ap (packed nothing) (ap answerOf (sym (c .before .before .fault .given .1)) ∙ c .before .before .before .before .judge .ensures)
+    let fault = c .before .before in let judge = fault .before .before in
+    c .refusal .ensures ∙ ap (packed nothing) (ap answerOf (sym (fault .fault .given .1)) ∙ judge .judge .ensures)
 
 pub wichteab-floor-check-spec : {M : Type 1} → statement M
 wichteab-floor-check-spec =

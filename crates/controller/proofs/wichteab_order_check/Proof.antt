@@ -23,7 +23,8 @@ returns c = ap (packed nothing) (ap answerOf (sym (c .enum-told .given .1)) ∙ 
 
 returns-2 : tie.Need-returns-2
 returns-2 c =
-    c .refusal .ensures ∙ ap (packed nothing) (ap answerOf (sym (c .before .before .fault .given .1)) ∙ c .before .before .before .before .read .ensures)
+    let fault = c .before .before in let read = fault .before .before in
+    c .refusal .ensures ∙ ap (packed nothing) (ap answerOf (sym (fault .fault .given .1)) ∙ read .read .ensures)
 
 pub wichteab-order-check-spec : {M : Type 1} → statement M
 wichteab-order-check-spec =
