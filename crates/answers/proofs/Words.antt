@@ -40,12 +40,27 @@ module _ (n : ℕ) where
 
   pub word-timetable : 40 ≤ n → n < 50 → timetable ≡ familyWord n
   unfolding familyWord
-  word-timetable h k = rw (within-over 10 19 n (omega arith), within-over 20 29 n (omega arith), within-over 30 39 n (omega arith), within-yes 40 49 n h (omega arith))
+  word-timetable h k = rw (
+    within-over 10 19 n (omega arith),
+    within-over 20 29 n (omega arith),
+    within-over 30 39 n (omega arith),
+    within-yes 40 49 n h (omega arith),
+  )
 
   pub word-under : n < 10 → other ≡ familyWord n
   unfolding familyWord
-  word-under h = rw (within-under 10 19 n (omega arith), within-under 20 29 n (omega arith), within-under 30 39 n (omega arith), within-under 40 49 n (omega arith))
+  word-under h = rw (
+    within-under 10 19 n (omega arith),
+    within-under 20 29 n (omega arith),
+    within-under 30 39 n (omega arith),
+    within-under 40 49 n (omega arith),
+  )
 
   pub word-over : 50 ≤ n → other ≡ familyWord n
   unfolding familyWord
-  word-over h = rw (within-over 10 19 n (omega arith), within-over 20 29 n (omega arith), within-over 30 39 n (omega arith), within-over 40 49 n (omega arith))
+  word-over h = rw (
+    within-over 10 19 n (omega arith),
+    within-over 20 29 n (omega arith),
+    within-over 30 39 n (omega arith),
+    within-over 40 49 n (omega arith),
+  )

@@ -20,7 +20,8 @@ use Rattle.answers.proofs.AnswerLaws.{passUp-accepted}
 use Rattle.field.proofs.BitLaws.{field-lt}
 use Rattle.field.proofs.RecordLaws.{length-positions, length-pairs}
 use Rattle.field.proofs.UnitLaws.{or-right}
-use Rattle.order.specs.Order.{positionCount, edgeCount, rackCount, floorOf, startsOf, goalsOf, orderOf, wrongLength, wrongPositions, paddingSet, wrongEdges, wrongRacks, orderAnswer}
+use Rattle.order.specs.Order.{positionCount, edgeCount, rackCount, floorOf, startsOf, goalsOf, orderOf, wrongLength, wrongPositions}
+use Rattle.order.specs.Order.{paddingSet, wrongEdges, wrongRacks, orderAnswer}
 use Rattle.motion.specs.Arrangement.{Arrangement}
 use Rattle.motion.specs.Judgement.{misplaced, judged}
 use Rattle.motion.specs.Replay.{Replayed, ended, stopped, replayMoves, replaySteps}
@@ -30,7 +31,8 @@ use Rattle.floor.specs.FloorAnswer.{biConnected?, ring?, holds, floorAnswer}
 use Rattle.plan.specs.Plan.{moveCount, planMoves, wrongPlanLength, planPaddingSet, planAnswer}
 use Rattle.planner.specs.Planner.{refusals, PlanMade, turned-down, made}
 use Rattle.planner.proofs.PlannerLaws.{moves-few}
-use Rattle.timetable.specs.Timetable.{stepCount, partsOf, stepsOf, stepMoves, wrongTimetableLength, timetablePaddingSet, timetableAnswer, stepAnswer}
+use Rattle.timetable.specs.Timetable.{stepCount, partsOf, stepsOf, stepMoves, wrongTimetableLength, timetablePaddingSet, timetableAnswer}
+use Rattle.timetable.specs.Timetable.{stepAnswer}
 use Rattle.timetable.proofs.StepLaws.{length-parts}
 use Rattle.timetable.specs.ByteString.{ByteString}
 use Rattle.timetable.proofs.SizeLaws.{count-small, total-small, offset-small, length-small}

@@ -44,7 +44,8 @@ pub delivered₁ : (P T : List ℕ) {a : Answers} {P′ T′ : List ℕ} → 771
 delivered₁ P T h c = delivered order₁ P T c plannable-met (room₁ P h)
 
 pub solves₁ : Solves order₁ (positionCount order₁) moves₁
-unfolding positionCount edgeCount rackCount floorOf startsOf goalsOf field number bitsOf bits pairs positions replayMoves replayFrom legalMove onFloor joined among isPair occupied vacant goesTo after afterMove
+unfolding positionCount edgeCount rackCount floorOf startsOf goalsOf field number bitsOf bits pairs positions replayMoves replayFrom
+    legalMove onFloor joined among isPair occupied vacant goesTo after afterMove
 solves₁ = record {
   few = lit≤ tt;
   replayed = refl;
@@ -52,7 +53,9 @@ solves₁ = record {
 }
 
 pub called₁ : (P T : List ℕ) → 771 ≤ length P → 15 ≤ length T
-    → Called order₁ P T (record { planner = accepted (4 ∷ []); maker = answered (accepted (2 ∷ [])); checker = answered (accepted (2 ∷ 4 ∷ [])) })
+    → Called order₁ P T
+    (record { planner = accepted (4 ∷ []); maker = answered (accepted (2 ∷ [])); checker = answered (accepted (2 ∷ 4 ∷ [])) })
     (written P 0 (planRecord moves₁)) (bufferAfter order₁ (planRecord moves₁) T)
-unfolding startsOf edgeCount rackCount field number bitsOf bits positions timed stepFor ofRack ofLeaving rackAt rackFrom greatest goesTo after afterMove
+unfolding startsOf edgeCount rackCount field number bitsOf bits positions timed stepFor ofRack ofLeaving rackAt rackFrom greatest goesTo
+    after afterMove
 called₁ P T h g = callable order₁ P plannable-met (room₁ P h) moves₁ solves₁ T g 2 refl

@@ -8,7 +8,8 @@
 --     stepMoves-after       which makes B of A
 --     stays-left            no move leaves the position of a rack that stays
 --     vacant-entered        no move enters a position that is vacant after the step
---     Stays F A B m         a rack that stands at one position before and after the step from A to B, and a legal move m that then takes it away
+--     Stays F A B m         a rack that stands at one position before and after the step from A to B, and a legal move
+--                           m that then takes it away
 --     joining               a move of a rack that stays, into a position vacant after the step, can be made in the step
 --     carrying              a rack that stays, carried beforehand to a position vacant before and after the step, changes nothing in it
 -- Assumes nothing.
@@ -142,7 +143,8 @@ module _ {F : Floor} {A B : Arrangement} {ms : List (ℕ × ℕ)} {m : ℕ × �
 
   only-after : (i : ℕ) → i < length A → getD A i 0 ≢ m .0 → getD B i 0 ≢ m .0
   only-after i h ne e =
-      let same : i ≡ w .rack = w .sound-after .apart i (w .rack) (rw (same-length s) h) (rw (same-length s) (w .is)) (e ∙ sym (w .behind)) in
+      let same : i ≡ w .rack =
+      w .sound-after .apart i (w .rack) (rw (same-length s) h) (rw (same-length s) (w .is)) (e ∙ sym (w .behind)) in
       ne (ap (λ (j : ℕ). getD A j 0) same ∙ w .before)
 
   -- who stood where m goes has left, or nobody stood there
@@ -160,7 +162,8 @@ module _ {F : Floor} {A B : Arrangement} {ms : List (ℕ × ℕ)} {m : ℕ × �
               let t = s .trains x k in
               (suc (t .0), follows (List·Memᴰ·head refl) (sym e) (train-more (λ x k. List·Memᴰ·tail k) (λ x k v. v) (t .1)))
           on (stays h g) =
-              absurd (vacant-racks B (m .1) .0 vacated (q .0) (rw (same-length s) (q .1)) (goes s (q .0) (q .1) ∙ ap (goesTo ms) (q .2) ∙ g))
+              absurd
+              (vacant-racks B (m .1) .0 vacated (q .0) (rw (same-length s) (q .1)) (goes s (q .0) (q .1) ∙ ap (goesTo ms) (q .2) ∙ g))
 
   joined-after : (i : ℕ) → i < length A → getD (after A (m ∷ ms)) i 0 ≡ getD (afterMove B m) i 0
   unfolding goesTo

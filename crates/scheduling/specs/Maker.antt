@@ -4,7 +4,8 @@
 --     makerAnswer o p n        the timetable maker's answer for the order o, the plan p and a buffer of n bytes
 --     bufferAfter o p B        the buffer B afterwards
 --     answerOf v               the maker's verdict v as an answer
---     Timetabled o p           the made record is at most 3 × k + 3 bytes long, and the timetable checker accepts it, with s steps and k moves
+--     Timetabled o p           the made record is at most 3 × k + 3 bytes long, and the timetable checker accepts it,
+--                              with s steps and k moves
 -- Assumes nothing.
 use Prim.Native.Nat.{ℕ, _+_, _*_, _≤_}
 use mathlib.Core.List.{List, [], _∷_}
@@ -38,7 +39,9 @@ abbrev pub answerOf : MakerVerdict → Answer
 answerOf (Accepted steps) = accepted (steps ∷ [])
 answerOf (Refused f place) = refusedBy f place
 
--- "For every accepted plan the made record is at most 3 × k + 3 bytes long, and the timetable checker accepts it with exactly s steps and k moves."
+-- "For every accepted plan the made record is at most 3 × k + 3 bytes long, and the timetable checker accepts it with
+-- exactly s steps and k moves."
 pub record Timetabled (o p : List ℕ) : Type 0 where
   pub short : length (timetableRecord (madeOf o p)) ≤ 3 * moveCount p + 3
-  pub checked : timetableAnswer o (timetableRecord (madeOf o p)) ≡ accepted (greatest (timed (startsOf o) [] (planMoves p)) ∷ moveCount p ∷ [])
+  pub checked : timetableAnswer o (timetableRecord (madeOf o p))
+      ≡ accepted (greatest (timed (startsOf o) [] (planMoves p)) ∷ moveCount p ∷ [])

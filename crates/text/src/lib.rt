@@ -1,5 +1,5 @@
-// The timetable program and the text that it prints, written into a lent buffer. specs/Program.antt and specs/Text.antt say what is printed,
-// field's specs/Writing.antt what a writer leaves in the buffer, byte for byte, and where the next one begins.
+// The timetable program and the text that it prints, written into a lent buffer. specs/Program.antt and specs/Text.antt say what is
+// printed, field's specs/Writing.antt what a writer leaves in the buffer, byte for byte, and where the next one begins.
 use answers::Fault;
 use scheduling::MakerVerdict;
 use timetable::TimetableReading;
@@ -55,7 +55,8 @@ fn put_step(number: usize, step: &[u8], out: &mut [u8], at: usize) -> usize
 
 // The lines of a timetable's steps.
 fn put_steps(timetable: &[u8], steps: usize, out: &mut [u8], at: usize) -> usize
-    requires { ⌜ (wrongTimetableLength (now timetable) ≡ false) × (steps ≡ stepCount (now timetable)) × Fits (now out) at (stepLines 1 (stepsOf (now timetable))) ⌝ }
+    requires { ⌜ (wrongTimetableLength (now timetable) ≡ false) × (steps ≡ stepCount (now timetable))
+        × Fits (now out) at (stepLines 1 (stepsOf (now timetable))) ⌝ }
     ensures { λ r. ⌜ Wrote (now (out .entry)) at (stepLines 1 (stepsOf (now (timetable .entry)))) (now (out .exit)) r ⌝ }
 {
     let mut begin = 3;
@@ -112,8 +113,9 @@ fn print_refusal(fault: Fault, place: u32, out: &mut [u8; 524288]) -> usize
     writers::put_refusal(answers::number(fault), place, out, 0)
 }
 
-// The timetable program on its whole input: writes what it prints at the front of `out`, leaves every byte behind it, and says how many bytes
-// the text has. 524,288 bytes are enough, since a timetable takes at most 8 bytes of text for each of its own, of which 65,536 are lent.
+// The timetable program on its whole input: writes what it prints at the front of `out`, leaves every byte behind it, and says how many
+// bytes the text has. 524,288 bytes are enough, since a timetable takes at most 8 bytes of text for each of its own,
+// of which 65,536 are lent.
 pub fn timetable_program(input: &[u8], out: &mut [u8; 524288]) -> usize
     ensures { λ r. ⌜ Wrote (now (out .entry)) 0 (programText (now (input .entry))) (now (out .exit)) r ⌝ }
 {

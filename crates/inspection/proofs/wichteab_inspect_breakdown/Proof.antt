@@ -15,7 +15,9 @@ use Rattle.inspection.proofs.wichteab_inspect_breakdown.Tie as tie
 
 -- the order's bytes, the counts that the order reader gave, and that it accepted with them
 abbrev bytes : tie.After-known-told → List ℕ
-bytes k = k .before .before .before .before .before .before .before .args .order .now
+bytes k =
+    let read = k .before .before .before in let else1 = read .before in let entry = else1 .before .before .before in
+    entry .args .order .now
 
 abbrev told : tie.After-known-told → Counts
 told k = k .before .below .given .0 .0
@@ -51,36 +53,75 @@ part-rows-of-end : tie.Need-part-rows-of-end
 part-rows-of-end c = search needs
 
 rows-of-requires : tie.Need-rows-of-requires
-rows-of-requires c κs =
-    omega (arith, order-gave (bytes (c .before)) (told (c .before) .positions) (told (c .before) .edges) (told (c .before) .racks) (accepted-by (c .before)))
+rows-of-requires c κs = omega (
+  arith,
+  order-gave (bytes (c .before)) (told (c .before) .positions) (told (c .before) .edges) (told (c .before) .racks)
+      (accepted-by (c .before)),
+)
 
 break-down-requires : tie.Need-break-down-requires
 break-down-requires c κs =
-    rows-right (bytes (c .before .before .before)) (told (c .before .before .before) .positions) (told (c .before .before .before) .edges) (told (c .before .before .before) .racks) (accepted-by (c .before .before .before)) (c .before .rows-of .result) (c .before .rows-of .ensures)
+    rows-right (bytes (c .before .before .before)) (told (c .before .before .before) .positions) (told (c .before .before .before) .edges)
+    (told (c .before .before .before) .racks) (accepted-by (c .before .before .before)) (c .before .rows-of .result)
+    (c .before .rows-of .ensures)
 
 returns-3 : tie.Need-returns-3
 returns-3 c =
-    not-found (bytes (c .before .before .before .before .before)) (told (c .before .before .before .before .before) .positions) (told (c .before .before .before .before .before) .edges) (told (c .before .before .before .before .before) .racks) (accepted-by (c .before .before .before .before .before)) (c .before .before .before .rows-of .result) (c .before .before .before .rows-of .ensures) (c .before .break-down .result .ring) (c .before .break-down .result .handles) (c .before .break-down .result .order) (c .before .break-down .result .start) (c .before .break-down .result .left) (c .before .break-down .result .right) (c .before .break-down .ensures) _ (c .if2 .taken)
+    let break-down = c .before in let rows-of = break-down .before .before in
+    let known-told = rows-of .before .before in
+    not-found (bytes known-told) (told known-told .positions) (told known-told .edges) (told known-told .racks) (accepted-by known-told)
+    (rows-of .rows-of .result) (rows-of .rows-of .ensures) (break-down .break-down .result .ring) (break-down .break-down .result .handles)
+    (break-down .break-down .result .order) (break-down .break-down .result .start) (break-down .break-down .result .left)
+    (break-down .break-down .result .right) (break-down .break-down .ensures) _ (c .if2 .taken)
 
 lay-out-requires : tie.Need-lay-out-requires
 lay-out-requires c κs =
-    let few = small (bytes (c .before .before .before .before .before .before)) (told (c .before .before .before .before .before .before) .positions) (told (c .before .before .before .before .before .before) .edges) (told (c .before .before .before .before .before .before) .racks) (accepted-by (c .before .before .before .before .before .before)) (c .before .before .before .before .rows-of .result) (c .before .before .before .before .rows-of .ensures) (c .before .before .break-down .result .ring) (c .before .before .break-down .result .handles) (c .before .before .break-down .result .order) (c .before .before .break-down .result .start) (c .before .before .break-down .result .left) (c .before .before .break-down .result .right) (c .before .before .break-down .ensures) (omega arith) in
+    let break-down = c .before .before in let rows-of = break-down .before .before in
+    let known-told = rows-of .before .before in
+    let few =
+    small (bytes known-told) (told known-told .positions) (told known-told .edges) (told known-told .racks) (accepted-by known-told)
+    (rows-of .rows-of .result) (rows-of .rows-of .ensures) (break-down .break-down .result .ring) (break-down .break-down .result .handles)
+    (break-down .break-down .result .order) (break-down .break-down .result .start) (break-down .break-down .result .left)
+    (break-down .break-down .result .right) (break-down .break-down .ensures) (omega arith) in
     (omega arith, omega arith)
 
 mul-result : tie.Need-mul-result
 mul-result c =
-    omega (arith, small (bytes (c .before .before .before .before .before .before .before .before .before)) (told (c .before .before .before .before .before .before .before .before .before) .positions) (told (c .before .before .before .before .before .before .before .before .before) .edges) (told (c .before .before .before .before .before .before .before .before .before) .racks) (accepted-by (c .before .before .before .before .before .before .before .before .before)) (c .before .before .before .before .before .before .before .rows-of .result) (c .before .before .before .before .before .before .before .rows-of .ensures) (c .before .before .before .before .before .break-down .result .ring) (c .before .before .before .before .before .break-down .result .handles) (c .before .before .before .before .before .break-down .result .order) (c .before .before .before .before .before .break-down .result .start) (c .before .before .before .before .before .break-down .result .left) (c .before .before .before .before .before .break-down .result .right) (c .before .before .before .before .before .break-down .ensures) (omega arith))
+    let lay-out = c .before .before in let break-down = lay-out .before .before .before in
+    let rows-of = break-down .before .before in let known-told = rows-of .before .before in
+    omega (
+      arith,
+      small (bytes known-told) (told known-told .positions) (told known-told .edges) (told known-told .racks) (accepted-by known-told)
+          (rows-of .rows-of .result) (rows-of .rows-of .ensures) (break-down .break-down .result .ring)
+          (break-down .break-down .result .handles) (break-down .break-down .result .order) (break-down .break-down .result .start)
+          (break-down .break-down .result .left) (break-down .break-down .result .right) (break-down .break-down .ensures) (omega arith),
+    )
 
 add-result : tie.Need-add-result
 add-result c =
-    omega (arith, small (bytes (c .before .before .before .before .before .before .before .before .before)) (told (c .before .before .before .before .before .before .before .before .before) .positions) (told (c .before .before .before .before .before .before .before .before .before) .edges) (told (c .before .before .before .before .before .before .before .before .before) .racks) (accepted-by (c .before .before .before .before .before .before .before .before .before)) (c .before .before .before .before .before .before .before .rows-of .result) (c .before .before .before .before .before .before .before .rows-of .ensures) (c .before .before .before .before .before .break-down .result .ring) (c .before .before .before .before .before .break-down .result .handles) (c .before .before .before .before .before .break-down .result .order) (c .before .before .before .before .before .break-down .result .start) (c .before .before .before .before .before .break-down .result .left) (c .before .before .before .before .before .break-down .result .right) (c .before .before .before .before .before .break-down .ensures) (omega arith))
+    let lay-out = c .before .before in let break-down = lay-out .before .before .before in
+    let rows-of = break-down .before .before in let known-told = rows-of .before .before in
+    omega (
+      arith,
+      small (bytes known-told) (told known-told .positions) (told known-told .edges) (told known-told .racks) (accepted-by known-told)
+          (rows-of .rows-of .result) (rows-of .rows-of .ensures) (break-down .break-down .result .ring)
+          (break-down .break-down .result .handles) (break-down .break-down .result .order) (break-down .break-down .result .start)
+          (break-down .break-down .result .left) (break-down .break-down .result .right) (break-down .break-down .ensures) (omega arith),
+    )
 
 same-length : tie.Need-same-length
 same-length c = search needs
 
 returns-4 : tie.Need-returns-4
 returns-4 c =
-    found (bytes (c .before .before .before .before .before .before .before .before .before)) (told (c .before .before .before .before .before .before .before .before .before) .positions) (told (c .before .before .before .before .before .before .before .before .before) .edges) (told (c .before .before .before .before .before .before .before .before .before) .racks) (accepted-by (c .before .before .before .before .before .before .before .before .before)) (c .before .before .before .before .before .before .before .rows-of .result) (c .before .before .before .before .before .before .before .rows-of .ensures) (c .before .before .before .before .before .break-down .result .ring) (c .before .before .before .before .before .break-down .result .handles) (c .before .before .before .before .before .break-down .result .order) (c .before .before .before .before .before .break-down .result .start) (c .before .before .before .before .before .break-down .result .left) (c .before .before .before .before .before .break-down .result .right) (c .before .before .before .before .before .break-down .ensures) (omega arith) _ _ (c .before .before .before .before .before .before .before .before .before .before .before .before .before .if1 .left) (c .before .before .lay-out .ensures)
+    let lay-out = c .before .before in let break-down = lay-out .before .before .before in
+    let rows-of = break-down .before .before in let known-told = rows-of .before .before in
+    let read = known-told .before .before .before in let else1 = read .before in
+    found (bytes known-told) (told known-told .positions) (told known-told .edges) (told known-told .racks) (accepted-by known-told)
+    (rows-of .rows-of .result) (rows-of .rows-of .ensures) (break-down .break-down .result .ring) (break-down .break-down .result .handles)
+    (break-down .break-down .result .order) (break-down .break-down .result .start) (break-down .break-down .result .left)
+    (break-down .break-down .result .right) (break-down .break-down .ensures) (omega arith) _ _ (else1 .if1 .left)
+    (lay-out .lay-out .ensures)
 
 pub wichteab-inspect-breakdown-spec : {M : Type 1} → statement M
 wichteab-inspect-breakdown-spec =
