@@ -152,7 +152,7 @@ timetable-sized o s b =
     passUp-sized (orderAnswer o) _ (order-sized o)
     (λ v e. refuse-sized (wrongTimetableLength s) 40 0 _ tt tt (lit< tt)
     (λ _. refuse-sized (timetablePaddingSet s) 41 0 _ tt tt (lit< tt)
-    (λ _. judged-sized 42 43 (goalsOf o) _ (replaySteps (floorOf o) (startsOf o) (stepsOf s)) tt tt tt tt (goals-few o)
+    (λ _. judged-sized 42 43 (goalsOf o) _ (replaySteps (legalStep? (floorOf o)) (startsOf o) (stepsOf s)) tt tt tt tt (goals-few o)
     (λ j e. omega (arith, stopped-small (replaySteps-stopped (floorOf o) (startsOf o) (stepsOf s) j .0 e), steps-listed s, count-small s))
     (steps-moves (count-small s) (total-small s b)))))
 
