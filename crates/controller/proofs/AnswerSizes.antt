@@ -26,9 +26,10 @@ use Rattle.order.specs.Order.{positionCount, edgeCount, rackCount, floorOf, sta
 use Rattle.motion.specs.Arrangement.{Arrangement}
 use Rattle.motion.specs.Move.{legalMove, moveFault, after, afterMove}
 use Rattle.motion.proofs.MoveLaws.{moveFault-none, moveFault-small}
-use Rattle.motion.specs.Step.{legalStep, stepFault}
+use Rattle.motion.specs.Step.{legalStep}
 use Rattle.motion.specs.Judgement.{misplaced, judged}
-use Rattle.motion.specs.Replay.{Replayed, ended, stopped, replayMoves, replaySteps}
+use Rattle.motion.specs.Replay.{Replayed, ended, stopped, replayMoves, stepFault, replaySteps}
+use Rattle.motion.proofs.StepDecision.{legalStep?}
 use Rattle.motion.proofs.Test.{cond-either}
 use Rattle.motion.proofs.Lawful.{Stops, stops-some, stepFault-none, stepFault-small, replayMoves-stopped, replaySteps-stopped}
 use Rattle.floor.specs.FloorAnswer.{biConnected?, ring?, holds, floorAnswer}
@@ -102,10 +103,10 @@ moves-stopping : (F : Floor) (A : Arrangement) (ms : List (ℕ × ℕ)) (f j : �
 moves-stopping F A ms f j e =
     stopped-small (moveFault F) (legalMove F) afterMove (moveFault-none F) (moveFault-small F) (replayMoves-stopped F A ms f j .0 e)
 
-steps-stopping : (F : Floor) (A : Arrangement) (steps : List (List (ℕ × ℕ))) (f j : ℕ) → replaySteps F A steps ≡ stopped f j
+steps-stopping : (F : Floor) (A : Arrangement) (steps : List (List (ℕ × ℕ))) (f j : ℕ) → replaySteps (legalStep? F) A steps ≡ stopped f j
     → Stopping (length steps) f j
 steps-stopping F A steps f j e =
-    stopped-small (stepFault F) (legalStep F) after (stepFault-none F) (stepFault-small F) (replaySteps-stopped F A steps f j .0 e)
+    stopped-small (stepFault (legalStep? F)) (legalStep F) after (stepFault-none F) (stepFault-small F) (replaySteps-stopped F A steps f j .0 e)
 
 module _ {Fits : List ℕ → Type 0} where
   pub refuse-sized : (t : Bool) (number place : ℕ) (a : Answer) → T (ltb 0 number) → T (ltb number 256) → place < 2 ^ 32
@@ -186,7 +187,7 @@ timetable-sized o s b =
     passUp-sized (orderAnswer o) _ (order-sized o)
     (λ v e. refuse-sized (wrongTimetableLength s) 40 0 _ tt tt (lit< tt)
     (λ _. refuse-sized (timetablePaddingSet s) 41 0 _ tt tt (lit< tt)
-    (λ _. judged-sized 43 (goalsOf o) _ (replaySteps (floorOf o) (startsOf o) (stepsOf s)) (length (stepsOf s)) tt tt (goals-few o)
+    (λ _. judged-sized 43 (goalsOf o) _ (replaySteps (legalStep? (floorOf o)) (startsOf o) (stepsOf s)) (length (stepsOf s)) tt tt (goals-few o)
     (steps-stopping (floorOf o) (startsOf o) (stepsOf s))
     (omega (arith, steps-listed s, count-small s))
     (steps-moves (count-small s) (total-small s b)))))
