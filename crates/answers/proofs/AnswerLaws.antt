@@ -2,7 +2,7 @@
 --
 --     numberOf-some, numberOf-le    a number is not 0, and fits the 8 bits that the C interface has for it
 --     numberOf-injective   two faults have two numbers
---     number-is            what the code's match tells, as an equation
+--     number-is            what an arm of a match tells, as an equation
 --     refuse-not, refuse-else    an answer that is accepted passed the test, and is what comes after it
 --     passUp-low, passUp-high    an answer that is accepted was accepted below, and is what comes after it
 --     passUp-refused, passUp-accepted    a refusal below is the answer above; where it is accepted below, what comes after is

@@ -40,7 +40,7 @@ numberOf Fault.TimetableGoal = 43
 numberOf Fault.TimetableBuffer = 44
 numberOf Fault.StepNumber = 45
 
--- what the code's match tells: f is one of the cases, and r is its number
+-- as an arm of a match on f tells it: f is some case, and r is that case's number
 pub record HasNumber (f : Fault) (r : ℕ) : Type 0 where
   pub case : Fault
   pub is : f ≡ case

@@ -16,28 +16,30 @@
 --     carryOn r f                a replay that ended is carried on by f from where it ended; one that stopped has stopped
 --     replay-append              the replay of xs ++ ys is the replay of xs, carried on with ys
 --     replay-ended               replay ends at B exactly if the list is lawful and leads to B
---     stepFault-none             a step has no fault exactly if it is legal
+--     stepFault-none, stepFault-small   a step has no fault exactly if it is legal, and its number fits 8 bits
 --     replay-stopped             replay stops with the fault f at the number j exactly if j is the number of the first that is not legal
 --                                at its turn, and f its fault
+--     stops-some                 what a replay stops with is a fault
 --     replayMoves-ended, replayMoves-stopped   these two of a plan's moves, numbered from 1
 --     replaySteps-ended, replaySteps-stopped   and of a timetable's steps
 -- Assumes nothing.
-use Prim.Native.Nat.{ℕ, suc, _+_}
+use Prim.Native.Nat.{ℕ, suc, _+_, _≤_}
 use mathlib.Core.Bool.{Bool, true, false, not, cond}
 use mathlib.Core.List.{List, [], _∷_, _++_}
 use mathlib.Core.Logic.{_↔_, _⊎_, inl, inr, ⊎-elim}
 use mathlib.Core.Path.{_≡_, refl, sym, ap, ap₂, _∙_}
 use native.Mathlib.Nat.{add-zero, add-suc, suc-add}
 use native.Mathlib.Omega.{arith}
-use lib.Dec.{T, eqb}
+use lib.Dec.{T, eqb, lit≤}
 use lib.ListN.{length}
 use Rattle.order.specs.Floor.{Floor}
 use Rattle.motion.specs.Arrangement.{Arrangement}
-use Rattle.motion.proofs.Test.{cond-true, cond-false}
+use Rattle.motion.proofs.Test.{not-parts, eqb-parts, cond-true, cond-false, cond-either}
 use Rattle.motion.specs.Move.{legalMove, moveFault, after, afterMove}
 use Rattle.motion.proofs.MoveLaws.{moveFault-none}
-use Rattle.motion.specs.Step.{legalStep, stepFault}
-use Rattle.motion.specs.Replay.{Replayed, ended, stopped, replayFrom, replayMoves, replaySteps}
+use Rattle.motion.specs.Step.{legalStep}
+use Rattle.motion.specs.Replay.{Replayed, ended, stopped, replayFrom, replayMoves, stepFault, replaySteps}
+use Rattle.motion.proofs.StepDecision.{legalStep?, stepFault-is}
 
 infixr 5 _then_
 pub data Lawful {X : Type 0} (legal : Arrangement → X → Bool) (next : Arrangement → X → Arrangement) : Arrangement → List X → Arrangement → Type 0 where
@@ -186,13 +188,21 @@ module _ {X : Type 0} (fault : Arrangement → X → ℕ) (legal : Arrangement �
       → (replayFrom fault next i A xs ≡ stopped f j) ↔ Stops fault legal next i A xs f j
   replay-stopped i A xs f j = (stopped-stops i A xs f j, stops-stopped i A xs f j)
 
-pub stepFault-none : (F : Floor) (A : Arrangement) (ms : List (ℕ × ℕ)) → eqb (stepFault F A ms) 0 ≡ legalStep F A ms
-unfolding stepFault
-stepFault-none F A ms = chosen (legalStep F A ms)
+  pub stops-some : {i : ℕ} {A : Arrangement} {xs : List X} {f j : ℕ} → Stops fault legal next i A xs f j → f ≡ 0 → ⊥
+  stops-some s e =
+      let clear : T (eqb (fault (s .there) (s .bad)) 0) = eqb-parts (fault (s .there) (s .bad)) 0 .1 (s .fault-is ∙ e) in
+      not-parts (legal (s .there) (s .bad)) .0 (s .illegal) (rw (none (s .there) (s .bad)) at clear)
+
+pub stepFault-none : (F : Floor) (A : Arrangement) (ms : List (ℕ × ℕ)) → eqb (stepFault (legalStep? F) A ms) 0 ≡ legalStep F A ms
+stepFault-none F A ms = rw (stepFault-is F A ms) (chosen (legalStep F A ms))
   where
     chosen : (b : Bool) → eqb (cond b 0 42) 0 ≡ b
     chosen true = refl
     chosen false = refl
+
+pub stepFault-small : (F : Floor) (A : Arrangement) (ms : List (ℕ × ℕ)) → stepFault (legalStep? F) A ms ≤ 255
+stepFault-small F A ms = rw (stepFault-is F A ms)
+    (cond-either (λ (f : ℕ). f ≤ 255) (legalStep F A ms) (lit≤ tt) (lit≤ tt))
 
 pub replayMoves-ended : (F : Floor) (A : Arrangement) (ms : List (ℕ × ℕ)) (B : Arrangement) → (replayMoves F A ms ≡ ended B) ↔ Leads F A ms B
 unfolding replayMoves
@@ -204,11 +214,11 @@ unfolding replayMoves
 replayMoves-stopped F A ms f j = replay-stopped (moveFault F) (legalMove F) afterMove (moveFault-none F) 1 A ms f j
 
 pub replaySteps-ended : (F : Floor) (A : Arrangement) (steps : List (List (ℕ × ℕ))) (B : Arrangement)
-    → (replaySteps F A steps ≡ ended B) ↔ LeadsSteps F A steps B
+    → (replaySteps (legalStep? F) A steps ≡ ended B) ↔ LeadsSteps F A steps B
 unfolding replaySteps
-replaySteps-ended F A steps B = replay-ended (stepFault F) (legalStep F) after (stepFault-none F) 1 A steps B
+replaySteps-ended F A steps B = replay-ended (stepFault (legalStep? F)) (legalStep F) after (stepFault-none F) 1 A steps B
 
 pub replaySteps-stopped : (F : Floor) (A : Arrangement) (steps : List (List (ℕ × ℕ))) (f j : ℕ)
-    → (replaySteps F A steps ≡ stopped f j) ↔ Stops (stepFault F) (legalStep F) after 1 A steps f j
+    → (replaySteps (legalStep? F) A steps ≡ stopped f j) ↔ Stops (stepFault (legalStep? F)) (legalStep F) after 1 A steps f j
 unfolding replaySteps
-replaySteps-stopped F A steps f j = replay-stopped (stepFault F) (legalStep F) after (stepFault-none F) 1 A steps f j
+replaySteps-stopped F A steps f j = replay-stopped (stepFault (legalStep? F)) (legalStep F) after (stepFault-none F) 1 A steps f j

@@ -28,12 +28,13 @@ use Rattle.order.specs.Floor.{Floor, isPair, among, joined}
 use Rattle.order.specs.Order.{some}
 use Rattle.motion.specs.Arrangement.{Arrangement, occupied, vacant}
 use Rattle.motion.specs.Move.{onFloor, goesTo, after}
-use Rattle.motion.specs.Step.{every, ascends, leaves, enters, enteredOnce, led, legalStep, stepFault}
-use Rattle.motion.specs.Replay.{ended, stopped, replayFrom, replaySteps, trace}
+use Rattle.motion.specs.Step.{every, ascends, leaves, enters, enteredOnce, led, legalStep}
+use Rattle.motion.specs.Replay.{ended, stopped, replayFrom, unlessLegal, stepFault, replaySteps, trace}
 use Rattle.motion.specs.Problem.{UniquelyInvertible, Instance}
 use Rattle.motion.specs.ParallelPathFinding.{Solution}
 use Rattle.motion.proofs.Trains.{led-closed}
 use Rattle.motion.specs.LegalStep.{Train, leader, follows, LegalStep}
+use Rattle.motion.proofs.StepDecision.{by-test, legalStep?}
 use Rattle.motion.proofs.LegalStepLaws.{legalStep-iff}
 use Rattle.motion.proofs.Racks.{separate, isValid, isValid-iff}
 use Rattle.motion.specs.StepOf.{moved, insert, sort, stepOf}
@@ -52,8 +53,8 @@ pub starts-valid : UniquelyInvertible floorF 2 starts
 unfolding isValid separate every vacant occupied
 starts-valid = isValid-iff floorF starts .0 tt
 
-pub case-1 : replaySteps floorF starts timetable ≡ ended goals
-unfolding replaySteps replayFrom stepFault legalStep ascends every onFloor joined among isPair occupied enteredOnce enters led leaves
+pub case-1 : replaySteps (legalStep? floorF) starts timetable ≡ ended goals
+unfolding replaySteps replayFrom stepFault unlessLegal legalStep? by-test legalStep ascends every onFloor joined among isPair occupied enteredOnce enters led leaves
     some vacant goesTo after
 case-1 = refl
 
@@ -70,8 +71,8 @@ case-1-steps = refl
 
 -- case 2: rack 1 from 0 to 1, rack 2 from 1 to 3
 
-pub case-2 : replaySteps floorF (0 ∷ 1 ∷ []) (((0, 1) ∷ (1, 3) ∷ []) ∷ []) ≡ ended (1 ∷ 3 ∷ [])
-unfolding replaySteps replayFrom stepFault legalStep ascends every onFloor joined among isPair occupied enteredOnce enters led leaves
+pub case-2 : replaySteps (legalStep? floorF) (0 ∷ 1 ∷ []) (((0, 1) ∷ (1, 3) ∷ []) ∷ []) ≡ ended (1 ∷ 3 ∷ [])
+unfolding replaySteps replayFrom stepFault unlessLegal legalStep? by-test legalStep ascends every onFloor joined among isPair occupied enteredOnce enters led leaves
     some vacant goesTo after
 case-2 = refl
 
@@ -89,8 +90,8 @@ case-2-change = legal-change (isValid-iff floorF (0 ∷ 1 ∷ []) .0 tt) case-2-
 
 -- case 3: racks at 0, 1, 2
 
-pub case-3-ring : replaySteps floorF (0 ∷ 1 ∷ 2 ∷ []) (((0, 1) ∷ (1, 2) ∷ (2, 0) ∷ []) ∷ []) ≡ stopped 42 1
-unfolding replaySteps replayFrom stepFault legalStep ascends every onFloor joined among isPair occupied enteredOnce enters led leaves
+pub case-3-ring : replaySteps (legalStep? floorF) (0 ∷ 1 ∷ 2 ∷ []) (((0, 1) ∷ (1, 2) ∷ (2, 0) ∷ []) ∷ []) ≡ stopped 42 1
+unfolding replaySteps replayFrom stepFault unlessLegal legalStep? by-test legalStep ascends every onFloor joined among isPair occupied enteredOnce enters led leaves
     some vacant goesTo after
 case-3-ring = refl
 
@@ -120,8 +121,8 @@ case-3-no-leader k t = led-closed (0 ∷ 1 ∷ 2 ∷ []) ((0, 1) ∷ (1, 2) ∷ 
     round (suc (suc zero)) h = (λ t. t, omega arith)
     round (suc (suc (suc p))) h = absurd (omega arith)
 
-pub case-3-swap : replaySteps floorF (0 ∷ 1 ∷ 2 ∷ []) (((0, 1) ∷ (1, 0) ∷ []) ∷ []) ≡ stopped 42 1
-unfolding replaySteps replayFrom stepFault legalStep ascends every onFloor joined among isPair occupied enteredOnce enters led leaves
+pub case-3-swap : replaySteps (legalStep? floorF) (0 ∷ 1 ∷ 2 ∷ []) (((0, 1) ∷ (1, 0) ∷ []) ∷ []) ≡ stopped 42 1
+unfolding replaySteps replayFrom stepFault unlessLegal legalStep? by-test legalStep ascends every onFloor joined among isPair occupied enteredOnce enters led leaves
     some vacant goesTo after
 case-3-swap = refl
 

@@ -14,18 +14,20 @@ use mathlib.Core.List.{List, [], _∷_}
 use Rattle.order.specs.Floor.{Floor}
 use Rattle.motion.specs.Arrangement.{Arrangement}
 use Rattle.motion.specs.Move.{after}
-use Rattle.motion.specs.Step.{legalStep, stepFault}
-use Rattle.motion.specs.Replay.{ended, replayFrom}
+use Rattle.motion.specs.Step.{legalStep}
+use Rattle.motion.specs.Replay.{ended, replayFrom, stepFault}
 use Rattle.motion.specs.LegalStep.{LegalStep}
 use Rattle.motion.proofs.LegalStepLaws.{legalStep-iff, legal-true, legal-nothing}
+use Rattle.motion.proofs.StepDecision.{legalStep?}
 use Rattle.motion.proofs.Lawful.{LeadsSteps, _then_, lawful-none, lawful-first, stepFault-none, replay-ended}
 
 abbrev pub StepsLead : Floor → ℕ → Arrangement → List (List (ℕ × ℕ)) → Arrangement → Type 0
-StepsLead F n A steps G = replayFrom (stepFault F) after n A steps ≡ ended G
+StepsLead F n A steps G = replayFrom (stepFault (legalStep? F)) after n A steps ≡ ended G
 
 module _ (F : Floor) where
-  pub steps-lead : (n : ℕ) (A : Arrangement) (steps : List (List (ℕ × ℕ))) (G : Arrangement) → StepsLead F n A steps G ↔ LeadsSteps F A steps G
-  steps-lead = replay-ended (stepFault F) (legalStep F) after (stepFault-none F)
+  pub steps-lead : (n : ℕ) (A : Arrangement) (steps : List (List (ℕ × ℕ))) (G : Arrangement)
+      → StepsLead F n A steps G ↔ LeadsSteps F A steps G
+  steps-lead = replay-ended (stepFault (legalStep? F)) (legalStep F) after (stepFault-none F)
 
   pub replay-none : (n : ℕ) (A G : Arrangement) → StepsLead F n A [] G ↔ (A ≡ G)
   unfolding replayFrom
@@ -41,9 +43,9 @@ module _ (F : Floor) where
   )
 
   pub replay-waiting : (n : ℕ) (A : Arrangement) (steps : List (List (ℕ × ℕ)))
-      → replayFrom (stepFault F) after n A ([] ∷ steps) ≡ replayFrom (stepFault F) after (suc n) A steps
-  unfolding replayFrom stepFault
-  replay-waiting n A steps = let w = legal-nothing F A in rw (legal-true F A [] (w .0), w .1) refl
+      → replayFrom (stepFault (legalStep? F)) after n A ([] ∷ steps) ≡ replayFrom (stepFault (legalStep? F)) after (suc n) A steps
+  unfolding replayFrom
+  replay-waiting n A steps = let w = legal-nothing F A in rw (stepFault-none F A [], legal-true F A [] (w .0), w .1) refl
 
   pub replay-number : (n k : ℕ) (A G : Arrangement) (steps : List (List (ℕ × ℕ))) → StepsLead F n A steps G → StepsLead F k A steps G
   replay-number n k A G steps e = steps-lead k A steps G .1 (steps-lead n A steps G .0 e)

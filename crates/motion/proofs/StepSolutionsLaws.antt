@@ -28,6 +28,7 @@ use Rattle.motion.specs.Problem.{UniquelyInvertible, Instance, arrangeme
 use Rattle.motion.specs.ParallelPathFinding.{InChains, Solution}
 use Rattle.motion.proofs.Racks.{valid-fits}
 use Rattle.motion.specs.StepOf.{stepOf}
+use Rattle.motion.proofs.StepDecision.{legalStep?}
 use Rattle.motion.proofs.StepReplay.{StepsLead, replay-none, replay-cons}
 use Rattle.motion.proofs.StepChange.{Change, legal-change, legal-stepOf, legal-valid, change-legal, change-after}
 use Rattle.motion.specs.StepSolutions.{stepsThrough, stepsBetween}
@@ -141,13 +142,13 @@ pub record OnlySteps (F : Floor) (S⁰ S⁺ : Arrangement) (ζ : ℕ) (S : List 
   pub steps : List (List (ℕ × ℕ))
   pub count : length steps ≡ ζ
   pub traced : trace after S⁰ steps ≡ S
-  pub accepted : replaySteps F S⁰ steps ≡ ended S⁺
-  pub only : (steps′ : List (List (ℕ × ℕ))) → trace after S⁰ steps′ ≡ S → replaySteps F S⁰ steps′ ≡ ended S⁺ → steps′ ≡ steps
+  pub accepted : replaySteps (legalStep? F) S⁰ steps ≡ ended S⁺
+  pub only : (steps′ : List (List (ℕ × ℕ))) → trace after S⁰ steps′ ≡ S → replaySteps (legalStep? F) S⁰ steps′ ≡ ended S⁺ → steps′ ≡ steps
   -- each step lists the racks that change place, ascending by the position left
   pub between : steps ≡ stepsBetween S
 
 module _ (F : Floor) (m : ℕ) (S⁰ S⁺ : Arrangement) where
-  pub replay-solution : UniquelyInvertible F m S⁰ → (steps : List (List (ℕ × ℕ))) → replaySteps F S⁰ steps ≡ ended S⁺
+  pub replay-solution : UniquelyInvertible F m S⁰ → (steps : List (List (ℕ × ℕ))) → replaySteps (legalStep? F) S⁰ steps ≡ ended S⁺
       → Solution F m S⁰ S⁺ (length steps) (trace after S⁰ steps)
   unfolding replaySteps
   replay-solution valid steps e =
@@ -155,7 +156,7 @@ module _ (F : Floor) (m : ℕ) (S⁰ S⁺ : Arrangement) where
       let size : length (w .0) ≡ length steps = sym (ap length (w .3) ∙ length-stepsThrough S⁰ (w .0)) in
       subst₂ (Solution F m S⁰ S⁺) size (sym (w .2)) (way-solution valid (w .1))
 
-  replay-stepsBetween : UniquelyInvertible F m S⁰ → (steps : List (List (ℕ × ℕ))) → replaySteps F S⁰ steps ≡ ended S⁺
+  replay-stepsBetween : UniquelyInvertible F m S⁰ → (steps : List (List (ℕ × ℕ))) → replaySteps (legalStep? F) S⁰ steps ≡ ended S⁺
       → steps ≡ stepsBetween (trace after S⁰ steps)
   unfolding replaySteps stepsBetween
   replay-stepsBetween valid steps e = let w = replay-way 1 S⁰ steps valid e in w .3 ∙ ap stepsBetween (sym (w .2))
@@ -176,12 +177,12 @@ module _ (F : Floor) (m : ℕ) (S⁰ S⁺ : Arrangement) where
       }
 
   pub steps-replay : Instance F m S⁰ S⁺
-      → ((steps : List (List (ℕ × ℕ))) → replaySteps F S⁰ steps ≡ ended S⁺ → Solution F m S⁰ S⁺ (length steps) (trace after S⁰ steps))
+      → ((steps : List (List (ℕ × ℕ))) → replaySteps (legalStep? F) S⁰ steps ≡ ended S⁺ → Solution F m S⁰ S⁺ (length steps) (trace after S⁰ steps))
       × ((ζ : ℕ) (S : List Arrangement) → Solution F m S⁰ S⁺ ζ S → OnlySteps F S⁰ S⁺ ζ S)
   steps-replay σ = (replay-solution (σ .initial), solution-replay)
 
   pub solutions-iff : UniquelyInvertible F m S⁰ → (steps : List (List (ℕ × ℕ))) (S : List Arrangement)
-      → ((replaySteps F S⁰ steps ≡ ended S⁺) × (trace after S⁰ steps ≡ S)) ↔ (Solution F m S⁰ S⁺ (length steps) S × (steps ≡ stepsBetween S))
+      → ((replaySteps (legalStep? F) S⁰ steps ≡ ended S⁺) × (trace after S⁰ steps ≡ S)) ↔ (Solution F m S⁰ S⁺ (length steps) S × (steps ≡ stepsBetween S))
   solutions-iff valid steps S = (
     λ w. (
       subst (Solution F m S⁰ S⁺ (length steps)) (w .1) (replay-solution valid steps (w .0)),
@@ -190,5 +191,5 @@ module _ (F : Floor) (m : ℕ) (S⁰ S⁺ : Arrangement) where
     λ w.
         let o = solution-replay (length steps) S (w .0) in
         let same : steps ≡ o .steps = w .1 ∙ sym (o .between) in
-        (ap (replaySteps F S⁰) same ∙ o .accepted, ap (trace after S⁰) same ∙ o .traced),
+        (ap (replaySteps (legalStep? F) S⁰) same ∙ o .accepted, ap (trace after S⁰) same ∙ o .traced),
   )

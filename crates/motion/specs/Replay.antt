@@ -4,8 +4,12 @@
 --     Replayed             how a replay ends: at an arrangement, or stopped by the first that is not legal, with its fault and its place
 --     replayFrom f a i A   replay of what has the fault f, 0 for none, and makes the arrangement a, its first bearing the number i
 --     replayMoves F A      replay of a plan's moves on the floor F from the arrangement A
---     replaySteps F A      replay of a timetable's steps
+--     unlessLegal d        the fault of a step of which d decides whether it is legal: 42, or 0 for none
+--     stepFault legal?     the fault of a step, where legal? decides
+--     replaySteps legal? A replay of a timetable's steps from the arrangement A
 --     trace a A            the arrangements that a replay passes through, the first and the last included
+-- Whether a step is legal has to be decided for a replay to be computed. What is decided stands in the decision's type: `LegalStep`. Any decision gives
+-- the same replay; proofs/StepDecision.antt has one.
 -- Assumes nothing.
 use Prim.Native.Nat.{ℕ, suc}
 use mathlib.Core.Bool.{cond}
@@ -14,7 +18,7 @@ use lib.Dec.{eqb}
 use Rattle.order.specs.Floor.{Floor}
 use Rattle.motion.specs.Arrangement.{Arrangement}
 use Rattle.motion.specs.Move.{moveFault, after, afterMove}
-use Rattle.motion.specs.Step.{stepFault}
+use Rattle.motion.specs.LegalStep.{LegalStep}
 
 pub data Replayed : Type 0 where
   ended : Arrangement → Replayed
@@ -30,8 +34,17 @@ module _ {X : Type 0} (fault : Arrangement → X → ℕ) (next : Arrangement �
 unfoldable pub replayMoves : Floor → Arrangement → List (ℕ × ℕ) → Replayed
 replayMoves F A ms = replayFrom (moveFault F) afterMove 1 A ms
 
-unfoldable pub replaySteps : Floor → Arrangement → List (List (ℕ × ℕ)) → Replayed
-replaySteps F A steps = replayFrom (stepFault F) after 1 A steps
+-- 42: "this step, the first such, is not legal"
+unfoldable pub unlessLegal : {L : Type 0} → Dec L → ℕ
+unlessLegal (yes l) = 0
+unlessLegal (no f) = 42
+
+module _ {F : Floor} (legal? : (A : Arrangement) (ms : List (ℕ × ℕ)) → Dec (LegalStep F A ms)) where
+  unfoldable pub stepFault : Arrangement → List (ℕ × ℕ) → ℕ
+  stepFault A ms = unlessLegal (legal? A ms)
+
+  unfoldable pub replaySteps : Arrangement → List (List (ℕ × ℕ)) → Replayed
+  replaySteps A steps = replayFrom stepFault after 1 A steps
 
 unfoldable pub trace : {X : Type 0} → (Arrangement → X → Arrangement) → Arrangement → List X → List Arrangement
 trace next A [] = A ∷ []

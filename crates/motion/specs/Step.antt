@@ -8,10 +8,9 @@
 --     enteredOnce ms     no position is entered twice
 --     led k ms A p       the chain of a move into p ends at its leader, at most k moves further on
 --     legalStep F A ms   the step is legal on the arrangement A of the floor F
---     stepFault F A ms   the fault of the step: its number, or 0 where it is legal
 -- Assumes nothing.
 use Prim.Native.Nat.{ℕ, zero, suc}
-use mathlib.Core.Bool.{Bool, true, not, cond, _&&_, _||_}
+use mathlib.Core.Bool.{Bool, true, not, _&&_, _||_}
 use mathlib.Core.List.{List, [], _∷_}
 use lib.ListN.{length}
 use lib.Dec.{ltb, eqb}
@@ -54,7 +53,3 @@ led (suc k) ms A p = vacant A p || leaves ms p && led k ms A (goesTo ms p)
 unfoldable pub legalStep : Floor → Arrangement → List (ℕ × ℕ) → Bool
 legalStep F A ms =
     ascends ms && every (onFloor F) ms && every (λ m. occupied A (m .0)) ms && enteredOnce ms && every (λ m. led (length ms) ms A (m .1)) ms
-
--- 42: "this step, the first such, is not legal"
-unfoldable pub stepFault : Floor → Arrangement → List (ℕ × ℕ) → ℕ
-stepFault F A ms = cond (legalStep F A ms) 0 42

@@ -26,9 +26,7 @@ use Rattle.order.specs.Order.{orderBits, orderRecord, positionCount, edgeCount,
 use Rattle.order.specs.Order.{wrongLength, wrongPositions, paddingSet, some, badEdge, precedes, ascending, wrongEdges, repeats}
 use Rattle.order.specs.Order.{wrongPlaces, wrongRacks, counts, orderAnswer}
 use Rattle.order.specs.EdgeSets.{listed, isEdge, floorFrom}
-use Rattle.motion.specs.Arrangement.{occupied, vacant}
-use Rattle.motion.specs.Move.{onFloor, legalMove, goesTo, after, afterMove}
-use Rattle.motion.specs.Replay.{replayFrom, replayMoves}
+use Rattle.plan.proofs.Examples.{plan-open}
 use Rattle.plan.specs.Plan.{planBits, planRecord}
 use Rattle.writers.specs.Lines.{digits, decimal, space, newline, refusedText, refusalLine}
 use Rattle.floor.specs.FloorAnswer.{biConnected?, ring?, floorAnswer}
@@ -82,8 +80,7 @@ unfolding planRecord planBits bits pairBits toBytes padded pad bytes number
 record₁ = refl
 
 solves₁ : Solves twoRacks (positionCount twoRacks) moves₁
-unfolding positionCount edgeCount rackCount floorOf startsOf goalsOf field number bitsOf bits pairs positions replayMoves replayFrom
-    legalMove onFloor joined among isPair occupied vacant goesTo after afterMove
+unfolding plan-open
 solves₁ = record {
   few = lit≤ tt;
   replayed = refl;

@@ -22,7 +22,7 @@ use Rattle.order.specs.Floor.{isPair, among, joined}
 use Rattle.order.specs.Order.{positionCount, edgeCount, rackCount, floorOf, startsOf, goalsOf, counts}
 use Rattle.order.proofs.OrderLaws.{accepted-is}
 use Rattle.motion.specs.Arrangement.{occupied, vacant}
-use Rattle.motion.specs.Move.{onFloor, legalMove, goesTo, after, afterMove}
+use Rattle.motion.specs.Move.{onFloor, faultBy, moveFault, goesTo, after, afterMove}
 use Rattle.motion.specs.Replay.{replayFrom, replayMoves}
 use Rattle.tables.specs.Accepted.{OrderGave}
 use Rattle.tables.proofs.AcceptedLaws.{order-gave}
@@ -44,7 +44,8 @@ abbrev pub plan : List (ℕ × ℕ)
 plan = (0, 1) ∷ (3, 2) ∷ (2, 0) ∷ (1, 3) ∷ []
 
 pub solves-met : Solves twoRacks 4 plan
-unfolding replayMoves replayFrom legalMove onFloor joined among isPair occupied vacant afterMove after goesTo floorOf startsOf goalsOf positionCount edgeCount rackCount field number bitsOf bits pairs positions
+unfolding replayMoves replayFrom moveFault faultBy onFloor joined among isPair occupied vacant afterMove after goesTo floorOf startsOf
+    goalsOf positionCount edgeCount rackCount field number bitsOf bits pairs positions
 solves-met = record { few = lit≤ tt; replayed = refl; still = λ e. absurd (apart (ap (λ (l : List ℕ). getD l 0 0) e)) }
   where
     apart : _≡_ {A = ℕ} 0 3 → ⊥

@@ -22,6 +22,7 @@ use Rattle.motion.specs.Arrangement.{Arrangement, rackAt}
 use Rattle.motion.proofs.ArrangementLaws.{rackAt-finds}
 use Rattle.motion.proofs.MoveLaws.{legal-parts, after-length}
 use Rattle.motion.specs.Replay.{ended, replayMoves, replaySteps}
+use Rattle.motion.proofs.StepDecision.{legalStep?}
 use Rattle.motion.proofs.Lawful.{Leads, LeadsSteps, still, _then_, replayMoves-ended, replaySteps-ended}
 use Rattle.motion.specs.Sound.{Sound}
 use Rattle.motion.proofs.ListLaws.{by-member}
@@ -70,7 +71,7 @@ plan-scheduled {F} {l} s (_then_ {A = B} {x = m} legal p) =
 
 pub record Made (F : Floor) (A : Arrangement) (ms : List (ℕ × ℕ)) (B : Arrangement) : Type 0 where
   -- each step is legal at its turn, and the last comes to where the plan does
-  pub replayed : replaySteps F A (madeSteps A ms) ≡ ended B
+  pub replayed : replaySteps (legalStep? F) A (madeSteps A ms) ≡ ended B
   -- as many steps as the greatest step given, and at most as many as moves
   pub count : length (madeSteps A ms) ≡ greatest (timed A [] ms)
   pub few : length (madeSteps A ms) ≤ length ms

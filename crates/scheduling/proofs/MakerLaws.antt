@@ -30,6 +30,7 @@ use Rattle.order.specs.Order.{rackCount, floorOf, startsOf, goalsOf, counts, or
 use Rattle.order.proofs.OrderLaws.{accepted-is}
 use Rattle.motion.specs.Arrangement.{Arrangement}
 use Rattle.motion.specs.Replay.{ended, replayMoves, replaySteps}
+use Rattle.motion.proofs.StepDecision.{legalStep?}
 use Rattle.motion.proofs.Lawful.{Leads, LeadsSteps, still, _then_, replayMoves-ended, replaySteps-ended}
 use Rattle.motion.specs.StepTests.{OnFloor}
 use Rattle.motion.proofs.LegalStepLaws.{legalStep-iff}
@@ -128,11 +129,12 @@ module _ (o p v : List ℕ) (e : planAnswer o p ≡ accepted v) where
       sym (total-moves r) ∙ ap movesOf (stepsOf-record (madeOf o p) made-packable) ∙ moves-total ∙ moves-counted p in
       ap₂ (λ (x y : ℕ). x ∷ y ∷ []) steps moves
 
-  made-replayed : replaySteps (floorOf o) (startsOf o) (stepsOf (timetableRecord (madeOf o p))) ≡ ended (goalsOf o)
+  made-replayed : replaySteps (legalStep? (floorOf o)) (startsOf o) (stepsOf (timetableRecord (madeOf o p))) ≡ ended (goalsOf o)
   made-replayed = rw (stepsOf-record (madeOf o p) made-packable) (unfold madeOf in made-of .replayed)
 
   at-goals : (v : List ℕ) → judged 43 (goalsOf o) v (ended (goalsOf o)) ≡ accepted v
-  at-goals v = judged-accepted 43 (goalsOf o) v v (ended (goalsOf o)) (λ A q. let g : goalsOf o ≡ A = cc in ap length (sym g)) .1 (refl, refl)
+  at-goals v =
+      judged-accepted 43 (goalsOf o) v v (ended (goalsOf o)) (λ A q. let g : goalsOf o ≡ A = cc in ap length (sym g)) .1 (refl, refl)
 
   made-checked : timetableAnswer o (timetableRecord (madeOf o p)) ≡ accepted (greatest (timed (startsOf o) [] (planMoves p)) ∷ moveCount p ∷ [])
   unfolding timetableAnswer

@@ -37,8 +37,9 @@ use Rattle.order.specs.Floor.{isPair, among, joined}
 use Rattle.order.specs.Order.{positionCount, edgeCount, rackCount, unitCount, floorOf, startsOf, goalsOf, orderOf, wrongLength, wrongPositions, paddingSet, some, badEdge, precedes, ascending, wrongEdges, repeats, wrongPlaces, wrongRacks, counts, orderAnswer, WellFormed}
 use Rattle.motion.specs.Arrangement.{occupied, vacant}
 use Rattle.motion.specs.Move.{onFloor, goesTo, after}
-use Rattle.motion.specs.Step.{every, ascends, leaves, enters, enteredOnce, led, legalStep, stepFault}
-use Rattle.motion.specs.Replay.{replayFrom, replaySteps, trace}
+use Rattle.motion.specs.Step.{every, ascends, leaves, enters, enteredOnce, led, legalStep}
+use Rattle.motion.specs.Replay.{replayFrom, unlessLegal, stepFault, replaySteps, trace}
+use Rattle.motion.proofs.StepDecision.{by-test, legalStep?}
 use Rattle.motion.specs.Judgement.{misplaced, judged}
 use Rattle.motion.specs.StepOf.{moved, insert, sort, stepOf}
 use Rattle.motion.specs.StepSolutions.{stepsThrough, stepsBetween}
@@ -201,7 +202,7 @@ abbrev pub swapTimetable : List ℕ
 swapTimetable = 0x00 ∷ 0x00 ∷ 0x04 ∷ 0x02 ∷ 0x00 ∷ 0x10 ∷ 0x40 ∷ []
 
 unfoldable pub timetable-open : List ℕ → List ℕ → Answer
-unfolding timetableAnswer judged misplaced replaySteps replayFrom stepFault legalStep every ascends leaves enters enteredOnce led
+unfolding timetableAnswer judged misplaced replaySteps replayFrom stepFault unlessLegal legalStep? by-test legalStep every ascends leaves enters enteredOnce led
     occupied vacant onFloor goesTo after joined among isPair orderAnswer counts wrongRacks wrongPlaces repeats wrongEdges ascending
     precedes badEdge paddingSet wrongPositions wrongLength unitCount floorOf startsOf goalsOf orderOf positionCount edgeCount rackCount
     unclean misfits unitsLength positions total stepsOf stepMoves pairs wrongTimetableLength timetablePaddingSet wrongSteps some

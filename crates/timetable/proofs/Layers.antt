@@ -14,6 +14,7 @@ use Rattle.field.specs.Bytes.{BelowPairs}
 use Rattle.order.specs.Order.{floorOf, startsOf, goalsOf, orderAnswer}
 use Rattle.order.proofs.TailLaws.{tail-edges, tail-starts, tail-goals}
 use Rattle.motion.specs.Replay.{replaySteps}
+use Rattle.motion.proofs.StepDecision.{legalStep?}
 use Rattle.motion.specs.Judgement.{judged}
 use Rattle.tables.specs.Accepted.{OrderGave}
 use Rattle.tables.proofs.Layers.{order-refused, record-refused, all-accepted}
@@ -29,7 +30,7 @@ use Rattle.timetable.proofs.TimetableRecord.{moves-low}
 
 -- 42, 43 and acceptance
 abbrev judgement : List ℕ → List ℕ → Answer
-judgement o s = judged 43 (goalsOf o) (stepCount s ∷ total (partsOf s) ∷ []) (replaySteps (floorOf o) (startsOf o) (stepsOf s))
+judgement o s = judged 43 (goalsOf o) (stepCount s ∷ total (partsOf s) ∷ []) (replaySteps (legalStep? (floorOf o)) (startsOf o) (stepsOf s))
 
 pub record ReadingGave (s : List ℕ) (steps moves : ℕ) : Type 0 where
   pub length-right : wrongTimetableLength s ≡ false

@@ -30,6 +30,7 @@ use Rattle.answers.proofs.AnswerLaws.{refuse-not, refuse-else}
 use Rattle.field.proofs.UnitLaws.{or-left, or-right}
 use Rattle.order.specs.Order.{orderAnswer, floorOf, startsOf, goalsOf}
 use Rattle.motion.specs.Replay.{replaySteps}
+use Rattle.motion.proofs.StepDecision.{legalStep?}
 use Rattle.motion.specs.Judgement.{judged}
 use Rattle.timetable.specs.Timetable.{wrongSteps, stepParts, partsOf, stepMoves, stepsOf, stepCount, total, wrongTimetableLength, timetablePaddingSet, timetableAnswer, lengthOf, offset, stepPart, stepAnswer}
 use Rattle.timetable.specs.Reading.{readingAnswer, WellPacked, moveCount, numberAnswer}
@@ -69,7 +70,7 @@ pub timetableAnswer-is : (o s : List ℕ)
     → timetableAnswer o s
     ≡ passUp (orderAnswer o)
     (passUp (readingAnswer s)
-    (judged 43 (goalsOf o) (stepCount s ∷ total (partsOf s) ∷ []) (replaySteps (floorOf o) (startsOf o) (stepsOf s))))
+    (judged 43 (goalsOf o) (stepCount s ∷ total (partsOf s) ∷ []) (replaySteps (legalStep? (floorOf o)) (startsOf o) (stepsOf s))))
 unfolding timetableAnswer readingAnswer
 timetableAnswer-is o s = ap (passUp (orderAnswer o)) (chain (wrongTimetableLength s) (timetablePaddingSet s) (stepCount s ∷ total (partsOf s) ∷ []) _)
   where

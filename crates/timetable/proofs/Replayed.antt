@@ -26,6 +26,7 @@ use Rattle.motion.specs.Arrangement.{Arrangement}
 use Rattle.motion.specs.Move.{after}
 use Rattle.motion.proofs.MoveLaws.{after-length}
 use Rattle.motion.specs.Replay.{Replayed, ended, replaySteps, trace}
+use Rattle.motion.proofs.StepDecision.{legalStep?}
 use Rattle.motion.proofs.Lawful.{LeadsSteps, still, _then_, replaySteps-ended}
 use Rattle.motion.specs.LegalStep.{LegalStep}
 use Rattle.motion.proofs.LegalStepLaws.{legalStep-iff}
@@ -66,7 +67,7 @@ steps-length F (_then_ {A = A} {x = ms} l rest) = steps-length F rest ∙ after-
 
 module _ (o s v : List ℕ) where
   abbrev outcome : Replayed
-  outcome = replaySteps (floorOf o) (startsOf o) (stepsOf s)
+  outcome = replaySteps (legalStep? (floorOf o)) (startsOf o) (stepsOf s)
 
   abbrev judgement : Answer
   judgement = judged 43 (goalsOf o) (stepCount s ∷ total (partsOf s) ∷ []) outcome

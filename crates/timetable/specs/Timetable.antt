@@ -30,6 +30,7 @@ use Rattle.answers.specs.Answer.{Answer, accepted, refuse, passUp}
 use Rattle.field.specs.Bits.{bits, field, pairs, pairBits, pad, padded, toBytes}
 use Rattle.order.specs.Order.{some, orderAnswer, floorOf, startsOf, goalsOf}
 use Rattle.motion.specs.Replay.{replaySteps}
+use Rattle.motion.proofs.StepDecision.{legalStep?}
 use Rattle.motion.specs.Judgement.{judged}
 
 -- "each step is one byte c, then c moves, then pad"
@@ -95,7 +96,7 @@ timetableAnswer o s =
     passUp (orderAnswer o)
     (refuse (wrongTimetableLength s) 40 0
     (refuse (timetablePaddingSet s) 41 0
-    (judged 43 (goalsOf o) (stepCount s ∷ total (partsOf s) ∷ []) (replaySteps (floorOf o) (startsOf o) (stepsOf s)))))
+    (judged 43 (goalsOf o) (stepCount s ∷ total (partsOf s) ∷ []) (replaySteps (legalStep? (floorOf o)) (startsOf o) (stepsOf s)))))
 
 -- the length in bytes of the first i parts
 unfoldable pub lengthOf : ℕ → List (List ℕ) → ℕ

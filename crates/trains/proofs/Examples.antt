@@ -28,6 +28,7 @@ use Rattle.motion.specs.Arrangement.{occupied, vacant}
 use Rattle.motion.specs.Move.{goesTo, after}
 use Rattle.motion.specs.Step.{every, ascends, leaves, enters, enteredOnce}
 use Rattle.motion.specs.Replay.{ended, replayFrom, replaySteps}
+use Rattle.motion.proofs.StepDecision.{legalStep?}
 use Rattle.motion.specs.Judgement.{judged}
 use Rattle.motion.specs.Sound.{Sound}
 use Rattle.motion.proofs.SoundLaws.{isSound, isSound-sound}
@@ -104,7 +105,7 @@ unfolding replayStepsOn replayFrom stepFaultOn matrixOf tableOf marked placed le
 case-1-tables = refl
 
 pub case-1-judged : judgedOn 43 goals (2 ∷ 4 ∷ []) (replayStepsOn (matrixOf floorF) (tableOf starts) timetable)
-    ≡ judged 43 goals (2 ∷ 4 ∷ []) (replaySteps floorF starts timetable)
+    ≡ judged 43 goals (2 ∷ 4 ∷ []) (replaySteps (legalStep? floorF) starts timetable)
 case-1-judged = steps-judged floorF floorF-few floorF-below floorF-right starts starts-sound timetable-small 43 goals (2 ∷ 4 ∷ []) refl
 
 pub case-1-accepted : judgedOn 43 goals (2 ∷ 4 ∷ []) (replayStepsOn (matrixOf floorF) (tableOf starts) timetable) ≡ accepted (2 ∷ 4 ∷ [])

@@ -18,12 +18,12 @@ use Rattle.order.specs.Tables.{placed}
 use Rattle.motion.specs.Arrangement.{Arrangement}
 use Rattle.motion.specs.Move.{after}
 use Rattle.motion.proofs.MoveLaws.{after-length}
-use Rattle.motion.specs.Step.{stepFault}
 use Rattle.motion.proofs.LegalStepLaws.{legalStep-iff}
 use Rattle.motion.proofs.Lawful.{stepFault-none}
 use Rattle.motion.proofs.StepChange.{legal-valid}
 use Rattle.motion.proofs.PebbleLaws.{invertible-sound}
-use Rattle.motion.specs.Replay.{replaySteps}
+use Rattle.motion.specs.Replay.{stepFault, replaySteps}
+use Rattle.motion.proofs.StepDecision.{legalStep?, stepFault-is}
 use Rattle.motion.specs.Judgement.{judged}
 use Rattle.motion.specs.Sound.{Sound}
 use Rattle.tables.specs.Tables.{judgedOn}
@@ -43,12 +43,12 @@ each-map f p (x ∷ l) = each-more (p x) (each-map f p l)
 
 module _ (F : Floor) (few : F .positions ≤ 64) (below : BelowPairs 64 (F .edges)) (right : wrongEdges F ≡ false) where
   pub step-fault-on : (A : Arrangement) (h : List ℕ) → Holds A h → {ms : List (ℕ × ℕ)} → BelowPairs 64 ms
-      → stepFault F A ms ≡ stepFaultOn (matrixOf F) h ms
-  unfolding stepFault stepFaultOn
-  step-fault-on A h holds b = rw (legal-step-on F below right A h holds b) refl
+      → stepFault (legalStep? F) A ms ≡ stepFaultOn (matrixOf F) h ms
+  unfolding stepFaultOn
+  step-fault-on A h holds {ms} b = rw (stepFault-is F A ms, legal-step-on F below right A h holds b) refl
 
   kept-on : (k : ℕ) (A : Arrangement) (h : List ℕ) (ms : List (ℕ × ℕ)) → Kept (F .positions) k A h → BelowPairs 64 ms
-      → T (eqb (stepFault F A ms) 0)
+      → T (eqb (stepFault (legalStep? F) A ms) 0)
       → Kept (F .positions) k (after A ms) (stepOn h ms)
   kept-on k A h ms r b z =
       let s = legalStep-iff F A ms .0 (rw (stepFault-none F A ms) at z) in
@@ -56,15 +56,15 @@ module _ (F : Floor) (few : F .positions ≤ 64) (below : BelowPairs 64 (F .edge
       (invertible-sound F (length A) (after A ms) .0 valid .1, step-holds F few A h (r .1) ms s, after-length A ms ∙ r .2)
 
   module _ (A : Arrangement) (sound : Sound (F .positions) A) {steps : List (List (ℕ × ℕ))} (small : Each (BelowPairs 64) steps) where
-    pub steps-alike : Alike (Kept (F .positions) (length A)) (replaySteps F A steps) (replayStepsOn (matrixOf F) (tableOf A) steps)
+    pub steps-alike : Alike (Kept (F .positions) (length A)) (replaySteps (legalStep? F) A steps) (replayStepsOn (matrixOf F) (tableOf A) steps)
     unfolding replaySteps replayStepsOn tableOf
     steps-alike =
-        replay-alike (BelowPairs 64) (Kept (F .positions) (length A)) (stepFault F) after (stepFaultOn (matrixOf F)) stepOn
+        replay-alike (BelowPairs 64) (Kept (F .positions) (length A)) (stepFault (legalStep? F)) after (stepFaultOn (matrixOf F)) stepOn
         (λ B h ms r b. step-fault-on B h (r .1) b)
         (kept-on (length A))
         1 A (placed (replicate 64 0) 1 A) small (sound, placed-holds (F .positions) A few sound, refl)
 
     pub steps-judged : (off : ℕ) (G counts : List ℕ) → length G ≡ length A
-        → judgedOn off G counts (replayStepsOn (matrixOf F) (tableOf A) steps) ≡ judged off G counts (replaySteps F A steps)
+        → judgedOn off G counts (replayStepsOn (matrixOf F) (tableOf A) steps) ≡ judged off G counts (replaySteps (legalStep? F) A steps)
     steps-judged off G counts e =
         judged-on (Kept (F .positions) (length A)) off G counts (λ B h r. (r .1, e ∙ sym (r .2))) steps-alike
