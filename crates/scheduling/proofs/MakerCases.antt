@@ -17,7 +17,7 @@ use mathlib.Core.List.{List, [], _∷_}
 use lib.Dec.{lit≤}
 use Rattle.answers.specs.Answer.{accepted, refused}
 use Rattle.field.specs.Bits.{bits, number, bitsOf, field, pairs, positions, pairBits, pad, padded, bytes, toBytes}
-use Rattle.field.specs.Units.{unitsLength, misfits, unclean}
+use Rattle.field.specs.Units.{recordLength, misfits, unclean}
 use Rattle.order.specs.Floor.{isPair, among, joined}
 use Rattle.order.specs.Order.{positionCount, edgeCount, rackCount, unitCount, floorOf, startsOf, goalsOf, orderOf, wrongLength, wrongPositions, paddingSet, some, badEdge, precedes, ascending, wrongEdges, repeats, wrongPlaces, wrongRacks, counts, orderAnswer}
 use Rattle.motion.specs.Arrangement.{occupied, vacant}
@@ -59,43 +59,43 @@ unfolding madeOf madeSteps timed stepFor rackAt rackFrom ofRack ofLeaving greate
 made-2 = refl
 
 accepted-1 : planAnswer order₁ plan₁ ≡ accepted (4 ∷ [])
-unfolding planAnswer wrongPlanLength planPaddingSet moveCount planMoves judged misplaced replayMoves replayFrom legalMove onFloor joined among isPair occupied vacant afterMove after goesTo orderAnswer wrongLength misfits unitsLength unitCount wrongPositions paddingSet unclean wrongEdges some badEdge precedes ascending wrongRacks wrongPlaces repeats orderOf floorOf startsOf goalsOf counts positionCount edgeCount rackCount field number bitsOf bits pairs positions pad
+unfolding planAnswer wrongPlanLength planPaddingSet moveCount planMoves judged misplaced replayMoves replayFrom legalMove onFloor joined among isPair occupied vacant afterMove after goesTo orderAnswer wrongLength misfits recordLength unitCount wrongPositions paddingSet unclean wrongEdges some badEdge precedes ascending wrongRacks wrongPlaces repeats orderOf floorOf startsOf goalsOf counts positionCount edgeCount rackCount field number bitsOf bits pairs positions pad
 accepted-1 = refl
 
 accepted-2 : planAnswer order₂ plan₂ ≡ accepted (2 ∷ [])
-unfolding planAnswer wrongPlanLength planPaddingSet moveCount planMoves judged misplaced replayMoves replayFrom legalMove onFloor joined among isPair occupied vacant afterMove after goesTo orderAnswer wrongLength misfits unitsLength unitCount wrongPositions paddingSet unclean wrongEdges some badEdge precedes ascending wrongRacks wrongPlaces repeats orderOf floorOf startsOf goalsOf counts positionCount edgeCount rackCount field number bitsOf bits pairs positions pad
+unfolding planAnswer wrongPlanLength planPaddingSet moveCount planMoves judged misplaced replayMoves replayFrom legalMove onFloor joined among isPair occupied vacant afterMove after goesTo orderAnswer wrongLength misfits recordLength unitCount wrongPositions paddingSet unclean wrongEdges some badEdge precedes ascending wrongRacks wrongPlaces repeats orderOf floorOf startsOf goalsOf counts positionCount edgeCount rackCount field number bitsOf bits pairs positions pad
 accepted-2 = refl
 
 pub answer-1 : makerAnswer order₁ plan₁ 15 ≡ accepted (2 ∷ [])
-unfolding makerAnswer timed stepFor rackAt rackFrom ofRack ofLeaving greatest pad planAnswer wrongPlanLength planPaddingSet moveCount planMoves judged misplaced replayMoves replayFrom legalMove onFloor joined among isPair occupied vacant afterMove after goesTo orderAnswer wrongLength misfits unitsLength unitCount wrongPositions paddingSet unclean wrongEdges some badEdge precedes ascending wrongRacks wrongPlaces repeats orderOf floorOf startsOf goalsOf counts positionCount edgeCount rackCount field number bitsOf bits pairs positions
+unfolding makerAnswer timed stepFor rackAt rackFrom ofRack ofLeaving greatest pad planAnswer wrongPlanLength planPaddingSet moveCount planMoves judged misplaced replayMoves replayFrom legalMove onFloor joined among isPair occupied vacant afterMove after goesTo orderAnswer wrongLength misfits recordLength unitCount wrongPositions paddingSet unclean wrongEdges some badEdge precedes ascending wrongRacks wrongPlaces repeats orderOf floorOf startsOf goalsOf counts positionCount edgeCount rackCount field number bitsOf bits pairs positions
 answer-1 = refl
 
 pub answer-2 : makerAnswer order₂ plan₂ 9 ≡ accepted (1 ∷ [])
-unfolding makerAnswer timed stepFor rackAt rackFrom ofRack ofLeaving greatest pad planAnswer wrongPlanLength planPaddingSet moveCount planMoves judged misplaced replayMoves replayFrom legalMove onFloor joined among isPair occupied vacant afterMove after goesTo orderAnswer wrongLength misfits unitsLength unitCount wrongPositions paddingSet unclean wrongEdges some badEdge precedes ascending wrongRacks wrongPlaces repeats orderOf floorOf startsOf goalsOf counts positionCount edgeCount rackCount field number bitsOf bits pairs positions
+unfolding makerAnswer timed stepFor rackAt rackFrom ofRack ofLeaving greatest pad planAnswer wrongPlanLength planPaddingSet moveCount planMoves judged misplaced replayMoves replayFrom legalMove onFloor joined among isPair occupied vacant afterMove after goesTo orderAnswer wrongLength misfits recordLength unitCount wrongPositions paddingSet unclean wrongEdges some badEdge precedes ascending wrongRacks wrongPlaces repeats orderOf floorOf startsOf goalsOf counts positionCount edgeCount rackCount field number bitsOf bits pairs positions
 answer-2 = refl
 
 -- 3 × 4 + 3 bytes are 15
 pub meets-44 : makerAnswer order₁ plan₁ 14 ≡ refused 44 0
-unfolding makerAnswer pad planAnswer wrongPlanLength planPaddingSet moveCount planMoves judged misplaced replayMoves replayFrom legalMove onFloor joined among isPair occupied vacant afterMove after goesTo orderAnswer wrongLength misfits unitsLength unitCount wrongPositions paddingSet unclean wrongEdges some badEdge precedes ascending wrongRacks wrongPlaces repeats orderOf floorOf startsOf goalsOf counts positionCount edgeCount rackCount field number bitsOf bits pairs positions
+unfolding makerAnswer pad planAnswer wrongPlanLength planPaddingSet moveCount planMoves judged misplaced replayMoves replayFrom legalMove onFloor joined among isPair occupied vacant afterMove after goesTo orderAnswer wrongLength misfits recordLength unitCount wrongPositions paddingSet unclean wrongEdges some badEdge precedes ascending wrongRacks wrongPlaces repeats orderOf floorOf startsOf goalsOf counts positionCount edgeCount rackCount field number bitsOf bits pairs positions
 meets-44 = refl
 
 pub low-first : makerAnswer order₁ (0x00 ∷ 0x00 ∷ 0x00 ∷ []) 0 ≡ refused 33 1
-unfolding makerAnswer pad planAnswer wrongPlanLength planPaddingSet moveCount planMoves judged misplaced replayMoves replayFrom legalMove onFloor joined among isPair occupied vacant afterMove after goesTo orderAnswer wrongLength misfits unitsLength unitCount wrongPositions paddingSet unclean wrongEdges some badEdge precedes ascending wrongRacks wrongPlaces repeats orderOf floorOf startsOf goalsOf counts positionCount edgeCount rackCount field number bitsOf bits pairs positions
+unfolding makerAnswer pad planAnswer wrongPlanLength planPaddingSet moveCount planMoves judged misplaced replayMoves replayFrom legalMove onFloor joined among isPair occupied vacant afterMove after goesTo orderAnswer wrongLength misfits recordLength unitCount wrongPositions paddingSet unclean wrongEdges some badEdge precedes ascending wrongRacks wrongPlaces repeats orderOf floorOf startsOf goalsOf counts positionCount edgeCount rackCount field number bitsOf bits pairs positions
 low-first = refl
 
 -- five bytes stand behind the record
 pub buffer-1 : bufferAfter order₁ plan₁ (1 ∷ 2 ∷ 3 ∷ 4 ∷ 5 ∷ 6 ∷ 7 ∷ 8 ∷ 9 ∷ 10 ∷ 11 ∷ 12 ∷ 13 ∷ 14 ∷ 15 ∷ 16 ∷ [])
     ≡ 0x00 ∷ 0x00 ∷ 0x08 ∷ 0x02 ∷ 0x00 ∷ 0x10 ∷ 0xC2 ∷ 0x02 ∷ 0x04 ∷ 0x30 ∷ 0x80 ∷ 12 ∷ 13 ∷ 14 ∷ 15 ∷ 16 ∷ []
-unfolding bufferAfter makerAnswer timed stepFor rackAt rackFrom ofRack ofLeaving greatest madeOf madeSteps stepsFrom movesIn inStep sort insert timetableRecord timetableBits allStepBits stepBits pairBits padded pad toBytes bytes planAnswer wrongPlanLength planPaddingSet moveCount planMoves judged misplaced replayMoves replayFrom legalMove onFloor joined among isPair occupied vacant afterMove after goesTo orderAnswer wrongLength misfits unitsLength unitCount wrongPositions paddingSet unclean wrongEdges some badEdge precedes ascending wrongRacks wrongPlaces repeats orderOf floorOf startsOf goalsOf counts positionCount edgeCount rackCount field number bitsOf bits pairs positions
+unfolding bufferAfter makerAnswer timed stepFor rackAt rackFrom ofRack ofLeaving greatest madeOf madeSteps stepsFrom movesIn inStep sort insert timetableRecord timetableBits allStepBits stepBits pairBits padded pad toBytes bytes planAnswer wrongPlanLength planPaddingSet moveCount planMoves judged misplaced replayMoves replayFrom legalMove onFloor joined among isPair occupied vacant afterMove after goesTo orderAnswer wrongLength misfits recordLength unitCount wrongPositions paddingSet unclean wrongEdges some badEdge precedes ascending wrongRacks wrongPlaces repeats orderOf floorOf startsOf goalsOf counts positionCount edgeCount rackCount field number bitsOf bits pairs positions
 buffer-1 = refl
 
 pub buffer-44 : bufferAfter order₁ plan₁ (1 ∷ 2 ∷ 3 ∷ 4 ∷ 5 ∷ 6 ∷ 7 ∷ 8 ∷ 9 ∷ 10 ∷ 11 ∷ 12 ∷ 13 ∷ 14 ∷ []) ≡ 1 ∷ 2 ∷ 3 ∷ 4 ∷ 5 ∷ 6 ∷ 7 ∷ 8 ∷ 9 ∷ 10 ∷ 11 ∷ 12 ∷ 13 ∷ 14 ∷ []
-unfolding bufferAfter makerAnswer pad planAnswer wrongPlanLength planPaddingSet moveCount planMoves judged misplaced replayMoves replayFrom legalMove onFloor joined among isPair occupied vacant afterMove after goesTo orderAnswer wrongLength misfits unitsLength unitCount wrongPositions paddingSet unclean wrongEdges some badEdge precedes ascending wrongRacks wrongPlaces repeats orderOf floorOf startsOf goalsOf counts positionCount edgeCount rackCount field number bitsOf bits pairs positions
+unfolding bufferAfter makerAnswer pad planAnswer wrongPlanLength planPaddingSet moveCount planMoves judged misplaced replayMoves replayFrom legalMove onFloor joined among isPair occupied vacant afterMove after goesTo orderAnswer wrongLength misfits recordLength unitCount wrongPositions paddingSet unclean wrongEdges some badEdge precedes ascending wrongRacks wrongPlaces repeats orderOf floorOf startsOf goalsOf counts positionCount edgeCount rackCount field number bitsOf bits pairs positions
 buffer-44 = refl
 
 -- n = 1, one rack from 0 to 0
 pub none-made : makerAnswer (0x02 ∷ 0x00 ∷ 0x04 ∷ 0x00 ∷ 0x00 ∷ []) (0x00 ∷ 0x00 ∷ 0x00 ∷ []) 3 ≡ accepted (0 ∷ [])
-unfolding makerAnswer timed greatest pad planAnswer wrongPlanLength planPaddingSet moveCount planMoves judged misplaced replayMoves replayFrom legalMove onFloor joined among isPair occupied vacant afterMove after goesTo orderAnswer wrongLength misfits unitsLength unitCount wrongPositions paddingSet unclean wrongEdges some badEdge precedes ascending wrongRacks wrongPlaces repeats orderOf floorOf startsOf goalsOf counts positionCount edgeCount rackCount field number bitsOf bits pairs positions
+unfolding makerAnswer timed greatest pad planAnswer wrongPlanLength planPaddingSet moveCount planMoves judged misplaced replayMoves replayFrom legalMove onFloor joined among isPair occupied vacant afterMove after goesTo orderAnswer wrongLength misfits recordLength unitCount wrongPositions paddingSet unclean wrongEdges some badEdge precedes ascending wrongRacks wrongPlaces repeats orderOf floorOf startsOf goalsOf counts positionCount edgeCount rackCount field number bitsOf bits pairs positions
 none-made = refl
 
 pub theorem-1 : Timetabled order₁ plan₁

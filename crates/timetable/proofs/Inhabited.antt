@@ -30,7 +30,7 @@ use Rattle.answers.specs.Answer.{accepted, refused}
 use Rattle.field.specs.Bits.{bits, number, bitsOf, field, positions, pairs, pairBits, pad, padded, bytes, toBytes}
 use Rattle.field.specs.Bytes.{Bytes, none, more, none₂, more₂}
 use Rattle.field.proofs.WholeBytes.{below-each}
-use Rattle.field.specs.Units.{unitsLength, misfits, unclean}
+use Rattle.field.specs.Units.{recordLength, misfits, unclean}
 use Rattle.field.specs.Front.{wholeLength}
 use Rattle.order.specs.Floor.{isPair, among, joined}
 use Rattle.order.specs.Order.{positionCount, edgeCount, rackCount, unitCount, floorOf, startsOf, goalsOf, orderOf, wrongLength, wrongPositions, paddingSet, some, badEdge, precedes, ascending, wrongEdges, repeats, wrongPlaces, wrongRacks, counts, orderAnswer, WellFormed}
@@ -185,11 +185,11 @@ abbrev pub swapTimetable : List ℕ
 swapTimetable = 0x00 ∷ 0x00 ∷ 0x04 ∷ 0x02 ∷ 0x00 ∷ 0x10 ∷ 0x40 ∷ []
 
 pub answer₁ : timetableAnswer order₁ timetable₁ ≡ accepted (2 ∷ 4 ∷ [])
-unfolding timetableAnswer judged misplaced replaySteps replayFrom legalStep every ascends leaves enters enteredOnce led occupied vacant onFloor goesTo after joined among isPair orderAnswer counts wrongRacks wrongPlaces repeats wrongEdges ascending precedes badEdge paddingSet wrongPositions wrongLength unitCount floorOf startsOf goalsOf orderOf positionCount edgeCount rackCount unclean misfits unitsLength positions total stepsOf stepMoves pairs wrongTimetableLength timetablePaddingSet wrongSteps some stepPadSet pad partsOf stepParts stepLength stepCount field number bitsOf bits
+unfolding timetableAnswer judged misplaced replaySteps replayFrom legalStep every ascends leaves enters enteredOnce led occupied vacant onFloor goesTo after joined among isPair orderAnswer counts wrongRacks wrongPlaces repeats wrongEdges ascending precedes badEdge paddingSet wrongPositions wrongLength unitCount floorOf startsOf goalsOf orderOf positionCount edgeCount rackCount unclean misfits recordLength positions total stepsOf stepMoves pairs wrongTimetableLength timetablePaddingSet wrongSteps some stepPadSet pad partsOf stepParts stepLength stepCount field number bitsOf bits
 answer₁ = refl
 
 pub well-formed₁ : WellFormed order₁
-unfolding timetableAnswer judged misplaced replaySteps replayFrom legalStep every ascends leaves enters enteredOnce led occupied vacant onFloor goesTo after joined among isPair orderAnswer counts wrongRacks wrongPlaces repeats wrongEdges ascending precedes badEdge paddingSet wrongPositions wrongLength unitCount floorOf startsOf goalsOf orderOf positionCount edgeCount rackCount unclean misfits unitsLength positions total stepsOf stepMoves pairs wrongTimetableLength timetablePaddingSet wrongSteps some stepPadSet pad partsOf stepParts stepLength stepCount field number bitsOf bits
+unfolding timetableAnswer judged misplaced replaySteps replayFrom legalStep every ascends leaves enters enteredOnce led occupied vacant onFloor goesTo after joined among isPair orderAnswer counts wrongRacks wrongPlaces repeats wrongEdges ascending precedes badEdge paddingSet wrongPositions wrongLength unitCount floorOf startsOf goalsOf orderOf positionCount edgeCount rackCount unclean misfits recordLength positions total stepsOf stepMoves pairs wrongTimetableLength timetablePaddingSet wrongSteps some stepPadSet pad partsOf stepParts stepLength stepCount field number bitsOf bits
 well-formed₁ = record { length-right = refl; positions-right = refl; padding-clear = refl; edges-right = refl; racks-right = refl }
 
 pub accepted₁ : AcceptedTimetable order₁ timetable₁ (2 ∷ 4 ∷ [])
@@ -204,11 +204,11 @@ pub only₁ : OnlyTimetable order₁ 2 ((0 ∷ 3 ∷ []) ∷ (1 ∷ 2 ∷ []) �
 only₁ = timetable-solutions order₁ .1 well-formed₁ 2 _ (lit< tt) solution₁
 
 pub ring-turned : timetableAnswer ringOrder ringTimetable ≡ refused 42 1
-unfolding timetableAnswer judged misplaced replaySteps replayFrom legalStep every ascends leaves enters enteredOnce led occupied vacant onFloor goesTo after joined among isPair orderAnswer counts wrongRacks wrongPlaces repeats wrongEdges ascending precedes badEdge paddingSet wrongPositions wrongLength unitCount floorOf startsOf goalsOf orderOf positionCount edgeCount rackCount unclean misfits unitsLength positions total stepsOf stepMoves pairs wrongTimetableLength timetablePaddingSet wrongSteps some stepPadSet pad partsOf stepParts stepLength stepCount field number bitsOf bits
+unfolding timetableAnswer judged misplaced replaySteps replayFrom legalStep every ascends leaves enters enteredOnce led occupied vacant onFloor goesTo after joined among isPair orderAnswer counts wrongRacks wrongPlaces repeats wrongEdges ascending precedes badEdge paddingSet wrongPositions wrongLength unitCount floorOf startsOf goalsOf orderOf positionCount edgeCount rackCount unclean misfits recordLength positions total stepsOf stepMoves pairs wrongTimetableLength timetablePaddingSet wrongSteps some stepPadSet pad partsOf stepParts stepLength stepCount field number bitsOf bits
 ring-turned = refl
 
 pub swapped : timetableAnswer swapOrder swapTimetable ≡ refused 42 1
-unfolding timetableAnswer judged misplaced replaySteps replayFrom legalStep every ascends leaves enters enteredOnce led occupied vacant onFloor goesTo after joined among isPair orderAnswer counts wrongRacks wrongPlaces repeats wrongEdges ascending precedes badEdge paddingSet wrongPositions wrongLength unitCount floorOf startsOf goalsOf orderOf positionCount edgeCount rackCount unclean misfits unitsLength positions total stepsOf stepMoves pairs wrongTimetableLength timetablePaddingSet wrongSteps some stepPadSet pad partsOf stepParts stepLength stepCount field number bitsOf bits
+unfolding timetableAnswer judged misplaced replaySteps replayFrom legalStep every ascends leaves enters enteredOnce led occupied vacant onFloor goesTo after joined among isPair orderAnswer counts wrongRacks wrongPlaces repeats wrongEdges ascending precedes badEdge paddingSet wrongPositions wrongLength unitCount floorOf startsOf goalsOf orderOf positionCount edgeCount rackCount unclean misfits recordLength positions total stepsOf stepMoves pairs wrongTimetableLength timetablePaddingSet wrongSteps some stepPadSet pad partsOf stepParts stepLength stepCount field number bitsOf bits
 swapped = refl
 
 -- two positions joined by an edge, a rack on each, and each start its goal
@@ -216,7 +216,7 @@ abbrev pub fullOrder : List ℕ
 fullOrder = 0x04 ∷ 0x02 ∷ 0x08 ∷ 0x00 ∷ 0x10 ∷ 0x01 ∷ 0x00 ∷ 0x10 ∷ []
 
 pub full-right : WellFormed fullOrder
-unfolding orderAnswer counts wrongRacks wrongPlaces repeats wrongEdges ascending precedes badEdge paddingSet wrongPositions wrongLength unitCount floorOf startsOf goalsOf orderOf positionCount edgeCount rackCount unclean misfits unitsLength positions pairs some pad field number bitsOf bits
+unfolding orderAnswer counts wrongRacks wrongPlaces repeats wrongEdges ascending precedes badEdge paddingSet wrongPositions wrongLength unitCount floorOf startsOf goalsOf orderOf positionCount edgeCount rackCount unclean misfits recordLength positions pairs some pad field number bitsOf bits
 full-right = record { length-right = refl; positions-right = refl; padding-clear = refl; edges-right = refl; racks-right = refl }
 
 pub full-count : rackCount fullOrder ≡ floorOf fullOrder .positions
@@ -224,7 +224,7 @@ unfolding floorOf positionCount rackCount field number bitsOf bits
 full-count = refl
 
 full-accepted : timetableAnswer fullOrder (0x00 ∷ 0x00 ∷ 0x04 ∷ 0x00 ∷ []) ≡ accepted (1 ∷ 0 ∷ [])
-unfolding timetableAnswer judged misplaced replaySteps replayFrom legalStep every ascends leaves enters enteredOnce led occupied vacant onFloor goesTo after joined among isPair orderAnswer counts wrongRacks wrongPlaces repeats wrongEdges ascending precedes badEdge paddingSet wrongPositions wrongLength unitCount floorOf startsOf goalsOf orderOf positionCount edgeCount rackCount unclean misfits unitsLength positions total stepsOf stepMoves pairs wrongTimetableLength timetablePaddingSet wrongSteps some stepPadSet pad partsOf stepParts stepLength stepCount field number bitsOf bits
+unfolding timetableAnswer judged misplaced replaySteps replayFrom legalStep every ascends leaves enters enteredOnce led occupied vacant onFloor goesTo after joined among isPair orderAnswer counts wrongRacks wrongPlaces repeats wrongEdges ascending precedes badEdge paddingSet wrongPositions wrongLength unitCount floorOf startsOf goalsOf orderOf positionCount edgeCount rackCount unclean misfits recordLength positions total stepsOf stepMoves pairs wrongTimetableLength timetablePaddingSet wrongSteps some stepPadSet pad partsOf stepParts stepLength stepCount field number bitsOf bits
 full-accepted = refl
 
 pub full-waits : StillTimetable fullOrder (0x00 ∷ 0x00 ∷ 0x04 ∷ 0x00 ∷ []) (1 ∷ 0 ∷ [])
