@@ -47,7 +47,7 @@ plan-is o p = chain (wrongPlanLength p) (planPaddingSet p)
 pub record RecordGave (p : List ℕ) (k : ℕ) : Type 0 where
   pub length-right : wrongPlanLength p ≡ false
   pub padding-clear : planPaddingSet p ≡ false
-  pub fit : Fitting p (moveCount p)
+  pub fit : Fitting p (2 * moveCount p)
   pub count-is : k ≡ moveCount p
   pub count-below : k < 2 ^ 22
 
@@ -62,14 +62,14 @@ record-gave p k a =
     record {
       length-right = l;
       padding-clear = refuse-not (planPaddingSet p) 31 0 (accepted (field p 0 22 ∷ [])) (k ∷ []) e₁;
-      fit = fitting p (field p 0 22) l;
+      fit = fitting p (2 * field p 0 22) l;
       count-is = count;
       count-below = omega (arith, field-lt p 0 22);
     }
 
 module _ (o : List ℕ) (n e m : ℕ) (gave : OrderGave o n e m) (p : List ℕ) (k : ℕ) (record-is : RecordGave p k) where
   pub plan-room : 12 * k ≤ 8 * length (take (length p - 3) (drop 3 p))
-  plan-room = omega (arith, tail-units p (moveCount p) (record-is .fit), record-is .count-is)
+  plan-room = omega (arith, tail-units p (2 * moveCount p) (record-is .fit), record-is .count-is)
 
   moves-are : pairs (take (length p - 3) (drop 3 p)) 0 k ≡ planMoves p
   unfolding planMoves

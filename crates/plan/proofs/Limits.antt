@@ -17,7 +17,7 @@ use native.Mathlib.Omega.{arith}
 use lib.ListN.{length}
 use Rattle.answers.specs.Answer.{accepted}
 use Rattle.field.specs.Bits.{bits, number, bitsOf, field, pad}
-use Rattle.field.specs.Units.{unitsLength, misfits, unclean}
+use Rattle.field.specs.Units.{recordLength, misfits, unclean}
 use Rattle.order.specs.Order.{rackCount, floorOf, startsOf, goalsOf, WellFormed}
 use Rattle.motion.specs.Arrangement.{Arrangement}
 use Rattle.motion.proofs.Lawful.{Leads, still, lawful-none, replayMoves-ended}
@@ -121,7 +121,7 @@ module _ (o p v : List ℕ) where
 
 -- the plan without moves
 nothing-empty : (o : List ℕ) → startsOf o ≡ goalsOf o → EmptyPlan o (0x00 ∷ 0x00 ∷ 0x00 ∷ []) (0 ∷ [])
-unfolding wrongPlanLength planPaddingSet moveCount misfits unitsLength unclean pad field number bitsOf bits
+unfolding wrongPlanLength planPaddingSet moveCount misfits recordLength unclean pad field number bitsOf bits
 nothing-empty o e = record { length-right = refl; padding-clear = refl; empty = refl; none-counted = refl; settled = e }
 
 nothing-counted : moveCount (0x00 ∷ 0x00 ∷ 0x00 ∷ []) ≡ 0

@@ -41,10 +41,10 @@ fn read_record(plan: &[u8]) -> PlanVerdict
         return PlanVerdict::Refused(Fault::PlanLength, 0);
     }
     let k = field::count_at_head(plan);
-    if !field::units_fit(plan, k) {
+    if !field::units_fit(plan, 2 * k) {
         return PlanVerdict::Refused(Fault::PlanLength, 0);
     }
-    if !field::units_clean(plan, k) {
+    if !field::units_clean(plan, 2 * k) {
         return PlanVerdict::Refused(Fault::PlanPadding, 0);
     }
     PlanVerdict::Accepted(k)

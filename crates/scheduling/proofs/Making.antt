@@ -63,9 +63,9 @@ module _ (o p B : List ℕ) where
     unfolding moveCount
     count-below = rw count-is (field-lt p 0 22)
 
-    fit : Fitting p (moveCount p)
+    fit : Fitting p (2 * moveCount p)
     unfolding wrongPlanLength
-    fit = fitting p (moveCount p) (gave .length-right)
+    fit = fitting p (2 * moveCount p) (gave .length-right)
 
     pub head-there : 3 ≤ length p
     head-there = fit .head-there
@@ -76,7 +76,7 @@ module _ (o p B : List ℕ) where
     tail-moves = rw (rest-is 3 p, ← pairs-drop p 3 0 k, count-is) refl
 
     pub tail-fits : 12 * k ≤ 8 * length (take (length p - 3) (drop 3 p))
-    tail-fits = rw count-is (tail-units p (moveCount p) fit)
+    tail-fits = let c = count-is in omega (arith, tail-units p (2 * moveCount p) fit)
 
     steps-are : allSteps (pairs (take (length p - 3) (drop 3 p)) 0 k) ≡ madeOf o p
     unfolding madeOf

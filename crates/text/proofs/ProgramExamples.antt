@@ -12,7 +12,7 @@ use mathlib.Core.Path.{_≡_, refl}
 use mathlib.Core.List.{List, [], _∷_, _++_}
 use lib.ListN.{take}
 use Rattle.field.specs.Bits.{bits, number, bitsOf, field}
-use Rattle.field.specs.Units.{unitsLength}
+use Rattle.field.specs.Units.{recordLength}
 use Rattle.order.specs.RecordLength.{orderLength}
 use Rattle.order.specs.Order.{edgeCount, rackCount, unitCount}
 use Rattle.scheduling.proofs.MakerCases.{maker-open}
@@ -28,11 +28,11 @@ abbrev pub plan₁ : List ℕ
 plan₁ = 0x00 ∷ 0x00 ∷ 0x10 ∷ 0x00 ∷ 0x10 ∷ 0xC2 ∷ 0x08 ∷ 0x00 ∷ 0x43 ∷ []
 
 pub whole : (orderEnd (order₁ ++ plan₁) ≡ 14) × (orderEnd order₁ ≡ 14)
-unfolding orderEnd orderLength unitsLength unitCount edgeCount rackCount field number bitsOf bits
+unfolding orderEnd orderLength recordLength unitCount edgeCount rackCount field number bitsOf bits
 whole = (refl, refl)
 
 pub short : (orderEnd [] ≡ 0) × (orderEnd (take 2 order₁) ≡ 2) × (orderEnd (take 13 order₁) ≡ 13)
-unfolding orderEnd orderLength unitsLength unitCount edgeCount rackCount field number bitsOf bits
+unfolding orderEnd orderLength recordLength unitCount edgeCount rackCount field number bitsOf bits
 short = (refl, refl, refl)
 
 -- `example` has these lines byte for byte

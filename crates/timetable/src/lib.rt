@@ -75,7 +75,7 @@ fn pad_set(step: &[u8]) -> bool
     requires { ⌜ length (now step) ≡ stepLength (getD (now step) 0 0) ⌝ }
     ensures { λ r. ⌜ r ≡ stepPadSet (now (step .entry)) ⌝ }
 {
-    if field::pad_after(&step[1..], field::wide(step[0])) != 0 {
+    if field::pad_after(&step[1..], 2 * field::wide(step[0])) != 0 {
         return true;
     }
     false
