@@ -116,8 +116,8 @@ extended-push f i m o o′ s s′ small new with-it x =
           by-cases (ℕ-discrete j i)
           (λ e.
           ap (λ (y : ℕ). row (set o′ (m + i) (row f i)) (m + y)) e
-          ∙ getD-set-same o′ (m + i) (row f i) 0 (let r = settled-room (x .settled)
-          (row f i) small new in let w = x .settled .long in omega arith)
+          ∙ getD-set-same o′ (m + i) (row f i) 0
+          (let r = settled-room (x .settled) (row f i) small new in let w = x .settled .long in omega arith)
           ∙ ap (row f) (sym e))
           (λ e. getD-set-other o′ (m + i) (m + j) (row f i) 0 (omega arith) ∙ x .new j (omega arith));
     }

@@ -5,11 +5,11 @@
 --     choice-stop       a choice as short as any can be stands, whatever pairs are done
 --     choice-better     the better one of the choice and the one new pair
 --     choice-enter, choice-turn, choice-leave    of the pairs that begin at a none is done, one more, all
---     ring-none, ring-enter, ring-turn, ring-leave, ring-done    these laws at the choice of a base ring; done, where all that begin before
---                                                                n are
---     handle-none, handle-enter, handle-turn, handle-leave, handle-done, handle-skip, handle-stop    and at that of a handle; a position
---                                                                                                    that is
---                       not settled is skipped, and one inner position with an end is as short as any handle can be
+--     ring-none, ring-enter, ring-turn, ring-leave, ring-done
+--                       these laws at the choice of a base ring; done, where all that begin before n are
+--     handle-none, handle-enter, handle-turn, handle-leave, handle-done, handle-skip, handle-stop
+--                       and at that of a handle; a position that is not settled is skipped, and one inner position with an end is as short
+--                       as any handle can be
 --     rest-less         a set without one of its positions has fewer
 -- Assumes nothing.
 use Prim.Native.Nat.{ℕ, _+_, _≤_, _<_}

@@ -54,8 +54,7 @@ module _ {E : ℕ → ℕ → Type 0} (at : ℕ → ℕ) where
       subst (λ (k : ℕ). Way E Q (at i) (at k)) same
       (record {
         size = suc (j - i);
-        walk = walk-segment at i (j - i) (λ p l h. inside p l (omega arith))
-            (λ p l h. joined p l (omega arith));
+        walk = walk-segment at i (j - i) (λ p l h. inside p l (omega arith)) (λ p l h. joined p l (omega arith));
       })
 
   -- from an inner position of a handle down to its left end, and up to its right end
@@ -152,8 +151,7 @@ module _ {E : ℕ → ℕ → Type 0} (at : ℕ → ℕ) where
           whole-hung sy (λ p x. record { there = before p (x .there); other = x .other }) (robust .without (at k) (among at s k hk)) (λ p x.
           by-cases (decLt (x .there .place) s)
           (λ l. stays (Except (Among at e) (at k)) p (record {
-            there = record
-                { place = x .there .place; before = l; is = x .there .is };
+            there = record { place = x .there .place; before = l; is = x .there .is };
             other = x .other;
           }) x)
           (λ l. subst (Hangs E (Except (Among at s) (at k)) (Except (Among at e) (at k))) (x .there .is)
@@ -221,8 +219,8 @@ module _ {E : ℕ → ℕ → Type 0} (at : ℕ → ℕ) where
         at = u;
         there = end;
         way =
-            way-down sy h (b .place) f (omega arith) (λ q x y. inr (record
-            { place = q; from = x; before = omega arith; is = refl })) (inl end);
+            way-down sy h (b .place) f (omega arith)
+            (λ q x y. inr (record { place = q; from = x; before = omega arith; is = refl })) (inl end);
       }))
       x)
 

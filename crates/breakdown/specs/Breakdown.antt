@@ -7,7 +7,8 @@
 --     Handle E at s e u v              the places from s up to e are the inside of a handle with the ends u and v
 --     Breakdown n E r c at start left right
 --                                      a base ring of r positions and c handles; handle i has its inside from place start i up to
---                                      start (i + 1), and its ends are left i, beside the first inner position, and right i, beside the last
+--                                      start (i + 1), and its ends are left i, beside the first inner position, and right i,
+--                                      beside the last
 -- Assumes nothing.
 use Prim.Native.Nat.{ℕ, _+_, _-_, _≤_, _<_}
 use mathlib.Core.Path.{_≡_}

@@ -10,8 +10,8 @@
 --                                 exactly where none of them has a way
 --     RingChoice, HandleChoice    the choice of a base ring, and of a handle on the settled positions s
 --     Size E P T a k              k is the size of a nearest way, as a search yields it
---     RingWay n E a b k f         the k positions f 0, f 1, .. are the way round of a shortest ring that begins with a, b: on from b to another
---                                 neighbour of a, avoiding a
+--     RingWay n E a b k f         the k positions f 0, f 1, .. are the way round of a shortest ring that begins with a, b: on from b to
+--                                 another neighbour of a, avoiding a
 --     RingSize n E a b k          k is the size of that way
 -- Assumes nothing.
 use Prim.Native.Nat.{ℕ, _≤_, _<_}
