@@ -30,15 +30,15 @@ use Rattle.graph.proofs.ConnectedLaws.{whole-same}
 use Rattle.graph.specs.Rows.{Edge}
 use Rattle.breakdown.specs.Breakdown.{Among, Between}
 use Rattle.breakdown.proofs.StageLaws.{Both, whole-left, whole-right}
-use Rattle.moving.specs.Went.{Same}
-use Rattle.moving.specs.Went.Back.{done}
-use Rattle.moving.proofs.WentLaws.{same-refl}
-use Rattle.moving.specs.Journey.{row, onto, Fits, Room, Journey, JourneyIn}
-use Rattle.moving.specs.Journey.Trail.{start}
-use Rattle.moving.proofs.JourneyLaws.{journey-trail, fits-anew, room-then, room-less}
-use Rattle.moving.specs.Turned.{carried, Undoing}
-use Rattle.moving.proofs.BackLaws.{back-from, back-carried, carried-there, carried-left, carried-other}
-use Rattle.moving.specs.Cleared.{Reaches, Cleared}
+use Rattle.shunting.specs.Went.{Same}
+use Rattle.shunting.specs.Went.Back.{done}
+use Rattle.shunting.proofs.WentLaws.{same-refl}
+use Rattle.shunting.specs.Journey.{row, onto, Fits, Room, Journey, JourneyIn}
+use Rattle.shunting.specs.Journey.Trail.{start}
+use Rattle.shunting.proofs.JourneyLaws.{journey-trail, fits-anew, room-then, room-less}
+use Rattle.shunting.specs.Turned.{carried, Undoing}
+use Rattle.shunting.proofs.BackLaws.{back-from, back-carried, carried-there, carried-left, carried-other}
+use Rattle.shunting.specs.Cleared.{Reaches, Cleared}
 use Rattle.settling.specs.Table.{Table}
 use Rattle.settling.proofs.TableLaws.{table-other}
 use Rattle.settling.specs.Lane.{Lane}

@@ -19,11 +19,11 @@ use Rattle.graph.specs.Rows.{Edge, Rows}
 use Rattle.graph.proofs.Examples.{floorF, floorF-rows}
 use Rattle.breakdown.specs.Breakdown.{Among, Breakdown}
 use Rattle.breakdown.proofs.Examples.{inRow, starts, lefts, rights, floorF-breakdown}
-use Rattle.moving.specs.Went.{Move, Went}
-use Rattle.moving.specs.Went.Went.{stay, real}
-use Rattle.moving.proofs.WentLaws.{same-refl}
-use Rattle.moving.specs.Cleared.{Vacancy}
-use Rattle.moving.specs.Journey.{row, Room, Space}
+use Rattle.shunting.specs.Went.{Move, Went}
+use Rattle.shunting.specs.Went.Went.{stay, real}
+use Rattle.shunting.proofs.WentLaws.{same-refl}
+use Rattle.shunting.specs.Cleared.{Vacancy}
+use Rattle.shunting.specs.Journey.{row, Room, Space}
 use Rattle.settling.specs.Table.{Table}
 use Rattle.settling.proofs.TableLaws.{table-went}
 use Rattle.settling.specs.Lane.{Lane, Closed, Placing}

@@ -30,10 +30,10 @@ use Rattle.graph.proofs.WalkLaws.{walk-inside}
 use Rattle.graph.specs.Rows.{Edge, Rows}
 use Rattle.breakdown.specs.Breakdown.{Among, Between}
 use Rattle.breakdown.proofs.StageLaws.{Both, whole-right}
-use Rattle.moving.specs.Went.{Same}
-use Rattle.moving.specs.Turned.{carried}
-use Rattle.moving.proofs.BackLaws.{carried-there, carried-other}
-use Rattle.moving.specs.Cleared.{Reaches, Vacancy, Cleared}
+use Rattle.shunting.specs.Went.{Same}
+use Rattle.shunting.specs.Turned.{carried}
+use Rattle.shunting.proofs.BackLaws.{carried-there, carried-other}
+use Rattle.shunting.specs.Cleared.{Reaches, Vacancy, Cleared}
 use Rattle.settling.specs.Table.{Table}
 use Rattle.settling.proofs.TableLaws.{table-other}
 use Rattle.settling.specs.Lane.{Lane, Placing, Fetched}

@@ -26,8 +26,8 @@ use Rattle.graph.proofs.WalkLaws.{walk-inside}
 use Rattle.graph.specs.Rows.{Edge, Rows}
 use Rattle.breakdown.specs.Breakdown.{Among, Between}
 use Rattle.breakdown.proofs.StageLaws.{Both}
-use Rattle.moving.specs.Turned.{Turned}
-use Rattle.moving.specs.Cleared.{Reaches, Vacancy, Cleared, Brought}
+use Rattle.shunting.specs.Turned.{Turned}
+use Rattle.shunting.specs.Cleared.{Reaches, Vacancy, Cleared, Brought}
 use Rattle.settling.specs.Table.{Table}
 use Rattle.settling.proofs.TableLaws.{table-rack}
 use Rattle.settling.specs.Lane.{Lane, Closed, Placing, Fetched}

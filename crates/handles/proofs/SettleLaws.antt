@@ -26,8 +26,8 @@ use lib.ListN.{length}
 use Rattle.graph.specs.Walk.{Symmetric}
 use Rattle.breakdown.specs.Breakdown.{Breakdown}
 use Rattle.breakdown.proofs.StageLaws.{stage-within, stage-robust}
-use Rattle.moving.specs.Journey.{row, Room, Trip}
-use Rattle.moving.proofs.JourneyLaws.{trip-none, trip-more, trip-append, room-then, room-less}
+use Rattle.shunting.specs.Journey.{row, Room, Trip}
+use Rattle.shunting.proofs.JourneyLaws.{trip-none, trip-more, trip-append, room-then, room-less}
 use Rattle.settling.specs.Table.{Table}
 use Rattle.settling.specs.Lane.{Lane, Placing}
 

@@ -29,8 +29,8 @@ use Rattle.graph.proofs.WalkLaws.{walk-inside}
 use Rattle.graph.specs.Connected.{Whole}
 use Rattle.breakdown.specs.Breakdown.{Among, Between}
 use Rattle.breakdown.proofs.StageLaws.{Both, whole-right}
-use Rattle.moving.specs.Journey.{row}
-use Rattle.moving.specs.Cleared.{Reaches, Vacancy}
+use Rattle.shunting.specs.Journey.{row}
+use Rattle.shunting.specs.Cleared.{Reaches, Vacancy}
 use Rattle.settling.specs.Table.{Table}
 use Rattle.settling.specs.Lane.{Lane, Placing}
 

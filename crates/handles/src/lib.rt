@@ -1,6 +1,6 @@
 // The handles of a floor, settled one after another, the last first: racks are pushed into a handle like a stack, by bringing each to the handle's left end
 // and turning a cycle through the handle by one place.
-use moving::Tally;
+use shunting::Tally;
 ghost use mathlib.Core.Bool.{true};
 ghost use mathlib.Core.Logic.{_↔_, _≢_};
 ghost use mathlib.Core.Path.{_≡_};
@@ -9,10 +9,10 @@ ghost use lib.ListN.{length};
 ghost use Rattle.sets.specs.Sets.{Has};
 ghost use Rattle.graph.specs.Rows.{Edge, Rows};
 ghost use Rattle.breakdown.specs.Breakdown.{Among, Breakdown};
-ghost use Rattle.moving.specs.Went.{Same};
-ghost use Rattle.moving.specs.Journey.{row, Room, Space, Trip};
-ghost use Rattle.moving.specs.Turned.{carried};
-ghost use Rattle.moving.specs.Cleared.{Vacancy};
+ghost use Rattle.shunting.specs.Went.{Same};
+ghost use Rattle.shunting.specs.Journey.{row, Room, Space, Trip};
+ghost use Rattle.shunting.specs.Turned.{carried};
+ghost use Rattle.shunting.specs.Cleared.{Vacancy};
 ghost use Rattle.settling.specs.Table.{Table};
 ghost use Rattle.settling.specs.Lane.{Lane, Closed, Placing, Fetched};
 
@@ -35,11 +35,11 @@ fn open_stage(
     ensures { λ r. ⌜ Trip (now (rows .entry)) real (n - 1) (now (racks .entry)) (now (tail .entry)) written (now (racks .exit)) (now (tail .exit)) r ⌝ ∗ ⌜ ((T : ℕ → ℕ) → Placing n (row (now (order .entry))) T s e k (row (now (racks .entry))) → Placing n (row (now (order .entry))) T s e k (row (now (racks .exit)))) × Vacancy (Among (row (now (order .entry))) s) (row (now (racks .exit))) ⌝ ∗ ⌜ length (now (log .exit)) ≡ length (now (log .entry)) ⌝ }
 {
     let stage = settling::part(order, 0, s);
-    if moving::vacancies(racks, n) & stage != 0 {
+    if shunting::vacancies(racks, n) & stage != 0 {
         return written;
     }
     let region = stage | settling::part(order, s + k, e);
-    let tally = moving::clear(
+    let tally = shunting::clear(
         rows,
         n,
         region,
@@ -91,13 +91,13 @@ fn carry(
         let here = order[i] as usize;
         let next = after(order, i, e, v);
         let free = sets::without(upper, here);
-        tally = moving::clear(rows, n, free, next, real, racks, log, tail, tally);
-        tally = moving::make_move(here, next, real, racks, log, tail, tally);
+        tally = shunting::clear(rows, n, free, next, real, racks, log, tail, tally);
+        tally = shunting::make_move(here, next, real, racks, log, tail, tally);
         i += 1;
     }
     let logged = tally.logged;
-    tally = moving::make_move(v, y, real, racks, log, tail, tally);
-    moving::undo(0, logged, real, racks, log, tail, tally.written)
+    tally = shunting::make_move(v, y, real, racks, log, tail, tally);
+    shunting::undo(0, logged, real, racks, log, tail, tally.written)
 }
 
 // The place of the handle at which p stands.
@@ -142,7 +142,7 @@ fn fetch(
         return written;
     }
     let region = stage | settling::part(order, s + k, e);
-    let mut tally = moving::clear(
+    let mut tally = shunting::clear(
         rows,
         n,
         region,
@@ -153,7 +153,7 @@ fn fetch(
         tail,
         Tally { written, logged: 0 },
     );
-    tally = moving::clear(
+    tally = shunting::clear(
         rows,
         n,
         sets::without(region, y),
@@ -230,7 +230,7 @@ fn place(
         opened,
     );
     let from = settling::where_is(racks, n, rack);
-    let mut tally = moving::bring(
+    let mut tally = shunting::bring(
         rows,
         n,
         stage,
@@ -245,7 +245,7 @@ fn place(
             logged: 0,
         },
     );
-    tally = moving::clear(
+    tally = shunting::clear(
         rows,
         n,
         sets::without(stage, u),
@@ -256,7 +256,7 @@ fn place(
         tail,
         tally,
     );
-    tally = moving::turn(cycle, size, real, racks, log, tail, tally);
+    tally = shunting::turn(cycle, size, real, racks, log, tail, tally);
     tally.written
 }
 

@@ -27,10 +27,10 @@ use Rattle.graph.specs.Connected.{BiConnected, Ring}
 use Rattle.graph.specs.Rows.{Edge, Rows}
 use Rattle.graph.specs.EdgeCount.{edgeCount}
 use Rattle.breakdown.specs.Answer.{Answer}
-use Rattle.moving.specs.Went.{Same}
-use Rattle.moving.proofs.WentLaws.{same-refl}
-use Rattle.moving.specs.Journey.{row, Packed, Trip}
-use Rattle.moving.proofs.JourneyLaws.{packed-nothing, trip-packed, went-written}
+use Rattle.shunting.specs.Went.{Same}
+use Rattle.shunting.proofs.WentLaws.{same-refl}
+use Rattle.shunting.specs.Journey.{row, Packed, Trip}
+use Rattle.shunting.proofs.JourneyLaws.{packed-nothing, trip-packed, went-written}
 use Rattle.planning.specs.Placed.{Placed, Filled}
 use Rattle.planning.proofs.Planned.{trip-planned}
 use Rattle.floor.specs.JoinedRows.{joinedRows}

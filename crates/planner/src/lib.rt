@@ -12,7 +12,7 @@ ghost use Rattle.answers.specs.Answer.{accepted, passUp};
 ghost use Rattle.tables.specs.Accepted.{OrderGave};
 ghost use Rattle.floor.specs.Plannable.{Plannable};
 ghost use Rattle.floor.specs.Verdict.{answerOf as floorAnswerOf};
-ghost use Rattle.moving.specs.Journey.{row};
+ghost use Rattle.shunting.specs.Journey.{row};
 ghost use Rattle.planner.specs.Moves.{Moves};
 ghost use Rattle.planner.specs.Planner.{PlanMade, answerOf};
 

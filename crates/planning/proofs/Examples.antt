@@ -24,11 +24,11 @@ use Rattle.graph.specs.Rows.{Edge, Rows}
 use Rattle.graph.proofs.Examples.{floorF, floorF-rows}
 use Rattle.breakdown.specs.Breakdown.{Among, Breakdown}
 use Rattle.breakdown.proofs.Examples.{inRow, starts, lefts, rights, floorF-breakdown, floorF-biConnected}
-use Rattle.moving.specs.Went.Went.{stay}
-use Rattle.moving.proofs.WentLaws.{same-refl}
-use Rattle.moving.specs.Journey.{row, onto, Room, Space, made, Trip}
-use Rattle.moving.specs.Journey.Trail.{start as begun}
-use Rattle.moving.proofs.JourneyLaws.{moved-trip, trip-append}
+use Rattle.shunting.specs.Went.Went.{stay}
+use Rattle.shunting.proofs.WentLaws.{same-refl}
+use Rattle.shunting.specs.Journey.{row, onto, Room, Space, made, Trip}
+use Rattle.shunting.specs.Journey.Trail.{start as begun}
+use Rattle.shunting.proofs.JourneyLaws.{moved-trip, trip-append}
 use Rattle.settling.specs.Table.{Table}
 use Rattle.settling.specs.Circle.{Circle, On}
 use Rattle.settling.proofs.Examples.{none-after, start, goal, start-table, goal-table}

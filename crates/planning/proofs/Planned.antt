@@ -16,10 +16,10 @@ use Rattle.order.specs.Floor.{Floor, joined}
 use Rattle.motion.specs.Arrangement.{Arrangement}
 use Rattle.motion.specs.Replay.{ended, replayMoves}
 use Rattle.graph.specs.Rows.{Edge}
-use Rattle.moving.specs.Went.{Same}
-use Rattle.moving.proofs.WentLaws.{went-from, went-to}
-use Rattle.moving.proofs.BackLaws.{kept, kept-real, kept-stand-in, kept-same, went-kept}
-use Rattle.moving.specs.Journey.{row, Trip}
+use Rattle.shunting.specs.Went.{Same}
+use Rattle.shunting.proofs.WentLaws.{went-from, went-to}
+use Rattle.shunting.proofs.BackLaws.{kept, kept-real, kept-stand-in, kept-same, went-kept}
+use Rattle.shunting.specs.Journey.{row, Trip}
 use Rattle.planning.specs.Placed.{Placed, Filled}
 use Rattle.planning.proofs.Held.{HeldBy, went-replayed}
 

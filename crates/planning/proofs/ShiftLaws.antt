@@ -15,12 +15,12 @@ use Rattle.sets.specs.Sets.{Has}
 use Rattle.graph.proofs.WalkLaws.{walk-inside}
 use Rattle.graph.specs.Connected.{BiConnected}
 use Rattle.graph.specs.Rows.{Edge, Rows}
-use Rattle.moving.specs.Went.{Went}
-use Rattle.moving.specs.Went.Went.{stay, real, stand-in}
-use Rattle.moving.specs.Journey.{row, packedOn, onto, Trip, Journey}
-use Rattle.moving.specs.Journey.Trail.{start}
-use Rattle.moving.proofs.JourneyLaws.{journey-append}
-use Rattle.moving.specs.Cleared.{Reaches, Cleared}
+use Rattle.shunting.specs.Went.{Went}
+use Rattle.shunting.specs.Went.Went.{stay, real, stand-in}
+use Rattle.shunting.specs.Journey.{row, packedOn, onto, Trip, Journey}
+use Rattle.shunting.specs.Journey.Trail.{start}
+use Rattle.shunting.proofs.JourneyLaws.{journey-append}
+use Rattle.shunting.specs.Cleared.{Reaches, Cleared}
 use Rattle.settling.specs.Table.{Table}
 use Rattle.settling.proofs.TableLaws.{table-went, table-other}
 use Rattle.planning.specs.Shift.{Shift}

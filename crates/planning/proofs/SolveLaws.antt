@@ -20,13 +20,13 @@ use lib.ListN.{length}
 use Rattle.graph.specs.Walk.{Symmetric}
 use Rattle.graph.specs.Rows.{Edge, Rows}
 use Rattle.breakdown.specs.Breakdown.{Among, Breakdown}
-use Rattle.moving.specs.Went.{Same, Back}
-use Rattle.moving.specs.Went.Back.{done}
-use Rattle.moving.proofs.WentLaws.{same-refl}
-use Rattle.moving.proofs.BackLaws.{back-went, back-from}
-use Rattle.moving.specs.Turned.{Undoing}
-use Rattle.moving.specs.Journey.{row, onto, Fits, Room, Space, Trip}
-use Rattle.moving.proofs.JourneyLaws.{trip-append, trip-more, trip-written}
+use Rattle.shunting.specs.Went.{Same, Back}
+use Rattle.shunting.specs.Went.Back.{done}
+use Rattle.shunting.proofs.WentLaws.{same-refl}
+use Rattle.shunting.proofs.BackLaws.{back-went, back-from}
+use Rattle.shunting.specs.Turned.{Undoing}
+use Rattle.shunting.specs.Journey.{row, onto, Fits, Room, Space, Trip}
+use Rattle.shunting.proofs.JourneyLaws.{trip-append, trip-more, trip-written}
 use Rattle.settling.specs.Table.{Table}
 use Rattle.settling.specs.Circle.{Circle, On}
 use Rattle.ring.specs.From.{ringFrom}

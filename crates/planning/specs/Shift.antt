@@ -7,8 +7,8 @@ use mathlib.Core.Path.{_≡_}
 use mathlib.Core.List.{List, []}
 use lib.ListN.{length}
 use Rattle.graph.specs.Rows.{Edge}
-use Rattle.moving.specs.Went.{Went}
-use Rattle.moving.specs.Journey.{row, onto, Trail}
+use Rattle.shunting.specs.Went.{Went}
+use Rattle.shunting.specs.Journey.{row, onto, Trail}
 use Rattle.settling.specs.Table.{Table}
 
 pub record Shift (n : ℕ) (g : List ℕ) (x y : ℕ) (t k l : List ℕ) (j : ℕ) : Type 0 where

@@ -1,7 +1,7 @@
 // From one arrangement of a floor to another: the heart of the planner. Whatever the two are, a floor with a breakdown leads from the one to the other in at
 // most 8 × n × n × n moves.
 use breakdown::Breakdown;
-use moving::Tally;
+use shunting::Tally;
 ghost use mathlib.Core.Logic.{_↔_, _≢_};
 ghost use mathlib.Core.Path.{_≡_};
 ghost use Prim.Native.Nat.{ℕ, _+_, _-_, _*_, _≤_, _<_};
@@ -9,8 +9,8 @@ ghost use lib.ListN.{length};
 ghost use Rattle.graph.specs.Connected.{BiConnected};
 ghost use Rattle.graph.specs.Rows.{Edge, Rows};
 ghost use Rattle.breakdown.specs.Breakdown.{Among, Breakdown as Broken};
-ghost use Rattle.moving.specs.Went.{Same};
-ghost use Rattle.moving.specs.Journey.{row, Room, Space, Trip};
+ghost use Rattle.shunting.specs.Went.{Same};
+ghost use Rattle.shunting.specs.Journey.{row, Room, Space, Trip};
 ghost use Rattle.settling.specs.Table.{Table};
 ghost use Rattle.settling.specs.Circle.{Circle, On};
 ghost use Rattle.planning.specs.Shift.{Shift};
@@ -31,7 +31,7 @@ fn shift_goal(
     ensures { λ r. ⌜ Shift n (now (rows .entry)) x next (now (goal .entry)) (now (goal .exit)) (now (back .exit)) r ⌝ ∗ ⌜ now (tail .exit) ≡ now (tail .entry) ⌝ }
 {
     let all = sets::below(n);
-    let mut tally = moving::clear(
+    let mut tally = shunting::clear(
         rows,
         n,
         all,
@@ -45,7 +45,7 @@ fn shift_goal(
             logged: 0,
         },
     );
-    tally = moving::clear(
+    tally = shunting::clear(
         rows,
         n,
         sets::without(all, x),
@@ -64,7 +64,7 @@ pub fn fill(n: usize, m: usize, racks: &mut [u8; 64])
     requires { ⌜ (n ≤ 64) × (m + 2 ≤ n) × Placed n m (row (now racks)) × (length (now racks) ≡ 64) ⌝ }
     ensures { λ _. ⌜ Table n (row (now (racks .exit))) × Filled m (row (now (racks .entry))) (row (now (racks .exit))) × (length (now (racks .exit)) ≡ 64) × (now (racks .exit) ≡ withStandIns n m (now (racks .entry))) ⌝ }
 {
-    let mut vacant = moving::vacancies(racks, n);
+    let mut vacant = shunting::vacancies(racks, n);
     let mut r = m;
     while r + 2 < n {
         let p = sets::lowest(vacant);
@@ -158,5 +158,5 @@ pub fn solve(
         racks,
         tail,
     );
-    moving::undo(0, logged, real, racks, &back, tail, settled)
+    shunting::undo(0, logged, real, racks, &back, tail, settled)
 }

@@ -18,7 +18,7 @@ use lib.ListN.{replicate, length-replicate}
 use Rattle.sets.specs.Sets.{bit}
 use Rattle.graph.specs.Rows.{Edge, Rows}
 use Rattle.graph.proofs.Examples.{rows-tested}
-use Rattle.moving.specs.Journey.{row, Space}
+use Rattle.shunting.specs.Journey.{row, Space}
 use Rattle.settling.specs.Table.{Table}
 use Rattle.settling.specs.Circle.{Circle, On, Ringing}
 

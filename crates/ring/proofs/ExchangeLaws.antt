@@ -29,15 +29,15 @@ use Rattle.sets.specs.Sets.{Has}
 use Rattle.graph.specs.Walk.{Symmetric}
 use Rattle.graph.specs.Rows.{Edge, Rows}
 use Rattle.breakdown.specs.Breakdown.{Between}
-use Rattle.moving.specs.Went.{Same}
-use Rattle.moving.specs.Went.Back.{done}
-use Rattle.moving.proofs.WentLaws.{same-refl}
-use Rattle.moving.specs.Journey.{row, onto, Journey}
-use Rattle.moving.specs.Journey.Trail.{start}
-use Rattle.moving.proofs.JourneyLaws.{trail-below}
-use Rattle.moving.proofs.BackLaws.{back-from, back-renamed}
-use Rattle.moving.specs.Turned.{Undoing}
-use Rattle.moving.specs.Cleared.{Cleared, Brought}
+use Rattle.shunting.specs.Went.{Same}
+use Rattle.shunting.specs.Went.Back.{done}
+use Rattle.shunting.proofs.WentLaws.{same-refl}
+use Rattle.shunting.specs.Journey.{row, onto, Journey}
+use Rattle.shunting.specs.Journey.Trail.{start}
+use Rattle.shunting.proofs.JourneyLaws.{trail-below}
+use Rattle.shunting.proofs.BackLaws.{back-from, back-renamed}
+use Rattle.shunting.specs.Turned.{Undoing}
+use Rattle.shunting.specs.Cleared.{Cleared, Brought}
 use Rattle.settling.specs.Table.{Table}
 use Rattle.settling.proofs.TableLaws.{table-rack}
 use Rattle.settling.specs.Circle.{Circle, On, swapped}

@@ -20,7 +20,7 @@ use lib.ListN.{length, set, replicate}
 use lib.Seq.{set-at, append-snoc}
 use borrow.Author.Tests.{eq-eqb, ne-eqb}
 use Rattle.breakdown.specs.Breakdown.{Among, Breakdown}
-use Rattle.moving.specs.Journey.{row}
+use Rattle.shunting.specs.Journey.{row}
 use Rattle.settling.specs.Circle.{Circle, On}
 use Rattle.ring.specs.From.{placeFrom, placeOf, round, ringFrom}
 

@@ -16,8 +16,8 @@ use lib.ListN.{replicate, getD-replicate}
 use Rattle.sets.specs.Sets.{Has}
 use Rattle.sets.proofs.SetLaws.{has-first}
 use Rattle.graph.specs.Rows.{Edge}
-use Rattle.moving.specs.Journey.{Fits, Journey}
-use Rattle.moving.proofs.JourneyLaws.{fits-then}
+use Rattle.shunting.specs.Journey.{Fits, Journey}
+use Rattle.shunting.proofs.JourneyLaws.{fits-then}
 
 abbrev pub Moved : (ℕ → ℕ) → ℕ → ℕ → (ℕ → ℕ) → Type 0
 Moved h a b k = ((p : ℕ) → p ≢ a → p ≢ b → k p ≡ h p) × (k a ≡ 0) × (k b ≡ h a)

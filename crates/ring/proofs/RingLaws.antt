@@ -32,7 +32,7 @@ use Rattle.graph.proofs.ConnectedLaws.{whole-same}
 use Rattle.graph.specs.Rows.{Edge, Rows}
 use Rattle.breakdown.specs.Breakdown.{Between}
 use Rattle.breakdown.proofs.StageLaws as stage
-use Rattle.moving.specs.Cleared.{Reaches, Vacancy}
+use Rattle.shunting.specs.Cleared.{Reaches, Vacancy}
 use Rattle.settling.specs.Table.{Table}
 use Rattle.settling.proofs.TableLaws.{table-other}
 use Rattle.settling.specs.Circle.{Circle, On}

@@ -21,10 +21,10 @@ use lib.ListN.{length}
 use Rattle.sets.specs.Sets.{Has}
 use Rattle.graph.specs.Rows.{Edge, Rows}
 use Rattle.breakdown.specs.Breakdown.{Between}
-use Rattle.moving.specs.Went.{Same}
-use Rattle.moving.specs.Journey.{row, Room, Trip}
-use Rattle.moving.proofs.JourneyLaws.{trip-none, trip-more, trip-append, room-less, room-then}
-use Rattle.moving.specs.Cleared.{Cleared}
+use Rattle.shunting.specs.Went.{Same}
+use Rattle.shunting.specs.Journey.{row, Room, Trip}
+use Rattle.shunting.proofs.JourneyLaws.{trip-none, trip-more, trip-append, room-less, room-then}
+use Rattle.shunting.specs.Cleared.{Cleared}
 use Rattle.settling.specs.Table.{Table}
 use Rattle.settling.proofs.TableLaws.{table-rack}
 use Rattle.settling.specs.Circle.{Circle, On, swapped, Ringing}

@@ -10,7 +10,7 @@ use mathlib.Core.Bool.{cond}
 use mathlib.Core.List.{List, [], _∷_, _++_}
 use lib.Dec.{eqb}
 use lib.ListN.{replicate}
-use Rattle.moving.specs.Journey.{row}
+use Rattle.shunting.specs.Journey.{row}
 
 unfoldable pub placeFrom : (ℕ → ℕ) → ℕ → ℕ → ℕ → ℕ
 placeFrom at x i zero = i

@@ -1,5 +1,5 @@
 // The base ring of a floor, settled when all else is: racks on it are exchanged in pairs through a position beside it.
-use moving::Tally;
+use shunting::Tally;
 ghost use mathlib.Core.Logic.{_≢_};
 ghost use mathlib.Core.List.{List};
 ghost use mathlib.Core.Path.{_≡_};
@@ -7,8 +7,8 @@ ghost use Prim.Native.Nat.{ℕ, _+_, _-_, _*_, _≤_, _<_};
 ghost use lib.ListN.{length};
 ghost use Rattle.graph.specs.Walk.{Symmetric};
 ghost use Rattle.graph.specs.Rows.{Edge, Rows};
-ghost use Rattle.moving.specs.Went.{Same};
-ghost use Rattle.moving.specs.Journey.{row, Fits, Room, Space, Trip, Journey};
+ghost use Rattle.shunting.specs.Went.{Same};
+ghost use Rattle.shunting.specs.Journey.{row, Fits, Room, Space, Trip, Journey};
 ghost use Rattle.settling.specs.Table.{Table};
 ghost use Rattle.settling.specs.Circle.{Circle, On, swapped, Ringing};
 ghost use Rattle.ring.specs.From.{placeOf, ringFrom};
@@ -27,8 +27,8 @@ fn pass_by(
     requires { ⌜ (from < 64) × (x < 64) × (to < 64) × (from ≢ to) × (x ≢ to) ⌝ ∗ ⌜ (row (now racks) from ≢ 0) × (row (now racks) x ≡ 0) × (row (now racks) to ≡ 0) ⌝ ∗ ⌜ Fits (now racks) (now log) (now tail) (tally .written) (tally .logged) 2 ⌝ }
     ensures { λ r. ⌜ ((g : List ℕ) → Edge g from x → Edge g x to → Journey g real 2 (now (racks .entry)) (now (log .entry)) (now (tail .entry)) (tally .written) (tally .logged) (now (racks .exit)) (now (log .exit)) (now (tail .exit)) (r .written) (r .logged)) ⌝ ∗ ⌜ ((p : ℕ) → p ≢ from → p ≢ to → row (now (racks .exit)) p ≡ row (now (racks .entry)) p) × (row (now (racks .exit)) from ≡ 0) × (row (now (racks .exit)) to ≡ row (now (racks .entry)) from) ⌝ }
 {
-    let there = moving::make_move(from, x, real, racks, log, tail, tally);
-    moving::make_move(x, to, real, racks, log, tail, there)
+    let there = shunting::make_move(from, x, real, racks, log, tail, tally);
+    shunting::make_move(x, to, real, racks, log, tail, there)
 }
 
 // Exchanges the racks at `next` and at y by way of x, which both are beside, and of `last`, beside x too: x and `last` are vacant before and after. Six
@@ -71,10 +71,10 @@ fn bring_aside(
 {
     let x = circle[0] as usize;
     let ring = settling::part(circle, 0, size);
-    let stepped = moving::make_move(y, x, real, racks, log, tail, tally);
+    let stepped = shunting::make_move(y, x, real, racks, log, tail, tally);
     let at = settling::where_is(racks, n, a);
-    let brought = moving::bring(rows, n, ring, at, x, real, racks, log, tail, stepped);
-    moving::make_move(x, y, real, racks, log, tail, brought)
+    let brought = shunting::bring(rows, n, ring, at, x, real, racks, log, tail, stepped);
+    shunting::make_move(x, y, real, racks, log, tail, brought)
 }
 
 // Brings rack b, which stands on the ring, to its place 1, and clears its place 0 and its last place. All vacancies are on the ring.
@@ -98,10 +98,10 @@ fn bring_next(
     let last = circle[size - 1] as usize;
     let ring = settling::part(circle, 0, size);
     let at = settling::where_is(racks, n, b);
-    let brought = moving::bring(rows, n, ring, at, next, real, racks, log, tail, tally);
+    let brought = shunting::bring(rows, n, ring, at, next, real, racks, log, tail, tally);
     let free = sets::without(ring, next);
-    let cleared = moving::clear(rows, n, free, x, real, racks, log, tail, brought);
-    moving::clear(
+    let cleared = shunting::clear(rows, n, free, x, real, racks, log, tail, brought);
+    shunting::clear(
         rows,
         n,
         sets::without(free, x),
@@ -141,7 +141,7 @@ fn exchange(
     let ready = bring_next(rows, n, circle, size, b, real, racks, log, tail, aside);
     let logged = ready.logged;
     let swapped = swap(x, next, last, y, real, racks, log, tail, ready);
-    moving::undo(0, logged, real, racks, log, tail, swapped.written)
+    shunting::undo(0, logged, real, racks, log, tail, swapped.written)
 }
 
 // Settles place i of the ring, 2 or above: where its rack is another than the goal's, the two are exchanged.
@@ -204,9 +204,9 @@ fn open_ring(
     let next = circle[1] as usize;
     let ring = settling::part(circle, 0, size);
     let begun = Tally { written, logged: 0 };
-    let cleared = moving::clear(rows, n, ring, x, real, racks, log, tail, begun);
+    let cleared = shunting::clear(rows, n, ring, x, real, racks, log, tail, begun);
     let free = sets::without(ring, x);
-    let open = moving::clear(rows, n, free, next, real, racks, log, tail, cleared);
+    let open = shunting::clear(rows, n, free, next, real, racks, log, tail, cleared);
     open.written
 }
 

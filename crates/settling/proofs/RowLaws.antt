@@ -1,7 +1,6 @@
--- Laws of the parts of a row as sets, and of where a rack stands.
+-- Laws of the parts of a row as sets.
 --
 --     Parting, parting-none, parting-next, parting-all    the state of `part`: the set has what stands at the places from `from` up to i
---     Seeking, seeking-next, seeking-last    the state of `where_is`: the rack stands at no position before p
 -- Assumes nothing.
 use Prim.Native.Nat.{ℕ, _+_, _≤_, _<_}
 use mathlib.Core.Path.{_≡_, refl, sym, ap, subst, _∙_}
@@ -43,14 +42,3 @@ parting-all at from i to v done up s =
   where
     none : {x : ℕ} → from ≤ x → x < from → ⊥
     none a b = omega arith
-
-abbrev pub Seeking : (ℕ → ℕ) → ℕ → ℕ → Type 0
-Seeking h r p = (q : ℕ) → q < p → h q ≢ r
-
-pub seeking-next : (h : ℕ → ℕ) (r p : ℕ) → h p ≢ r → Seeking h r p → Seeking h r (p + 1)
-seeking-next h r p other s q l = by-cases (ℕ-discrete q p) (λ e z. other (ap h (sym e) ∙ z)) (λ e. s q (omega arith))
-
-pub seeking-last : (h : ℕ → ℕ) (r p n : ℕ) → n ≤ p + 1 → p < n → Seeking h r p → (q : ℕ) × (q < n) × (h q ≡ r) → h p ≡ r
-seeking-last h r p n done l s x =
-    let b = x .1 in
-    by-cases (ℕ-discrete (x .0) p) (λ e. ap h (sym e) ∙ x .2) (λ e. absurd (s (x .0) (omega arith) (x .2)))

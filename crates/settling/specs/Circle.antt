@@ -10,7 +10,7 @@ use mathlib.Core.Path.{_≡_}
 use mathlib.Core.Bool.{cond}
 use mathlib.Core.Logic.{_≢_}
 use lib.Dec.{eqb}
-use Rattle.settling.specs.Table.{Table}
+use Rattle.shunting.specs.Table.{Table}
 
 pub record Circle (n : ℕ) (E : ℕ → ℕ → Type 0) (c : ℕ → ℕ) (size y : ℕ) : Type 0 where
   pub three : 3 ≤ size

@@ -11,8 +11,8 @@ use mathlib.Core.Path.{_≡_}
 use mathlib.Core.Logic.{_≢_}
 use Rattle.graph.specs.Connected.{Robust}
 use Rattle.breakdown.specs.Breakdown.{Among, Handle}
-use Rattle.moving.specs.Cleared.{Vacancy}
-use Rattle.settling.specs.Table.{Table}
+use Rattle.shunting.specs.Cleared.{Vacancy}
+use Rattle.shunting.specs.Table.{Table}
 
 pub record Lane (n : ℕ) (E : ℕ → ℕ → Type 0) (at : ℕ → ℕ) (s e u v : ℕ) : Type 0 where
   pub robust : Robust E (Among at s)

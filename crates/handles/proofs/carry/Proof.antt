@@ -4,8 +4,8 @@ use Prim.Native.Nat.{_+_, _-_, _*_}
 use mathlib.Core.Path.{sym, _∙_}
 use mathlib.Core.Logic.{_≢_}
 use native.Mathlib.Omega.{arith}
-use Rattle.moving.specs.Journey.{row, JourneyIn}
-use Rattle.moving.proofs.JourneyLaws.{trip-append, trip-more, journey-append, journey-in-none, journey-in-append, journey-in-more, journey-in-less, journey-in-one, fits-then, fits-anew}
+use Rattle.shunting.specs.Journey.{row, JourneyIn}
+use Rattle.shunting.proofs.JourneyLaws.{trip-append, trip-more, journey-append, journey-in-none, journey-in-append, journey-in-more, journey-in-less, journey-in-one, fits-then, fits-anew}
 use Rattle.settling.proofs.TableLaws.{table-went}
 use Rattle.handles.proofs.StageLaws.{lane-fits, lane-small}
 use Rattle.handles.proofs.CarryLaws.{carry-rounds, carry-all, carry-few, free-has, Carrying, among-more, among-floor, off, carrying-begin, carry-edge, carry-next, carry-reaches, carry-held, carrying-step, carry-away, carry-undoing, carry-fits}

@@ -1,7 +1,7 @@
 -- `handles::close_cycle` meets its contract.
 -- Assumes nothing.
 use native.Mathlib.Omega.{arith}
-use Rattle.moving.specs.Journey.{row}
+use Rattle.shunting.specs.Journey.{row}
 use Rattle.handles.proofs.CycleLaws.{lane-stage, lane-floor, lane-order, left-below, right-below, route-short, closed}
 use Rattle.handles.proofs.close_cycle.Statement.{statement}
 use Rattle.handles.proofs.close_cycle.Tie as tie

@@ -4,7 +4,7 @@ use Prim.Native.Nat.{_+_, _-_, _≤_}
 use mathlib.Core.Path.{_≡_, _∙_}
 use native.Mathlib.Omega.{arith}
 use lib.ListN.{length, length-set}
-use Rattle.moving.specs.Journey.{row}
+use Rattle.shunting.specs.Journey.{row}
 use Rattle.handles.proofs.StageLaws.{Copied, copied-none, copied-next}
 use Rattle.handles.proofs.copy_places.Statement.{statement}
 use Rattle.handles.proofs.copy_places.Tie as tie

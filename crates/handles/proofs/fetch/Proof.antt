@@ -3,7 +3,7 @@
 use Prim.Native.Nat.{_+_, _-_, _*_}
 use mathlib.Core.Path.{refl, _∙_}
 use native.Mathlib.Omega.{arith}
-use Rattle.moving.proofs.JourneyLaws.{trip-none, trip-more, trip-append, fits-anew, fits-then, room-less, room-then}
+use Rattle.shunting.proofs.JourneyLaws.{trip-none, trip-more, trip-append, fits-anew, fits-then, room-less, room-then}
 use Rattle.settling.proofs.TableLaws.{table-went}
 use Rattle.handles.proofs.CycleLaws.{lane-floor, lane-order, stage-below, right-below}
 use Rattle.handles.proofs.PlaceLaws.{rack-there}

@@ -3,7 +3,7 @@
 use Prim.Native.Nat.{ℕ, _-_, _≤_, _<_}
 use native.Mathlib.Omega.{arith}
 use Rattle.graph.proofs.Decision.{says-yes, says-no}
-use Rattle.moving.specs.Journey.{row}
+use Rattle.shunting.specs.Journey.{row}
 use Rattle.handles.proofs.StageLaws.{Agreed, agreed-next}
 use Rattle.handles.proofs.is_settled.Statement.{statement}
 use Rattle.handles.proofs.is_settled.Tie as tie

@@ -4,7 +4,7 @@ use Prim.Native.Nat.{_-_}
 use mathlib.Core.Path.{refl}
 use mathlib.Core.Logic.{inl}
 use native.Mathlib.Omega.{arith}
-use Rattle.moving.proofs.JourneyLaws.{trip-none, trip-more, fits-anew}
+use Rattle.shunting.proofs.JourneyLaws.{trip-none, trip-more, fits-anew}
 use Rattle.settling.proofs.TableLaws.{table-went}
 use Rattle.handles.proofs.StageLaws.{lane-fits, lane-small, region-has, region-below, region-reaches, placing-kept, stage-vacancy}
 use Rattle.handles.proofs.open_stage.Statement.{statement}

@@ -3,8 +3,8 @@
 use Prim.Native.Nat.{_+_, _-_, _*_}
 use mathlib.Core.Path.{_∙_}
 use native.Mathlib.Omega.{arith}
-use Rattle.moving.specs.Journey.{row}
-use Rattle.moving.proofs.JourneyLaws.{trip-more, trip-append, fits-anew, fits-less, fits-then, room-less, room-then}
+use Rattle.shunting.specs.Journey.{row}
+use Rattle.shunting.proofs.JourneyLaws.{trip-more, trip-append, fits-anew, fits-less, fits-then, room-less, room-then}
 use Rattle.settling.proofs.TableLaws.{table-went}
 use Rattle.handles.proofs.CycleLaws.{lane-floor, lane-order, left-below, right-below, stage-in}
 use Rattle.handles.proofs.PlaceLaws.{rack-some, rack-there, rack-held, placing-turned, stage-robust, stage-vacancy, place-from, place-below, place-brought, place-below-rest, place-cleared, place-held, place-reaches, cycle-below, cycle-vacancy}

@@ -4,7 +4,7 @@ use Prim.Native.Nat.{ℕ, _-_, _≤_, _<_}
 use mathlib.Core.Path.{sym, _∙_}
 use mathlib.Core.Logic.{_≢_}
 use native.Mathlib.Omega.{arith}
-use Rattle.moving.specs.Journey.{row}
+use Rattle.shunting.specs.Journey.{row}
 use Rattle.handles.proofs.StageLaws.{Sought, sought-next, sought-last}
 use Rattle.handles.proofs.place_of.Statement.{statement}
 use Rattle.handles.proofs.place_of.Tie as tie

@@ -3,8 +3,8 @@
 use Prim.Native.Nat.{_-_, _*_}
 use mathlib.Core.Path.{refl}
 use native.Mathlib.Omega.{arith}
-use Rattle.moving.specs.Journey.{row}
-use Rattle.moving.proofs.JourneyLaws.{trip-none, trip-more}
+use Rattle.shunting.specs.Journey.{row}
+use Rattle.shunting.proofs.JourneyLaws.{trip-none, trip-more}
 use Rattle.handles.proofs.CycleLaws.{lane-order}
 use Rattle.handles.proofs.SettleLaws.{Settling, settling-begin, settling-room, settling-next, settling-trip, settling-end, settled-already}
 use Rattle.handles.proofs.settle_handle.Statement.{statement}

@@ -4,8 +4,8 @@ use Prim.Native.Nat.{ℕ, _+_, _-_, _≤_, _<_}
 use mathlib.Core.Path.{_≡_, sym, subst}
 use native.Mathlib.Omega.{arith}
 use lib.ListN.{length-replicate}
-use Rattle.moving.specs.Journey.{row}
-use Rattle.moving.proofs.JourneyLaws.{space-room}
+use Rattle.shunting.specs.Journey.{row}
+use Rattle.shunting.proofs.JourneyLaws.{space-room}
 use Rattle.handles.proofs.CycleLaws.{left-below, right-below}
 use Rattle.handles.proofs.SettleLaws.{down-up, starts-from, starts-within, starts-few, lane-of, Handling, handling-begin, handling-placing, handling-room, handling-next, handling-trip, handling-end}
 use Rattle.handles.proofs.settle_handles.Statement.{statement}

@@ -3,8 +3,8 @@
 use Prim.Native.Nat.{_+_, _-_, _*_}
 use mathlib.Core.Path.{_∙_}
 use native.Mathlib.Omega.{arith}
-use Rattle.moving.specs.Journey.{row}
-use Rattle.moving.proofs.JourneyLaws.{trip-append, space-less, space-then}
+use Rattle.shunting.specs.Journey.{row}
+use Rattle.shunting.proofs.JourneyLaws.{trip-append, space-less, space-then}
 use Rattle.planning.proofs.SolveLaws.{filled, off-ring}
 use borrow.Author.Needs.{needs}
 use Rattle.planning.proofs.settle.Statement.{statement}

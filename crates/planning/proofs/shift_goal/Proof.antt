@@ -3,8 +3,8 @@
 use Prim.Native.Nat.{_+_, _-_}
 use mathlib.Core.Path.{_∙_}
 use native.Mathlib.Omega.{arith}
-use Rattle.moving.specs.Journey.{row}
-use Rattle.moving.proofs.JourneyLaws.{fits-anew, fits-less, fits-then}
+use Rattle.shunting.specs.Journey.{row}
+use Rattle.shunting.proofs.JourneyLaws.{fits-anew, fits-less, fits-then}
 use Rattle.planning.proofs.ShiftLaws.{reaches-first, reaches-second, mid-table, shifted}
 use Rattle.planning.proofs.shift_goal.Statement.{statement}
 use Rattle.planning.proofs.shift_goal.Tie as tie

@@ -5,7 +5,7 @@ use native.Mathlib.Omega.{arith}
 use borrow.Author.Needs.{needs}
 use lib.ListN.{length-replicate}
 use Rattle.breakdown.proofs.StageLaws.{breakdown-biConnected}
-use Rattle.moving.specs.Journey.{row}
+use Rattle.shunting.specs.Journey.{row}
 use Rattle.planning.proofs.SolveLaws.{apart, ring-laid, undoing, room-shift, room-settle, fits-back, trip-all}
 use Rattle.planning.proofs.solve.Statement.{statement}
 use Rattle.planning.proofs.solve.Tie as tie

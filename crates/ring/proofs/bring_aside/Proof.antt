@@ -3,8 +3,8 @@
 use mathlib.Core.Path.{sym, _∙_}
 use native.Mathlib.Omega.{arith}
 use borrow.Author.Needs.{needs}
-use Rattle.moving.specs.Journey.{row}
-use Rattle.moving.proofs.JourneyLaws.{journey-append, fits-less, fits-then}
+use Rattle.shunting.specs.Journey.{row}
+use Rattle.shunting.proofs.JourneyLaws.{journey-append, fits-less, fits-then}
 use Rattle.settling.proofs.TableLaws.{table-went}
 use Rattle.ring.proofs.RingLaws.{circle-on, circle-below, circle-beside, ring-has, ring-below, ring-robust}
 use Rattle.ring.proofs.ExchangeLaws.{rack-at, aside-held, aside-stands, aside-vacant, aside-brought, aside-done}

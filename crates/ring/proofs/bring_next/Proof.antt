@@ -4,7 +4,7 @@ use Prim.Native.Nat.{_-_}
 use mathlib.Core.Path.{sym, _∙_}
 use native.Mathlib.Omega.{arith}
 use borrow.Author.Needs.{needs}
-use Rattle.moving.proofs.JourneyLaws.{journey-append, fits-less, fits-then}
+use Rattle.shunting.proofs.JourneyLaws.{journey-append, fits-less, fits-then}
 use Rattle.settling.proofs.TableLaws.{table-went}
 use Rattle.ring.proofs.RingLaws.{circle-on, circle-below, filled-same, ring-has, ring-below, ring-robust, ring-vacancy}
 use Rattle.ring.proofs.RingLaws.{ring-reaches-without, ring-reaches-last}

@@ -4,7 +4,7 @@ use Prim.Native.Nat.{_+_, _-_, _*_}
 use mathlib.Core.Path.{sym, _∙_}
 use native.Mathlib.Omega.{arith}
 use borrow.Author.Needs.{needs}
-use Rattle.moving.proofs.JourneyLaws.{journey-append, trip-append, trip-more, fits-then, fits-anew, room-then, room-less}
+use Rattle.shunting.proofs.JourneyLaws.{journey-append, trip-append, trip-more, fits-then, fits-anew, room-then, room-less}
 use Rattle.settling.proofs.TableLaws.{table-went}
 use Rattle.ring.proofs.RingLaws.{circle-off, circle-beside, circle-apart}
 use Rattle.ring.proofs.ExchangeLaws.{aside-filled, rack-on, exchange-swapped, exchange-undoing, exchange-moves, exchange-most}

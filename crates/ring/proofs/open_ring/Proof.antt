@@ -4,7 +4,7 @@ use Prim.Native.Nat.{_+_, _-_}
 use mathlib.Core.Path.{_∙_}
 use native.Mathlib.Omega.{arith}
 use borrow.Author.Needs.{needs}
-use Rattle.moving.proofs.JourneyLaws.{trip-append, fits-then, fits-anew}
+use Rattle.shunting.proofs.JourneyLaws.{trip-append, fits-then, fits-anew}
 use Rattle.settling.proofs.TableLaws.{table-went}
 use Rattle.ring.proofs.RingLaws.{ring-below, ring-reaches, ring-reaches-without}
 use Rattle.ring.proofs.SettleLaws.{open-filled, open-first, open-done}

@@ -4,7 +4,7 @@ use Prim.Native.Nat.{_-_, _<_}
 use mathlib.Core.Path.{_≡_, sym, ap, _∙_}
 use native.Mathlib.Omega.{arith}
 use borrow.Author.Needs.{needs}
-use Rattle.moving.specs.Journey.{row}
+use Rattle.shunting.specs.Journey.{row}
 use Rattle.ring.specs.From.{placeFrom, placeOf}
 use Rattle.ring.proofs.FromLaws.{placeFrom-here, placeFrom-next, placeFrom-end}
 use Rattle.ring.proofs.place_on.Statement.{statement}

@@ -6,7 +6,7 @@ use mathlib.Core.Path.{_≡_, ap, _∙_}
 use native.Mathlib.Nat.{le-trans, mod-lt}
 use native.Mathlib.Omega.{arith}
 use lib.ListN.{replicate}
-use Rattle.moving.specs.Journey.{row}
+use Rattle.shunting.specs.Journey.{row}
 use Rattle.ring.specs.From.{round, placeOf}
 use Rattle.ring.proofs.FromLaws.{placeOf-in, laid-none, laid-next}
 use Rattle.ring.proofs.ring_from.Statement.{statement}

@@ -3,8 +3,8 @@
 use mathlib.Core.Path.{refl}
 use native.Mathlib.Omega.{arith}
 use borrow.Author.Needs.{needs}
-use Rattle.moving.specs.Journey.{row}
-use Rattle.moving.proofs.JourneyLaws.{trip-none, trip-more}
+use Rattle.shunting.specs.Journey.{row}
+use Rattle.shunting.proofs.JourneyLaws.{trip-none, trip-more}
 use Rattle.settling.proofs.TableLaws.{table-went}
 use Rattle.ring.proofs.RingLaws.{circle-on}
 use Rattle.ring.proofs.SettleLaws.{place-goal, place-held, place-on, place-same, place-done}

@@ -4,8 +4,8 @@ use Prim.Native.Nat.{ℕ, _+_, _-_, _*_, _<_}
 use mathlib.Core.Path.{_∙_}
 use native.Mathlib.Omega.{arith}
 use lib.ListN.{length-replicate}
-use Rattle.moving.specs.Journey.{row}
-use Rattle.moving.proofs.JourneyLaws.{trip-more, trip-append, space-room, space-then, space-less}
+use Rattle.shunting.specs.Journey.{row}
+use Rattle.shunting.proofs.JourneyLaws.{trip-more, trip-append, space-room, space-then, space-less}
 use Rattle.ring.proofs.SettleLaws.{Settling, settling-begin, settling-room, settling-next, settling-end, in-all}
 use Rattle.ring.proofs.settle_ring.Statement.{statement}
 use Rattle.ring.proofs.settle_ring.Tie as tie

@@ -2,8 +2,8 @@
 -- Assumes nothing.
 use native.Mathlib.Omega.{arith}
 use borrow.Author.Needs.{needs}
-use Rattle.moving.proofs.JourneyLaws.{journey-append, fits-less}
-use Rattle.moving.specs.Journey.{row}
+use Rattle.shunting.proofs.JourneyLaws.{journey-append, fits-less}
+use Rattle.shunting.specs.Journey.{row}
 use Rattle.ring.proofs.MoveLaws.{swap-vacated, swap-filled, moved-thrice, fits-by}
 use Rattle.ring.proofs.swap.Statement.{statement}
 use Rattle.ring.proofs.swap.Tie as tie

@@ -4,7 +4,7 @@ use Prim.Native.Nat.{_-_, _≤_}
 use mathlib.Core.Path.{_≡_, refl}
 use mathlib.Core.Logic.{_⊎_, inl, inr, ⊎-elim}
 use native.Mathlib.Omega.{arith}
-use Rattle.moving.specs.Journey.{row}
+use Rattle.shunting.specs.Journey.{row}
 use Rattle.settling.proofs.RowLaws.{Parting, parting-none, parting-next, parting-all}
 use Rattle.settling.proofs.part.Statement.{statement}
 use Rattle.settling.proofs.part.Tie as tie
