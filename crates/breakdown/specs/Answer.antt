@@ -5,7 +5,7 @@
 --     Answer n g r c o start left right     a breakdown exactly where the floor is bi-connected and no ring; else none, a ring of 0.
 --                                           Document 01, "Breakdown and planning": "Such a breakdown is found for every floor that passes
 --                                           20 to 22."
---     BreakdownOf, HandledOf, AnswerOf      a breakdown, and these two, of the parts as the code has them
+--     BreaksDown, HandledOf, AnswerOf       a breakdown, and these two, of the parts as the code has them
 -- Assumes nothing.
 use Prim.Native.Nat.{ℕ, _<_}
 use mathlib.Core.Path.{_≡_}
@@ -18,8 +18,8 @@ use Rattle.breakdown.specs.Breakdown.{Breakdown}
 use Rattle.breakdown.specs.Building.{row}
 use Rattle.breakdown.specs.declared.Breakdown.{Breakdown as Parts}
 
-abbrev pub BreakdownOf : ℕ → (ℕ → ℕ → Type 0) → Parts → Type 0
-BreakdownOf n E b = Breakdown n E (b .ring) (b .handles) (row (b .order)) (row (b .start)) (row (b .left)) (row (b .right))
+abbrev pub BreaksDown : ℕ → (ℕ → ℕ → Type 0) → Parts → Type 0
+BreaksDown n E b = Breakdown n E (b .ring) (b .handles) (row (b .order)) (row (b .start)) (row (b .left)) (row (b .right))
 
 pub record Handled (n : ℕ) (E : ℕ → ℕ → Type 0) (r c : ℕ) (o start left right : List ℕ) : Type 0 where
   pub found : 0 < r → Breakdown n E r c (row o) (row start) (row left) (row right)
