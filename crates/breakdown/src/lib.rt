@@ -9,6 +9,7 @@ ghost use Rattle.graph.specs.Nearest.{Nearest};
 ghost use Rattle.breakdown.specs.Choice.{Beside, Before, Better, RingChoice, HandleChoice, Size};
 ghost use Rattle.breakdown.specs.Building.{row, Settled, Fresh, Extended, Building};
 ghost use Rattle.breakdown.specs.Answer.{Answer, Handled};
+ghost use Rattle.breakdown.specs.Part.{Places, Part};
 
 // Two joined positions, and how many positions the way has that leads on from the second. A size of 0 is no pair.
 struct Pair {
@@ -274,4 +275,18 @@ pub fn break_down(rows: &[u64; 64], n: usize) -> Breakdown
         return nothing();
     }
     add_handles(rows, n, &mut settled, b)
+}
+
+// The positions at the places from `from` up to `to` of a row, as a set.
+pub fn part(order: &[u8; 64], from: usize, to: usize) -> u64
+    requires { ⌜ Places (row (now order)) to ⌝ }
+    ensures { λ r. ⌜ Part (row (now (order .entry))) from to r ⌝ }
+{
+    let mut set: u64 = 0;
+    let mut i = from;
+    while i < to {
+        set = sets::with(set, order[i] as usize);
+        i += 1;
+    }
+    set
 }
