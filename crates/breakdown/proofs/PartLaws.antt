@@ -1,17 +1,14 @@
--- Laws of the parts of a row as sets: the state of `part`, from its first place to its last.
+-- Laws of the parts of a row as sets.
 --
---     part-none     no place: the empty set
---     part-next     one place more
---     part-all      all of them, where the places begin behind their end too
+--     part-none, part-next, part-all    the state of `part`: nothing yet; one place more; as far as `to`
 -- Assumes nothing.
 use Prim.Native.Nat.{ℕ, _+_, _≤_, _<_}
 use mathlib.Core.Path.{_≡_, refl, sym, ap, subst, _∙_}
-use mathlib.Core.Logic.{_↔_, _⊎_, inl, inr, ⊎-elim, by-cases}
+use mathlib.Core.Logic.{_↔_, _≢_, _⊎_, inl, inr, ⊎-elim, by-cases}
 use native.Mathlib.Decide.{ℕ-discrete}
 use native.Mathlib.Omega.{arith}
 use Rattle.sets.specs.Sets.{Has}
 use Rattle.sets.proofs.SetLaws.{has-none}
-use Rattle.breakdown.specs.Breakdown.{Between}
 use Rattle.breakdown.specs.Part.{Part}
 
 pub part-none : (at : ℕ → ℕ) (from i : ℕ) → i ≤ from → Part at from i 0
@@ -20,8 +17,8 @@ part-none at from i le p = (λ h. absurd (has-none p h), λ b. absurd (none (b .
     none : {x : ℕ} → from ≤ x → x < i → ⊥
     none a b = omega arith
 
-pub part-next : (at : ℕ → ℕ) (from i v w : ℕ) → from ≤ i → ((p : ℕ) → Has w p ↔ (Has v p ⊎ (p ≡ at i))) → Part at from i v
-    → Part at from (i + 1) w
+pub part-next : (at : ℕ → ℕ) (from i v w : ℕ) → from ≤ i → ((p : ℕ) → Has w p ↔ (Has v p ⊎ (p ≡ at i)))
+    → Part at from i v → Part at from (i + 1) w
 part-next at from i v w le has s p = (
   λ h. ⊎-elim
       (λ x. let b = s p .0 x in let l = b .before in record { place = b .place; from = b .from; before = omega arith; is = b .is })

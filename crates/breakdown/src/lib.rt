@@ -1,7 +1,7 @@
 // The breakdown of a floor into a base ring and handles, shortest first.
 use graph::Route;
 ghost use mathlib.Core.Path.{_≡_};
-ghost use Prim.Native.Nat.{_+_, _≤_, _<_};
+ghost use Prim.Native.Nat.{_+_, _<_};
 ghost use Rattle.sets.specs.Sets.{Has};
 ghost use Rattle.graph.specs.Connected.{Except, Below, BiConnected};
 ghost use Rattle.graph.specs.Rows.{Edge, Rows};
@@ -9,7 +9,7 @@ ghost use Rattle.graph.specs.Nearest.{Nearest};
 ghost use Rattle.breakdown.specs.Choice.{RingWay, Before, Better, RingChoice, HandleChoice, Size, RingSize};
 ghost use Rattle.breakdown.specs.Building.{row, Settled, Fresh, Extended, BuildingOf};
 ghost use Rattle.breakdown.specs.Answer.{HandledOf, AnswerOf};
-ghost use Rattle.breakdown.specs.Part.{Positions, Part};
+ghost use Rattle.breakdown.specs.Part.{Places, Part};
 
 // Two joined positions, and how many positions the way has that leads on from the second. A size of 0 is no pair.
 struct Pair {
@@ -297,10 +297,9 @@ pub fn break_down(rows: &[u64; 64], n: usize) -> Breakdown
     add_handles(rows, n, &mut settled, b)
 }
 
-// The positions at the places from `from` up to `to` of a row.
+// The positions at the places from `from` up to `to` of a row, as a set.
 pub fn part(order: &[u8; 64], from: usize, to: usize) -> u64
-    requires { ⌜ to ≤ 64 ⌝ }
-    requires { ⌜ Positions (row (now order)) to ⌝ }
+    requires { ⌜ Places (row (now order)) to ⌝ }
     ensures { λ r. ⌜ Part (row (now (order .entry))) from to r ⌝ }
 {
     let mut set: u64 = 0;

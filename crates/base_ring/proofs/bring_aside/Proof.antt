@@ -36,7 +36,7 @@ part-requires c κs =
     let start = c .before .before .before in
     let small = start .pre .0 .small in
     let less = start .pre .1 .0 .less in
-    (omega arith, λ i l. let x = start .pre .1 .0 .below i l in omega arith)
+    record { most = omega arith; below = λ i l. let x = start .pre .1 .0 .below i l in omega arith }
 
 make-move-requires : tie.Need-make-move-requires
 make-move-requires c κs =

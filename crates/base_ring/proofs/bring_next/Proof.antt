@@ -56,7 +56,7 @@ part-requires c κs =
     let start = c .before .before .before in
     let small = start .pre .0 .small in
     let less = start .pre .1 .0 .less in
-    (omega arith, λ i l. let x = start .pre .1 .0 .below i l in omega arith)
+    record { most = omega arith; below = λ i l. let x = start .pre .1 .0 .below i l in omega arith }
 
 where-is-requires : tie.Need-where-is-requires
 where-is-requires c κs =

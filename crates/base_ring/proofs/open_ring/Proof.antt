@@ -39,7 +39,7 @@ part-requires c κs =
     let start = c .before .before .before in
     let small = start .pre .0 .small in
     let less = start .pre .1 .0 .less in
-    (omega arith, λ i l. let x = start .pre .1 .0 .below i l in omega arith)
+    record { most = omega arith; below = λ i l. let x = start .pre .1 .0 .below i l in omega arith }
 
 clear-requires : tie.Need-clear-requires
 clear-requires c κs =

@@ -1,8 +1,8 @@
--- `breakdown::part` meets its contract. The invariant: the set has the positions at the places up to i.
+-- `breakdown::part` meets its contract.
 -- Assumes nothing.
 use Prim.Native.Nat.{_-_, _≤_}
 use mathlib.Core.Path.{_≡_, refl}
-use mathlib.Core.Logic.{_⊎_, inl, inr}
+use mathlib.Core.Logic.{_⊎_, inl, inr, ⊎-elim}
 use native.Mathlib.Omega.{arith}
 use Rattle.breakdown.specs.Building.{row}
 use Rattle.breakdown.specs.Part.{Part}
@@ -20,21 +20,21 @@ loop-holds : tie.Need-loop-holds Inv-loop μ-loop
 loop-holds c = (omega arith, inr refl, part-none (row (c .args .order .now)) (c .args .from) (c .args .from) (omega arith))
 
 element-copy-out-with : tie.Need-element-copy-out-with Inv-loop μ-loop
-element-copy-out-with c = let p = c .before .before .pre .0 in omega arith
+element-copy-out-with c = let most = c .before .before .pre .most in omega arith
 
 cast-with : tie.Need-cast-with Inv-loop μ-loop
 cast-with c =
-    let at-loop = c .before .before in
-    let x = at-loop .before .pre .1 (at-loop .loop .i) (c .before .loop-test .taken) in
+    let turn = c .before .before in
+    let below = turn .before .pre .below (turn .loop .i) (c .before .loop-test .taken) in
     omega arith
 
 with-requires : tie.Need-with-requires Inv-loop μ-loop
-with-requires c κs = let at-loop = c .before .before in at-loop .before .pre .1 (at-loop .loop .i) (c .before .loop-test .taken)
+with-requires c κs = let turn = c .before .before in turn .before .pre .below (turn .loop .i) (c .before .loop-test .taken)
 
 add-i : tie.Need-add-i Inv-loop μ-loop
 add-i c =
-    let at-loop = c .before .before .before in
-    let few = at-loop .before .pre .0 in
+    let turn = c .before .before .before in
+    let most = turn .before .pre .most in
     omega arith
 
 loop-less : tie.Need-loop-less Inv-loop μ-loop
@@ -42,15 +42,18 @@ loop-less c = omega arith
 
 loop-again : tie.Need-loop-again Inv-loop μ-loop
 loop-again c =
-    let at-loop = c .before .before .before in
-    let l = at-loop .loop in
-    let a = at-loop .before .args in
-    (omega arith, inl (omega arith), part-next (row (a .order .now)) (a .from) (l .i) _ _ (l .inv .0) (c .with .ensures) (l .inv .2))
+    let turn = c .before .before .before in
+    let a = turn .before .args in
+    let l = turn .loop in (
+      omega arith,
+      inl (omega arith),
+      part-next (row (a .order .now)) (a .from) (l .i) _ _ (l .inv .0) (c .with .ensures) (l .inv .2),
+    )
 
 returns : tie.Need-returns Inv-loop μ-loop
 returns c =
-    let l = c .before .loop in
     let a = c .before .before .args in
+    let l = c .before .loop in
     part-all (row (a .order .now)) (a .from) (l .i) (a .to) _ (omega arith) (l .inv .1) (l .inv .2)
 
 pub part-spec : {M : Type 1} → statement M
