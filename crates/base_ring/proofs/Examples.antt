@@ -23,7 +23,7 @@ use Rattle.shunting.specs.Journey.{row, Space}
 use Rattle.shunting.specs.Table.{Table}
 use Rattle.shunting.specs.declared.State.{State}
 use Rattle.base_ring.specs.declared.Circle.{Circle}
-use Rattle.base_ring.specs.Circle.{place, On, BaseRing, OnRing, Open, Apart, Ringing}
+use Rattle.base_ring.specs.Circle.{place, On, BaseRing, OnRing, Open, RestSettled, Ringing}
 use Rattle.base_ring.specs.Moves.{ringMoves}
 
 unfoldable pub square : List ℕ
@@ -133,7 +133,10 @@ abbrev pub state : State
 state = record { racks = racks; real = 3; written = 0; logged = 0 }
 
 pub settle-ring-met :
-    Rows 5 square × BaseRing (Edge square) circle × Apart circle (row racks) (row racks) × Space state (replicate 648 0) (ringMoves 5 4)
+    Rows 5 square
+    × BaseRing (Edge square) circle
+    × RestSettled circle (row racks) (row racks)
+    × Space state (replicate 648 0) (ringMoves 5 4)
 settle-ring-met =
     let h = length-replicate {A = ℕ} 59 0 in
     let t = length-replicate {A = ℕ} 648 0 in (

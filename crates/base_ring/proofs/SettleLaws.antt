@@ -29,23 +29,24 @@ use Rattle.shunting.specs.Cleared.{Cleared}
 use Rattle.shunting.specs.Table.{Table}
 use Rattle.shunting.proofs.TableLaws.{table-rack}
 use Rattle.base_ring.specs.declared.Circle.{Circle}
-use Rattle.base_ring.specs.Circle.{place, On, BaseRing, OnRing, Filled, Open, swapped, Exchanged, Apart, Ringing}
+use Rattle.base_ring.specs.Circle.{place, On, BaseRing, OnRing, Filled, Open, swapped, Exchanged, RestSettled, Ringing}
 use Rattle.base_ring.proofs.RingLaws.{among-or-not, on-surely, circle-on, circle-apart, table-two, filled-open, filled-same, ring-on}
 use Rattle.base_ring.proofs.ExchangeLaws.{swapped-second, swapped-other, swapped-zero}
 
 none : {i j : ℕ} → i ≤ j → j < i → ⊥
 none a b = omega arith
 
-module _ {g : List ℕ} {c : Circle} (rows : Rows (c .positions) g) (circle : BaseRing (Edge g) c) {T h : ℕ → ℕ} (apart : Apart c T h) where
+module _ {g : List ℕ} {c : Circle} (rows : Rows (c .positions) g) (circle : BaseRing (Edge g) c) {T h : ℕ → ℕ}
+    (rest : RestSettled c T h) where
   pub open-filled : Filled c h
-  open-filled = filled-same c (apart .outside) (filled-open circle (apart .goal))
+  open-filled = filled-same c (rest .outside) (filled-open circle (rest .goal))
 
   module _ (ring : ℕ) (part : Part (place c) 0 (c .size) ring) {h₁ : ℕ → ℕ} (cleared : Cleared (Has ring) (place c 0) h h₁) where
     same : (p : ℕ) → (On c p → ⊥) → h₁ p ≡ T p
-    same p out = cleared .outside p (λ x. out (ring-on rows circle ring part p x)) ∙ apart .outside p out
+    same p out = cleared .outside p (λ x. out (ring-on rows circle ring part p x)) ∙ rest .outside p out
 
     pub open-first : Filled c h₁
-    open-first = filled-same c same (filled-open circle (apart .goal))
+    open-first = filled-same c same (filled-open circle (rest .goal))
 
     pub open-done : (free : ℕ) → ((p : ℕ) → Has free p ↔ (Has ring p × (p ≢ place c 0))) → {h₂ : ℕ → ℕ}
         → Cleared (Has free) (place c 1) h₁ h₂ → Table (c .positions) h₂ → Ringing c T 2 h₂
@@ -56,7 +57,7 @@ module _ {g : List ℕ} {c : Circle} (rows : Rows (c .positions) g) (circle : Ba
             zero = next .outside (place c 0) (λ x. has (place c 0) .0 x .1 refl) ∙ cleared .vacant;
             one = next .vacant;
           };
-          goal = apart .goal;
+          goal = rest .goal;
           settled = λ j low high. absurd (none low high);
           outside = λ p out. next .outside p (λ x. out (ring-on rows circle ring part p (has p .0 x .0))) ∙ same p out;
         }

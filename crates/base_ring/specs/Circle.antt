@@ -14,7 +14,7 @@
 --     Ready c r h k        rack r stands at place 1, place 0 and the last place are vacant, and nothing off the ring moved
 --     swapped a b r        a for b, b for a, any other rack for itself
 --     Exchanged a b h k    the racks a and b have changed places, and no other moved
---     Apart c T h          off the ring each position holds what it has in the goal, which has the places 0 and 1 vacant
+--     RestSettled c T h    off the ring each position holds what it has in the goal, which has the places 0 and 1 vacant
 --     Ringing c T i h      the same, with the places 0 and 1 vacant, and those from 2 up to i as the goal has them
 -- Assumes nothing.
 use Prim.Native.Nat.{ℕ, _+_, _-_, _≤_, _<_}
@@ -79,7 +79,7 @@ swapped a b r = cond (eqb r a) b (cond (eqb r b) a r)
 abbrev pub Exchanged : ℕ → ℕ → (ℕ → ℕ) → (ℕ → ℕ) → Type 0
 Exchanged a b h k = Same k (λ p. swapped a b (h p))
 
-pub record Apart (c : Circle) (T h : ℕ → ℕ) : Type 0 where
+pub record RestSettled (c : Circle) (T h : ℕ → ℕ) : Type 0 where
   pub table : Table (c .positions) h
   pub goal : Open c T
   pub outside : (p : ℕ) → (On c p → ⊥) → h p ≡ T p

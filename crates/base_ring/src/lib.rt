@@ -10,7 +10,7 @@ ghost use Rattle.shunting.specs.Went.{Same};
 ghost use Rattle.shunting.specs.Journey.{row, Fits, Room, Space, Trip, Journey, JourneyOn};
 ghost use Rattle.shunting.specs.Turned.{Passed};
 ghost use Rattle.shunting.specs.Table.{Table};
-ghost use Rattle.base_ring.specs.Circle.{BaseRing, OnRing, TwoOnRing, Filled, Open, Aside, Ready, Exchanged, Apart, Ringing};
+ghost use Rattle.base_ring.specs.Circle.{BaseRing, OnRing, TwoOnRing, Filled, Open, Aside, Ready, Exchanged, RestSettled, Ringing};
 ghost use Rattle.base_ring.specs.From.{placeOf, ringFrom, circleOf};
 ghost use Rattle.base_ring.specs.Moves.{asideMoves, nextMoves, exchangeMoves, openMoves, ringMoves};
 ghost use Rattle.base_ring.specs.Swap.{PassableBy, JoinsBy, Swappable, Joined, Swapped};
@@ -197,7 +197,7 @@ fn open_ring(
 ) -> State
     requires { ⌜ Rows (circle .positions) (now rows) ⌝ }
     requires { ⌜ BaseRing (Edge (now rows)) circle ⌝ }
-    requires { ⌜ Apart circle (row (now goal)) (row (state .racks)) ⌝ }
+    requires { ⌜ RestSettled circle (row (now goal)) (row (state .racks)) ⌝ }
     requires { ⌜ Room state (now log) (now tail) (openMoves (circle .positions)) ⌝ }
     ensures { λ r. ⌜ Trip (now (rows .entry)) (openMoves (circle .positions)) state (now (tail .entry)) r (now (tail .exit)) ⌝ }
     ensures { λ r. ⌜ Ringing circle (row (now (goal .entry))) 2 (row (r .racks)) ⌝ }
@@ -224,7 +224,7 @@ pub fn settle_ring(
 ) -> State
     requires { ⌜ Rows (circle .positions) (now rows) ⌝ }
     requires { ⌜ BaseRing (Edge (now rows)) circle ⌝ }
-    requires { ⌜ Apart circle (row (now goal)) (row (state .racks)) ⌝ }
+    requires { ⌜ RestSettled circle (row (now goal)) (row (state .racks)) ⌝ }
     requires { ⌜ Space state (now tail) (ringMoves (circle .positions) (circle .size)) ⌝ }
     ensures { λ r. ⌜ Trip (now (rows .entry)) (ringMoves (circle .positions) (circle .size)) state (now (tail .entry))
         r (now (tail .exit)) ⌝ }

@@ -1,15 +1,15 @@
--- What the contracts and the laws of planning assume can be met: the case book's floor F, taken apart, with its order's racks (document 01,
+-- What the contracts and the laws of solving assume can be met: the case book's floor F, taken apart, with its order's racks (document 01,
 -- "Programs": rack 1 from 0 to 3, rack 2 from 3 to 0).
 --
 --     alone, alone-placed         one rack, at 0
---     fill-met                    what `planning::fill` asks for
+--     fill-met                    what `solving::fill` asks for
 --     alone-filled, filled-is     with the one stand-in that is missing
 --     table-placed                a table with two vacancies has its racks placed
---     solve-met                   what `planning::solve` asks for
---     shift-met, settle-met       what `planning::shift_goal` and `planning::settle` ask for
+--     solve-met                   what `solving::solve` asks for
+--     shift-met, settle-met       what `solving::shift_goal` and `solving::settle` ask for
 --     shiftF                      the goal has the ring's first two places vacant already: no move shifts it
 --     start-held, goal-held       the tables hold the order's starts and goals
---     four-moves                  the moves 0>1, 3>2, 2>0, 1>3 are a trip from the one to the other
+--     after, four-moves           the moves 0>1, 3>2, 2>0, 1>3 are a trip from the one to the other
 -- Assumes nothing.
 use Prim.Native.Nat.{ℕ, zero, suc, _+_, _-_, _*_, _≤_, _<_}
 use mathlib.Core.Path.{_≡_, refl, _∙_}
@@ -22,22 +22,24 @@ use Rattle.sets.specs.Sets.{bit}
 use Rattle.graph.specs.Connected.{BiConnected}
 use Rattle.graph.specs.Rows.{Edge, Rows}
 use Rattle.graph.proofs.Examples.{floorF, floorF-rows}
-use Rattle.breakdown.specs.Breakdown.{Among, Breakdown}
-use Rattle.breakdown.proofs.Examples.{inRow, starts, lefts, rights, floorF-breakdown, floorF-biConnected}
+use Rattle.breakdown.specs.Answer.{BreaksDown}
+use Rattle.breakdown.proofs.Examples.{inRow, floorF-breakdown, floorF-biConnected}
 use Rattle.shunting.specs.Went.Went.{stay}
 use Rattle.shunting.proofs.WentLaws.{same-refl}
+use Rattle.shunting.specs.declared.State.{State}
 use Rattle.shunting.specs.Journey.{row, onto, Room, Space, made, Trip}
 use Rattle.shunting.specs.Journey.Trail.{start as begun}
 use Rattle.shunting.proofs.JourneyLaws.{moved-trip, trip-append}
-use Rattle.settling.specs.Table.{Table}
-use Rattle.settling.specs.Circle.{Circle, On}
-use Rattle.settling.proofs.Examples.{none-after, start, goal, start-table, goal-table}
-use Rattle.handles.proofs.Examples.{log, tail, space, room, four-long}
-use Rattle.ring.specs.From.{placeFrom, round, ringFrom}
-use Rattle.ring.proofs.FromLaws.{ring-circle, ring-same}
-use Rattle.planning.specs.Shift.{Shift}
-use Rattle.planning.specs.Placed.{Placed, Filled, fillFrom, withStandIns}
-use Rattle.planning.proofs.Held.{HeldBy}
+use Rattle.shunting.specs.Turned.{Movable}
+use Rattle.shunting.specs.Table.{Table}
+use Rattle.shunting.proofs.TableExamples.{none-after, start, goal, start-table, goal-table}
+use Rattle.base_ring.specs.Circle.{Open}
+use Rattle.base_ring.specs.From.{placeFrom, round, circleOf}
+use Rattle.handles.proofs.Examples.{log, tail, state, space, four-long, breakdown}
+use Rattle.solving.specs.Moves.{settleMoves, solveMoves}
+use Rattle.solving.specs.Shift.{aimed, TwoPositions, Shift}
+use Rattle.solving.specs.Placed.{Placed, Filled, fillFrom, withStandIns}
+use Rattle.solving.proofs.Held.{HeldBy}
 
 abbrev pub alone : List ℕ
 alone = 1 ∷ replicate 63 0
@@ -87,39 +89,48 @@ table-placed {h} t =
 
 pub solve-met :
     Rows 4 floorF
-    × Breakdown 4 (Edge floorF) 3 1 (row inRow) (row starts) (row lefts) (row rights)
-    × (Table 4 (row start) × Table 4 (row goal) × (length goal ≡ 64))
-    × Space start tail 0 (8 * (4 * (4 * 4)))
-solve-met = (floorF-rows, floorF-breakdown, (start-table, goal-table, four-long 2 0 0 1), space start (four-long 1 0 0 2) 512 (lit≤ tt))
+    × BreaksDown 4 (Edge floorF) breakdown
+    × Table 4 (row start)
+    × Table 4 (row goal)
+    × (length goal ≡ 64)
+    × Space (state start) tail (solveMoves 4)
+solve-met = (floorF-rows, floorF-breakdown, start-table, goal-table, four-long 2 0 0 1, space start (four-long 1 0 0 2) 512 (lit≤ tt))
 
 pub shift-met :
     Rows 4 floorF
-    × (BiConnected 4 (Edge floorF) × (1 < 4) × (2 < 4) × _≢_ {A = ℕ} 1 2)
+    × BiConnected 4 (Edge floorF)
+    × TwoPositions 4 1 2
     × Table 4 (row goal)
-    × Room goal log tail 0 (2 * (4 - 1))
-shift-met =
-    (floorF-rows, (floorF-biConnected, lit< tt, lit< tt, (λ e. omega arith)), goal-table, room goal (four-long 2 0 0 1) 6 (lit≤ tt))
+    × Room (aimed goal) log tail (2 * (4 - 1))
+shift-met = (
+  floorF-rows,
+  floorF-biConnected,
+  record { first = lit< tt; second = lit< tt; differ = λ e. omega arith },
+  goal-table,
+  record {
+    racks = four-long 2 0 0 1;
+    log = length-replicate {A = ℕ} 8256 0;
+    room = space goal (four-long 2 0 0 1) 6 (lit≤ tt) .room;
+  },
+)
 
 -- the ring from 1 on, the left end of the handle
-abbrev circle : List ℕ
-circle = ringFrom inRow 3 1
-
 pub settle-met :
     Rows 4 floorF
-    × Breakdown 4 (Edge floorF) 3 1 (row inRow) (row starts) (row lefts) (row rights)
-    × (Circle 4 (Edge floorF) (row circle) 3 (row inRow 3) × ((p : ℕ) → Among (row inRow) 3 p ↔ On (row circle) 3 p))
-    × (Table 4 (row start) × Table 4 (row goal) × (row goal (row circle 0) ≡ 0) × (row goal (row circle 1) ≡ 0))
-    × Space start tail 0 ((4 - 3) * (4 * (4 * 4)) + (2 * (4 - 1) + 3 * (4 * (4 * 4) + 6)))
+    × BreaksDown 4 (Edge floorF) breakdown
+    × Table 4 (row start)
+    × Open (circleOf 4 breakdown) (row goal)
+    × Space (state start) tail (settleMoves 4 3)
 unfolding placeFrom round
 settle-met = (
   floorF-rows,
   floorF-breakdown,
-  (ring-circle inRow floorF-breakdown (1, lit< tt, refl) refl, ring-same inRow floorF-breakdown (1, lit< tt, refl) refl),
-  (start-table, goal-table, refl, refl),
+  start-table,
+  record { table = goal-table; zero = refl; one = refl },
   space start (four-long 1 0 0 2) 280 (lit≤ tt),
 )
 
-pub shiftF : Shift 4 floorF 1 2 goal goal log 0
+pub shiftF : Shift 4 floorF 1 2 goal (aimed goal) log
 unfolding onto
 shiftF =
     record {
@@ -164,23 +175,36 @@ goal-held = record { racks = racks; others = others }
     others (suc (suc (suc zero))) out = absurd (out 0 (lit< tt) refl)
     others (suc (suc (suc (suc p)))) out = none-after 60 p
 
+-- the racks h with w moves written
+abbrev pub after : List ℕ → ℕ → State
+after h w = record { racks = h; real = 2; written = w; logged = 0 }
+
 -- one move of a rack of the order, between positions of F
-step : (h t : List ℕ) (w a b : ℕ) → length h ≡ 64 → (a < 64) × (b < 64) → row h a ≢ 0 → row h a ≤ 2 → row h b ≡ 0 → Edge floorF a b
-    → (t′ : List ℕ) × Trip floorF 2 1 h t w (made h a b) t′ (w + 1)
-step h t w a b long l held few vacant edge = (
+step : (h t : List ℕ) (w a b : ℕ) → length h ≡ 64 → Movable a b (row h) → row h a ≤ 2 → Edge floorF a b
+    → (t′ : List ℕ) × Trip floorF 1 (after h w) t (after (made h a b) (w + 1)) t′
+step h t w a b long m few edge = (
   _,
-  moved-trip h a b long (l .0) (l .1) held vacant
-      (record { table = refl; real = λ l. (refl, refl); stand-in = λ l. absurd (omega arith) }) floorF edge,
+  moved-trip long m (record {
+    table = refl;
+    reals = refl;
+    logged = refl;
+    real = λ l. (refl, refl);
+    stand-in = λ l. absurd (omega arith);
+  }) floorF edge,
 )
 
 held : {x : ℕ} → suc x ≢ 0
 held e = omega arith
 
-pub four-moves : (t : List ℕ) × Trip floorF 2 4 start tail 0 goal t 4
+pub four-moves : (t : List ℕ) × Trip floorF 4 (after start 0) tail (after goal 4) t
 unfolding floorF bit
 four-moves =
-    let one = step start tail 0 0 1 (four-long 1 0 0 2) (lit< tt, lit< tt) held (lit≤ tt) refl refl in
-    let two = step (0 ∷ 1 ∷ 0 ∷ 2 ∷ replicate 60 0) (one .0) 1 3 2 (four-long 0 1 0 2) (lit< tt, lit< tt) held (lit≤ tt) refl refl in
-    let three = step (0 ∷ 1 ∷ 2 ∷ 0 ∷ replicate 60 0) (two .0) 2 2 0 (four-long 0 1 2 0) (lit< tt, lit< tt) held (lit≤ tt) refl refl in
-    let four = step (2 ∷ 1 ∷ 0 ∷ 0 ∷ replicate 60 0) (three .0) 3 1 3 (four-long 2 1 0 0) (lit< tt, lit< tt) held (lit≤ tt) refl refl in
+    let one = step start tail 0 0 1 (four-long 1 0 0 2) (record { leaves = lit< tt; enters = lit< tt; held = held; vacant = refl })
+    (lit≤ tt) refl in
+    let two = step (0 ∷ 1 ∷ 0 ∷ 2 ∷ replicate 60 0) (one .0) 1 3 2 (four-long 0 1 0 2)
+    (record { leaves = lit< tt; enters = lit< tt; held = held; vacant = refl }) (lit≤ tt) refl in
+    let three = step (0 ∷ 1 ∷ 2 ∷ 0 ∷ replicate 60 0) (two .0) 2 2 0 (four-long 0 1 2 0)
+    (record { leaves = lit< tt; enters = lit< tt; held = held; vacant = refl }) (lit≤ tt) refl in
+    let four = step (2 ∷ 1 ∷ 0 ∷ 0 ∷ replicate 60 0) (three .0) 3 1 3 (four-long 2 1 0 0)
+    (record { leaves = lit< tt; enters = lit< tt; held = held; vacant = refl }) (lit≤ tt) refl in
     (four .0, trip-append (trip-append (one .1) (two .1)) (trip-append (three .1) (four .1)))

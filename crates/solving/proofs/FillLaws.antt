@@ -18,8 +18,8 @@ use Rattle.sets.specs.Sets.{Has}
 use Rattle.sets.proofs.SetLaws.{has-or, has-only, has-none, has-or-not}
 use Rattle.sets.proofs.CountLaws.{ones-least, ones-most, ones-push, ones-pair, ones-third, ones-subset}
 use Rattle.shunting.specs.Journey.{row}
-use Rattle.settling.specs.Table.{Table}
-use Rattle.planning.specs.Placed.{Placed, Filled, fillFrom, withStandIns}
+use Rattle.shunting.specs.Table.{Table}
+use Rattle.solving.specs.Placed.{Placed, Filled, fillFrom, withStandIns}
 
 -- The positions that are vacant or hold a rack above r, as a set.
 abbrev Above : ℕ → (ℕ → ℕ) → ℕ → ℕ → Type 0
@@ -121,7 +121,8 @@ pub record Filling (n m : ℕ) (h k : List ℕ) (r v : ℕ) : Type 0 where
   pub is : k ≡ fillFrom m (r - m) h
 
 module _ {n m : ℕ} {h : List ℕ} where
-  pub filling-begin : (v : ℕ) → length h ≡ 64 → m + 2 ≤ n → Placed n m (row h) → ((p : ℕ) → Has v p ↔ ((p < n) × (row h p ≡ 0))) → Filling n m h h m v
+  pub filling-begin : (v : ℕ) → length h ≡ 64 → m + 2 ≤ n → Placed n m (row h) → ((p : ℕ) → Has v p ↔ ((p < n) × (row h p ≡ 0)))
+      → Filling n m h h m v
   filling-begin v long room placed vacant =
       record {
         long = long;
@@ -137,7 +138,12 @@ module _ {n m : ℕ} {h : List ℕ} where
   pub filling-some : {k : List ℕ} {r v : ℕ} → Filling n m h k r v → 0 < v
   filling-some {v = v} f =
       by-cases (ℕ-discrete v 0)
-      (λ e. let c = f .count in let z = ones-subset v 0 (λ p y. absurd (has-none p (subst (λ (i : ℕ). Has i p) e y))) in let o = ones-most 0 0 (λ p y. absurd (has-none p y)) in let r = f .room in omega arith)
+      (λ e.
+      let c = f .count in
+      let z = ones-subset v 0 (λ p y. absurd (has-none p (subst (λ (i : ℕ). Has i p) e y))) in
+      let o = ones-most 0 0 (λ p y. absurd (has-none p y)) in
+      let r = f .room in
+      omega arith)
       (λ e. omega arith)
 
   pub filling-step : (k : List ℕ) (r v w p : ℕ) → n ≤ 64 → r + 2 < n → Has v p → ((q : ℕ) → Has v q → p ≤ q)
@@ -150,8 +156,12 @@ module _ {n m : ℕ} {h : List ℕ} where
         room = omega arith;
         placed = record {
           one = λ a b held e. one a b held e;
-          inside = λ a held. by-cases (ℕ-discrete a p) (λ e. subst (λ (i : ℕ). i < n) (sym e) (at-p .0)) (λ e. f .placed .inside a (λ z. held (other a e ∙ z)));
-          most = λ a. by-cases (ℕ-discrete a p) (λ e. let x = here a e in omega arith) (λ e. let x = other a e in let y = f .placed .most a in omega arith);
+          inside =
+              λ a held. by-cases (ℕ-discrete a p) (λ e. subst (λ (i : ℕ). i < n) (sym e) (at-p .0))
+              (λ e. f .placed .inside a (λ z. held (other a e ∙ z)));
+          most =
+              λ a. by-cases (ℕ-discrete a p) (λ e. let x = here a e in omega arith)
+              (λ e. let x = other a e in let y = f .placed .most a in omega arith);
           every = λ a some le. by-cases (ℕ-discrete a (r + 1)) (λ e. (p, here p refl ∙ sym e)) (λ e. old a some (omega arith));
         };
         vacant = λ q. (
@@ -255,5 +265,7 @@ module _ {n m : ℕ} {h : List ℕ} where
         second-inside = b .0;
         first-vacant = a .1;
         second-vacant = b .1;
-        only = λ p l z. ones-third v (pair .one) (pair .two) p (omega arith) (omega arith) (pair .has-one) (pair .has-two) (f .vacant p .1 (l, z));
+        only =
+            λ p l z. ones-third v (pair .one) (pair .two) p (omega arith) (omega arith) (pair .has-one) (pair .has-two)
+            (f .vacant p .1 (l, z));
       }

@@ -76,7 +76,8 @@ module _ (F : Floor) {E : ℕ → ℕ → Type 0} (joins : (a b : ℕ) → E a b
     pub holds : HeldBy to k
     pub size : length to ≡ length A
 
-  led-then : {f i k : ℕ → ℕ} {a b : ℕ} {ms : List (ℕ × ℕ)} (A : Arrangement) → HeldBy A f → Move E f a b i → Led (afterMove A (a, b)) ms k → Led A ((a, b) ∷ ms) k
+  led-then : {f i k : ℕ → ℕ} {a b : ℕ} {ms : List (ℕ × ℕ)} (A : Arrangement) → HeldBy A f → Move E f a b i
+      → Led (afterMove A (a, b)) ms k → Led A ((a, b) ∷ ms) k
   led-then {a = a} {b = b} A h x r =
       record { to = r .to; leads = held-legal A h x then r .leads; holds = r .holds; size = r .size ∙ move-length A (a, b) }
 
@@ -98,7 +99,8 @@ same-list (x ∷ A) [] e same = absurd (clash e)
 same-list (x ∷ A) (y ∷ B) e same =
     ap₂ (λ (z : ℕ) (l : List ℕ). z ∷ l) (same 0 (omega arith)) (same-list A B (omega arith) (λ i l. same (suc i) (omega arith)))
 
-pub held-one : (A B : Arrangement) (f : ℕ → ℕ) → ((p q : ℕ) → f p ≢ 0 → f p ≡ f q → p ≡ q) → length A ≡ length B → HeldBy A f → HeldBy B f → A ≡ B
+pub held-one : (A B : Arrangement) (f : ℕ → ℕ) → ((p q : ℕ) → f p ≢ 0 → f p ≡ f q → p ≡ q) → length A ≡ length B → HeldBy A f
+    → HeldBy B f → A ≡ B
 held-one A B f one size a b =
     same-list A B size (λ i l.
     let x = a .racks i l in

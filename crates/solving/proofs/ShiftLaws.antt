@@ -17,24 +17,28 @@ use Rattle.graph.specs.Connected.{BiConnected}
 use Rattle.graph.specs.Rows.{Edge, Rows}
 use Rattle.shunting.specs.Went.{Went}
 use Rattle.shunting.specs.Went.Went.{stay, real, stand-in}
+use Rattle.shunting.specs.declared.State.{State}
 use Rattle.shunting.specs.Journey.{row, packedOn, onto, Trip, Journey}
 use Rattle.shunting.specs.Journey.Trail.{start}
 use Rattle.shunting.proofs.JourneyLaws.{journey-append}
 use Rattle.shunting.specs.Cleared.{Reaches, Cleared}
-use Rattle.settling.specs.Table.{Table}
-use Rattle.settling.proofs.TableLaws.{table-went, table-other}
-use Rattle.planning.specs.Shift.{Shift}
+use Rattle.shunting.specs.Table.{Table}
+use Rattle.shunting.proofs.TableLaws.{table-went, table-other}
+use Rattle.solving.specs.Shift.{aimed, TwoPositions, Shift}
 
-module _ {n : ℕ} (g : List ℕ) (bi : BiConnected n (Edge g)) (all x y : ℕ) (hx : x < n) (hy : y < n) (other : x ≢ y) (has : (p : ℕ) → Has all p ↔ (p < n)) where
-  pub reaches-first : (h : ℕ → ℕ) → Table n h → Reaches (Edge g) (Has all) h x
-  reaches-first h t =
-      let way = bi .connected x (t .first) hx (t .first-inside) in
+module _ {n : ℕ} (g : List ℕ) (bi : BiConnected n (Edge g)) {x y : ℕ} (two : TwoPositions n x y) (all : ℕ)
+    (has : (p : ℕ) → Has all p ↔ (p < n)) where
+  pub reaches-first : {h : ℕ → ℕ} → Table n h → Reaches (Edge g) (Has all) h x
+  reaches-first t =
+      let way = bi .connected x (t .first) (two .first) (t .first-inside) in
       record { to = t .first; size = way .size; walk = walk-inside (λ p l. has p .1 l) (way .walk); vacant = t .first-vacant }
 
-  pub reaches-second : (h : ℕ → ℕ) (free : ℕ) → ((p : ℕ) → Has free p ↔ (Has all p × (p ≢ x))) → Table n h → Reaches (Edge g) (Has free) h y
-  reaches-second h free less t =
+  pub reaches-second : {h : ℕ → ℕ} (free : ℕ) → ((p : ℕ) → Has free p ↔ (Has all p × (p ≢ x))) → Table n h
+      → Reaches (Edge g) (Has free) h y
+  reaches-second free less t =
       let z = table-other t x in
-      let way = bi .without x hx y (z .0) (record { there = hy; other = λ e. other (sym e) }) (record { there = z .1; other = z .2 }) in
+      let way = bi .without x (two .first) y (z .0)
+      (record { there = two .second; other = λ e. two .differ (sym e) }) (record { there = z .1; other = z .2 }) in
       record {
         to = z .0;
         size = way .size;
@@ -50,17 +54,15 @@ none-written (real {h = h} {a = a} m low w) = absurd (m .held (zero (h a) low))
     zero r l = omega arith
 none-written (stand-in m low w) = none-written w
 
-pub tail-kept : {g : List ℕ} {c : ℕ} {h t h′ t′ : List ℕ} {w′ : ℕ} → Trip g 0 c h t 0 h′ t′ w′ → t′ ≡ t
+pub tail-kept : {g : List ℕ} {c : ℕ} (k : List ℕ) {s : State} {t t′ : List ℕ} → Trip g c (aimed k) t s t′ → t′ ≡ t
 unfolding packedOn
-tail-kept {t = t} a = a .bytes ∙ ap (packedOn t 0) (none-written (a .went))
+tail-kept k {t = t} a = a .bytes ∙ ap (packedOn t 0) (none-written (a .went))
 
-module _ {n : ℕ} (g : List ℕ) (rows : Rows n g) (x y all free : ℕ) (has : (p : ℕ) → Has all p ↔ (p < n)) (less : (p : ℕ) → Has free p ↔ (Has all p × (p ≢ x)))
-    (t m k l l₁ l₂ s s₁ s₂ : List ℕ) (w₁ j₁ w₂ j₂ : ℕ) (table : Table n (row t)) where
-  pub mid-table : Journey g 0 (n - 1) t l s 0 0 m l₁ s₁ w₁ j₁ → Table n (row m)
-  mid-table a = table-went (rows .inside) (a .trip .went) table
-
-  pub shifted : length l ≡ 8256 → Journey g 0 (n - 1) t l s 0 0 m l₁ s₁ w₁ j₁ → Cleared (Has all) x (row t) (row m)
-      → Journey g 0 (n - 1) m l₁ s₁ w₁ j₁ k l₂ s₂ w₂ j₂ → Cleared (Has free) y (row m) (row k) → Shift n g x y t k l₂ j₂ × (s₂ ≡ s)
+module _ {n : ℕ} {g : List ℕ} (rows : Rows n g) (x y all free : ℕ) (less : (p : ℕ) → Has free p ↔ (Has all p × (p ≢ x))) (k : List ℕ)
+    (table : Table n (row k)) where
+  pub shifted : {s₁ s₂ : State} {l t l₁ t₁ l₂ t₂ : List ℕ} → length l ≡ 8256 → Journey g (n - 1) (aimed k) l t s₁ l₁ t₁
+      → Cleared (Has all) x (row k) (row (s₁ .racks)) → Journey g (n - 1) s₁ l₁ t₁ s₂ l₂ t₂
+      → Cleared (Has free) y (row (s₁ .racks)) (row (s₂ .racks)) → Shift n g x y k s₂ l₂ × (t₂ ≡ t)
   shifted long a c₁ b c₂ =
       let both = journey-append a b in (
         record {
@@ -74,5 +76,5 @@ module _ {n : ℕ} (g : List ℕ) (rows : Rows n g) (x y all free : ℕ) (has : 
           first = c₂ .outside x (λ f. less x .0 f .1 refl) ∙ c₁ .vacant;
           second = c₂ .vacant;
         },
-        tail-kept (both .trip),
+        tail-kept k (both .trip),
       )

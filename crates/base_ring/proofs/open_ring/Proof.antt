@@ -47,7 +47,7 @@ clear-requires c κs =
     let p = entry (c .before .before) .pre in
     let rows = p .0 in
     let circle = p .1 .0 in
-    let apart = p .1 .1 .0 in
+    let rest = p .1 .1 .0 in
     let three = circle .three in
     let small = rows .small in (
       rows,
@@ -56,7 +56,7 @@ clear-requires c κs =
         (
           ring-below rows circle _ part,
           (
-            ring-reaches rows circle _ part (apart .table) (open-filled rows circle apart) 0 (omega arith),
+            ring-reaches rows circle _ part (rest .table) (open-filled rows circle rest) 0 (omega arith),
             fits-anew _ (omega arith) (omega arith) (p .1 .1 .1),
           ),
         ),
@@ -80,19 +80,19 @@ clear-requires-2 c κs =
     let n = entry (parted clear) .args .circle .positions in
     let rows = p .0 in
     let circle = p .1 .0 in
-    let apart = p .1 .1 .0 in
+    let rest = p .1 .1 .0 in
     let three = circle .three in
     let small = rows .small in
     let m = clear .clear .ensures in
     let has = without .without .ensures in
-    let table = table-went (rows .inside) (m .0 .journey .trip .went) (apart .table) in (
+    let table = table-went (rows .inside) (m .0 .journey .trip .went) (rest .table) in (
       rows,
       (
         circle .below 1 (omega arith),
         (
           λ q h. ring-below rows circle _ part q (has q .0 h .0),
           (
-            ring-reaches-without rows circle _ part table (open-first rows circle apart _ part (m .1)) 0 1
+            ring-reaches-without rows circle _ part table (open-first rows circle rest _ part (m .1)) 0 1
                 (omega arith) (omega arith) (omega arith) _ has,
             fits-then (fits-anew (openMoves n) (omega arith) (omega arith) (p .1 .1 .1)) (m .0 .journey),
           ),
@@ -112,14 +112,14 @@ returns c =
     let p = entry (parted clear) .pre in
     let rows = p .0 in
     let circle = p .1 .0 in
-    let apart = p .1 .1 .0 in
+    let rest = p .1 .1 .0 in
     let m = clear .clear .ensures in
     let o = last .clear2 .ensures in
-    let one = table-went (rows .inside) (m .0 .journey .trip .went) (apart .table) in
+    let one = table-went (rows .inside) (m .0 .journey .trip .went) (rest .table) in
     let two = table-went (rows .inside) (o .0 .journey .trip .went) one in (
       trip-anew (trip-append (m .0 .journey .trip) (o .0 .journey .trip)),
       (
-        open-done rows circle apart _ part (m .1) _ (without .without .ensures) (o .1) two,
+        open-done rows circle rest _ part (m .1) _ (without .without .ensures) (o .1) two,
         o .0 .journey .log ∙ m .0 .journey .log,
       ),
     )

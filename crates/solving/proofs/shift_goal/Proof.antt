@@ -1,56 +1,97 @@
--- `planning::shift_goal` meets its contract.
+-- `solving::shift_goal` meets its contract.
 -- Assumes nothing.
 use Prim.Native.Nat.{_+_, _-_}
-use mathlib.Core.Path.{_∙_}
 use native.Mathlib.Omega.{arith}
-use Rattle.shunting.specs.Journey.{row}
-use Rattle.shunting.proofs.JourneyLaws.{fits-anew, fits-less, fits-then}
-use Rattle.planning.proofs.ShiftLaws.{reaches-first, reaches-second, mid-table, shifted}
-use Rattle.planning.proofs.shift_goal.Statement.{statement}
-use Rattle.planning.proofs.shift_goal.Tie as tie
+use borrow.Author.Needs.{needs}
+use Rattle.shunting.proofs.JourneyLaws.{fits-anew, fits-then}
+use Rattle.shunting.proofs.TableLaws.{table-went}
+use Rattle.solving.proofs.ShiftLaws.{reaches-first, reaches-second, shifted}
+use Rattle.solving.proofs.shift_goal.Statement.{statement}
+use Rattle.solving.proofs.shift_goal.Tie as tie
+
+-- The places behind each call, and the entry.
+abbrev entry : tie.After-below → tie.Start
+entry c = c .before .before .before
+
+abbrev all : tie.After-clear → tie.After-below
+all c = c .before .before .before
+
+abbrev cleared : tie.After-without → tie.After-clear
+cleared c = c .before .before .before
 
 below-requires : tie.Need-below-requires
-below-requires c κs = let s = c .before .pre .0 .small in omega arith
+below-requires c κs = search needs
 
 clear-requires : tie.Need-clear-requires
 clear-requires c κs =
-    let s = c .before .before .before .before .before in
-    let a = s .args in
-    let p = s .pre .1 .0 in
-    let below = c .before .before .before .below .ensures in
-    let small = s .pre .0 .small in
-    (s .pre .0, ((p .1, λ q h. below q .0 h, reaches-first (a .rows .now) (p .0) _ (a .x) (a .next) (p .1) (p .2) (p .3) below (row (a .goal .now)) (s .pre .1 .1 .0)), fits-anew (a .n - 1) (omega arith) (omega arith) (s .pre .1 .1 .1)))
+    let at = c .before .before in
+    let a = entry at .args in
+    let p = entry at .pre in
+    let rest = p .1 .1 in
+    let small = p .0 .small in
+    let has = at .below .ensures in (
+      p .0,
+      (
+        rest .0 .first,
+        (
+          λ q h. has q .0 h,
+          (
+            reaches-first (a .rows .now) (p .1 .0) (rest .0) _ has (rest .1 .0),
+            fits-anew (a .n - 1) (omega arith) (omega arith) (rest .1 .1),
+          ),
+        ),
+      ),
+    )
 
 without-requires : tie.Need-without-requires
-without-requires c κs = let s = c .before .before .before .before .before .before .before .before in let x = s .pre .1 .0 .1 in let small = s .pre .0 .small in omega arith
+without-requires c κs =
+    let p = entry (all (c .before .before)) .pre in
+    let x = p .1 .1 .0 .first in
+    let small = p .0 .small in
+    omega arith
 
 clear-requires-2 : tie.Need-clear-requires-2
 clear-requires-2 c κs =
-    let s = c .before .before .before .before .before .before .before .before .before .before .before .before in
-    let a = s .args in
-    let p = s .pre .1 .0 in
-    let below = c .before .before .before .before .before .before .before .before .before .before .below .ensures in
-    let less = c .before .before .before .without .ensures in
-    let cl = c .before .before .before .before .before .before .clear in
-    let small = s .pre .0 .small in
-    let mid = mid-table (a .rows .now) (s .pre .0) (a .x) (a .next) _ _ below less (a .goal .now) _ (a .goal .now) (a .back .now) _ (a .back .now) (a .tail .now) _ (a .tail .now) _ _ 0 0 (s .pre .1 .1 .0) (cl .ensures .0 .journey) in
-    (s .pre .0, ((p .2, λ q h. below q .0 (less q .0 h .0), reaches-second (a .rows .now) (p .0) _ (a .x) (a .next) (p .1) (p .2) (p .3) below _ _ less mid), fits-then (fits-anew ((a .n - 1) + (a .n - 1)) (omega arith) (omega arith) (s .pre .1 .1 .1)) (cl .ensures .0 .journey)))
+    let without = c .before .before in
+    let clear = cleared without in
+    let at = all clear in
+    let a = entry at .args in
+    let p = entry at .pre in
+    let rest = p .1 .1 in
+    let small = p .0 .small in
+    let has = at .below .ensures in
+    let less = without .without .ensures in
+    let m = clear .clear .ensures .0 .journey in
+    let table = table-went (p .0 .inside) (m .trip .went) (rest .1 .0) in (
+      p .0,
+      (
+        rest .0 .second,
+        (
+          λ q h. has q .0 (less q .0 h .0),
+          (
+            reaches-second (a .rows .now) (p .1 .0) (rest .0) _ has _ less table,
+            fits-then (fits-anew ((a .n - 1) + (a .n - 1)) (omega arith) (omega arith) (rest .1 .1)) m,
+          ),
+        ),
+      ),
+    )
 
 same-length : tie.Need-same-length
-same-length c = c .before .before .clear2 .kept .1 .1 .1 .1 .1 .1 .1 .0 ∙ c .before .before .before .before .before .before .before .before .before .clear .kept .1 .1 .1 .1 .1 .1 .1 .0
+same-length c = search needs
 
 returns : tie.Need-returns
 returns c =
-    let s = c .before .before .before .before .before .before .before .before .before .before .before .before .before .before .before in
-    let a = s .args in
-    let below = c .before .before .before .before .before .before .before .before .before .before .before .before .before .below .ensures in
-    let less = c .before .before .before .before .before .before .without .ensures in
-    let one = c .before .before .before .before .before .before .before .before .before .clear .ensures in
-    let two = c .before .before .clear2 .ensures in
-    shifted (a .rows .now) (s .pre .0) (a .x) (a .next) _ _ below less (a .goal .now) _ _ (a .back .now) _ _ (a .tail .now) _ _ _ _ _ _ (s .pre .1 .1 .0) (s .pre .1 .1 .1 .log)
+    let last = c .before .before in
+    let without = last .before .before .before in
+    let clear = cleared without in
+    let a = entry (all clear) .args in
+    let p = entry (all clear) .pre in
+    let rest = p .1 .1 in
+    let one = clear .clear .ensures in
+    let two = last .clear2 .ensures in
+    shifted (p .0) (a .x) (a .next) _ _ (without .without .ensures) (a .goal .now) (rest .1 .0) (rest .1 .1 .log)
     (one .0 .journey) (one .1) (two .0 .journey) (two .1)
 
 pub shift-goal-spec : {M : Type 1} → statement M
 shift-goal-spec =
-    tie.close
-    (tie.spec below-requires clear-requires without-requires clear-requires-2 same-length returns)
+    tie.close (tie.spec below-requires clear-requires without-requires clear-requires-2 same-length returns)
