@@ -23,9 +23,9 @@ use Rattle.breakdown.proofs.Examples.{inRow, inRow-is, floorF-breakdown}
 use Rattle.shunting.specs.Journey.{row}
 use Rattle.shunting.specs.Cleared.{Vacancy}
 use Rattle.shunting.proofs.TableExamples.{start, goal, start-table, goal-table}
-use Rattle.settling.specs.Lane.{Lane, Closed, Placing, Fetched}
+use Rattle.handles.specs.Lane.{HandleOn, BesideEnd, Closed, Placing, Fetched}
 
-pub laneF : Lane 4 (Edge floorF) (row inRow) 3 4 1 2
+pub laneF : HandleOn 4 (Edge floorF) (row inRow) 3 4 1 2
 laneF =
     record {
       robust = stage-robust (floorF-rows .symmetric) floorF-breakdown 0 (lit≤ tt);
@@ -97,6 +97,6 @@ openF = record { at = 1; there = in-stage 1 (lit< tt); vacant = refl }
 pub fetchedF : Fetched 4 (row inRow) (row goal) 3 4 0 1 (row start)
 fetchedF = record { placing = placingF; from = 0; in-stage = in-stage 0 (lit< tt); there = refl; vacancy = openF }
 
-pub besideF : Among (row inRow) 3 0 × _≢_ {A = ℕ} 1 0 × _≢_ {A = ℕ} 2 0 × Edge floorF 2 0
+pub besideF : BesideEnd (Edge floorF) (row inRow) 3 1 2 0
 unfolding floorF bit
-besideF = (in-stage 0 (lit< tt), (λ e. omega arith), (λ e. omega arith), refl)
+besideF = record { there = in-stage 0 (lit< tt); left = λ e. omega arith; right = λ e. omega arith; edge = refl }
