@@ -27,12 +27,13 @@ use Rattle.graph.specs.Connected.{BiConnected, Ring}
 use Rattle.graph.specs.Rows.{Edge, Rows}
 use Rattle.graph.specs.EdgeCount.{edgeCount}
 use Rattle.breakdown.specs.Answer.{Answer}
-use Rattle.moving.specs.Went.{Same}
-use Rattle.moving.proofs.WentLaws.{same-refl}
-use Rattle.moving.specs.Journey.{row, Packed, Trip}
-use Rattle.moving.proofs.JourneyLaws.{packed-nothing, trip-packed, went-written}
-use Rattle.planning.specs.Placed.{Placed, Filled}
-use Rattle.planning.proofs.Planned.{trip-planned}
+use Rattle.shunting.specs.declared.State.{State}
+use Rattle.shunting.specs.Went.{Same}
+use Rattle.shunting.proofs.WentLaws.{same-refl}
+use Rattle.shunting.specs.Journey.{row, Packed, Trip}
+use Rattle.shunting.proofs.JourneyLaws.{packed-nothing, trip-packed, went-written}
+use Rattle.solving.specs.Placed.{Placed, Filled}
+use Rattle.solving.proofs.Planned.{trip-planned}
 use Rattle.floor.specs.JoinedRows.{joinedRows}
 use Rattle.floor.proofs.JoinedRowsLaws.{rowsOf}
 use Rattle.floor.specs.FloorAnswer.{Joins}
@@ -90,11 +91,16 @@ module _ (o : List ℕ) (n e m : ℕ) (gave : OrderGave o n e m) where
             edge-joins (floorOf o) (gave .placed-well .edges-below) a b (subst (λ (x : List ℕ). Edge x a b) (filled-is o n e m gave g filled) edge),
           )
 
-      pub planned : (h k start goal start′ t t′ : List ℕ) (w : ℕ) → Holds (startsOf o) h → Holds (goalsOf o) k → (((p : ℕ) → p < 64 → row h p ≡ row k p) → ⊥)
+      -- the racks `start`, with those of the order real and nothing written yet
+      abbrev begun : List ℕ → State
+      begun start = record { racks = start; real = m; written = 0; logged = 0 }
+
+      pub planned : (h k start goal t : List ℕ) {t′ : List ℕ} {s : State} → Holds (startsOf o) h → Holds (goalsOf o) k
+          → (((p : ℕ) → p < 64 → row h p ≡ row k p) → ⊥)
           → Filled m (row h) (row start) → Filled m (row k) (row goal) → 12 * (n * (n * n)) ≤ length t
-          → Trip g m (8 * (n * (n * n))) start t 0 start′ t′ w → Same (row start′) (row goal)
-          → Moves o n t t′ w
-      planned h k start goal start′ t t′ w a b differ fa fb room trip ends =
+          → Trip g (8 * (n * (n * n))) (begun start) t s t′ → Same (row (s .racks)) (row goal)
+          → Moves o n t t′ (s .written)
+      planned h k start goal t a b differ fa fb room trip ends =
           let well = gave .placed-well in
           record {
             moves = trip .written;
@@ -102,7 +108,7 @@ module _ (o : List ℕ) (n e m : ℕ) (gave : OrderGave o n e m) where
             solves = record {
               few = (let x = went-written (trip .went) in let y = trip .few in omega arith);
               replayed =
-                  trip-planned (floorOf o) joins n m (startsOf o) (goalsOf o) (row h) (row k) (row start) (row goal)
+                  trip-planned (floorOf o) joins n (begun start) (startsOf o) (goalsOf o) (row h) (row k) (row start) (row goal)
                   (well .starts-length ∙ sym (well .goals-length)) (held-by a) (held-by b) (start-placed h a) (goal-placed k b) fa fb trip
                   (same-refl (row start)) ends;
               still = λ e. absurd (differ (same-tables e));

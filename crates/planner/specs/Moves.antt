@@ -10,7 +10,7 @@ use mathlib.Core.List.{List, []}
 use lib.ListN.{length}
 use Rattle.order.specs.Order.{floorOf, startsOf, goalsOf}
 use Rattle.motion.specs.Replay.{ended, replayMoves}
-use Rattle.moving.specs.Journey.{Packed}
+use Rattle.shunting.specs.Journey.{Packed}
 
 -- "If each start is its goal, the plan has no moves." The buffer that 23 asks for, 12 × n × n × n + 3 bytes, holds 8 × n × n × n moves.
 pub record Solves (o : List ℕ) (n : ℕ) (ms : List (ℕ × ℕ)) : Type 0 where

@@ -2,6 +2,7 @@
 // afterwards, specs/Moves.antt what is promised of the moves; `make` is the entry point.
 use answers::Fault;
 use floor::FloorVerdict;
+use shunting::State;
 ghost use mathlib.Core.Bool.{true};
 ghost use mathlib.Core.Logic.{_↔_};
 ghost use mathlib.Core.Path.{_≡_};
@@ -12,7 +13,7 @@ ghost use Rattle.answers.specs.Answer.{accepted, passUp};
 ghost use Rattle.tables.specs.Accepted.{OrderGave};
 ghost use Rattle.floor.specs.Plannable.{Plannable};
 ghost use Rattle.floor.specs.Verdict.{answerOf as floorAnswerOf};
-ghost use Rattle.moving.specs.Journey.{row};
+ghost use Rattle.shunting.specs.Journey.{row};
 ghost use Rattle.planner.specs.Moves.{Moves};
 ghost use Rattle.planner.specs.Planner.{PlanMade, answerOf};
 
@@ -49,11 +50,18 @@ fn plan_moves(order: &[u8], n: usize, e: usize, m: usize, tail: &mut [u8]) -> us
     if same_tables(&start, &goal) {
         return 0;
     }
-    planning::fill(n, m, &mut start);
-    planning::fill(n, m, &mut goal);
+    solving::fill(n, m, &mut start);
+    solving::fill(n, m, &mut goal);
     let rows = floor::rows_of(&order[3..], e);
     let found = breakdown::break_down(&rows, n);
-    planning::solve(&rows, n, found, &goal, m, &mut start, tail)
+    let state = State {
+        racks: start,
+        real: m,
+        written: 0,
+        logged: 0,
+    };
+    let end = solving::solve(&rows, n, found, &goal, state, tail);
+    end.written
 }
 
 // The floor judge's refusal as the planner's: the same fault at the same place.
