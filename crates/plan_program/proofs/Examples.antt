@@ -16,6 +16,7 @@ use mathlib.Core.List.{List, [], _∷_}
 use native.Mathlib.Omega.{arith}
 use lib.ListN.{length, getD, replicate, length-replicate}
 use lib.Dec.{lit≤}
+use Rattle.answers.specs.Ascii.{ascii}
 use Rattle.answers.specs.Answer.{accepted, refused}
 use Rattle.answers.specs.Family.{familyWord, within}
 use Rattle.field.specs.Bits.{bits, number, bitsOf, field, pairs, positions, pairBits, positionBits, pad, padded, bytes, toBytes}
@@ -28,7 +29,7 @@ use Rattle.order.specs.Order.{wrongPlaces, wrongRacks, counts, orderAnswer}
 use Rattle.order.specs.EdgeSets.{listed, isEdge, floorFrom}
 use Rattle.plan.proofs.Examples.{plan-open}
 use Rattle.plan.specs.Plan.{planBits, planRecord}
-use Rattle.writers.specs.Lines.{digits, decimal, space, newline, refusedText, refusalLine}
+use Rattle.writers.specs.Lines.{digits, decimal, refusalLine}
 use Rattle.floor.specs.FloorAnswer.{biConnected?, ring?, floorAnswer}
 use Rattle.floor.specs.Plannable.{Plannable}
 use Rattle.floor.proofs.FloorLaws.{plannable}
@@ -66,7 +67,7 @@ refusals-met = (refl, refl, refl, refl, refl, refl)
 -- refused 23 0 floor
 pub floor-line : refusalLine 23 0
     ≡ 114 ∷ 101 ∷ 102 ∷ 117 ∷ 115 ∷ 101 ∷ 100 ∷ 32 ∷ 50 ∷ 51 ∷ 32 ∷ 48 ∷ 32 ∷ 102 ∷ 108 ∷ 111 ∷ 111 ∷ 114 ∷ 10 ∷ []
-unfolding refusalLine refusedText space newline decimal digits familyWord within
+unfolding refusalLine decimal digits familyWord within ascii
 floor-line = refl
 
 abbrev moves₁ : List (ℕ × ℕ)

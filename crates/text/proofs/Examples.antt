@@ -9,12 +9,13 @@ use mathlib.Core.Path.{_≡_, refl}
 use mathlib.Core.List.{[], _∷_}
 use lib.ListN.{replicate}
 use lib.Dec.{lit≤}
+use Rattle.answers.specs.Ascii.{ascii}
 use Rattle.field.specs.Writing.{Fits}
 use Rattle.timetable.specs.Reading.{moveCount, WellPacked}
 use Rattle.timetable.specs.Timetable.{stepsOf}
 use Rattle.timetable.proofs.Inhabited.{timetable₁, steps₁, moves₁, packed₁}
-use Rattle.writers.specs.Lines.{digits, decimal, space, newline}
-use Rattle.text.specs.Text.{arrow, moveText, movesText, stepLine, stepLines, stepsText, movesWord, firstLine, timetableText}
+use Rattle.writers.specs.Lines.{digits, decimal}
+use Rattle.text.specs.Text.{moveText, movesText, stepLine, stepLines, firstLine, timetableText}
 
 -- steps 2 moves 4
 -- 1 0>1 3>2
@@ -23,20 +24,20 @@ pub example : timetableText (((0, 1) ∷ (3, 2) ∷ []) ∷ ((1, 3) ∷ (2, 0) �
     ≡ 115 ∷ 116 ∷ 101 ∷ 112 ∷ 115 ∷ 32 ∷ 50 ∷ 32 ∷ 109 ∷ 111 ∷ 118 ∷ 101 ∷ 115 ∷ 32 ∷ 52 ∷ 10
     ∷ 49 ∷ 32 ∷ 48 ∷ 62 ∷ 49 ∷ 32 ∷ 51 ∷ 62 ∷ 50 ∷ 10
     ∷ 50 ∷ 32 ∷ 49 ∷ 62 ∷ 51 ∷ 32 ∷ 50 ∷ 62 ∷ 48 ∷ 10 ∷ []
-unfolding timetableText firstLine stepLines stepLine movesText moveText stepsText movesWord space newline arrow decimal digits moveCount
+unfolding timetableText firstLine stepLines stepLine movesText moveText decimal digits moveCount ascii
 example = refl
 
 -- steps 0 moves 0
 pub no-steps : timetableText [] ≡ 115 ∷ 116 ∷ 101 ∷ 112 ∷ 115 ∷ 32 ∷ 48 ∷ 32 ∷ 109 ∷ 111 ∷ 118 ∷ 101 ∷ 115 ∷ 32 ∷ 48 ∷ 10 ∷ []
-unfolding timetableText firstLine stepLines stepsText movesWord space newline decimal digits moveCount
+unfolding timetableText firstLine stepLines decimal digits moveCount ascii
 no-steps = refl
 
 pub empty-step : stepLine 12 [] ≡ 49 ∷ 50 ∷ 10 ∷ []
-unfolding stepLine movesText newline decimal digits
+unfolding stepLine movesText decimal digits ascii
 empty-step = refl
 
 room₁ : Fits (replicate 40 0) 0 (timetableText steps₁)
-unfolding timetableText firstLine stepLines stepLine movesText moveText stepsText movesWord space newline arrow decimal digits moveCount
+unfolding timetableText firstLine stepLines stepLine movesText moveText decimal digits moveCount ascii
 room₁ = record { room = lit≤ tt }
 
 pub room-example : WellPacked timetable₁ × Fits (replicate 40 0) 0 (timetableText (stepsOf timetable₁))

@@ -13,6 +13,7 @@ use borrow.Author.Tests.{ltb-false}
 use lib.ListN.{length, getD, take, drop, length-append, length-drop}
 use lib.Seq.{getD-take}
 use lib.Dec.{ltb}
+use Rattle.answers.specs.Ascii.{ascii}
 use Rattle.field.specs.Bytes.{BelowPairs, none₂, more₂}
 use Rattle.field.proofs.RecordLaws.{pairs-lt}
 use Rattle.field.proofs.UnitLaws.{or-left, or-right}
@@ -21,12 +22,11 @@ use Rattle.timetable.specs.Timetable.{wrongTimetableLength}
 use Rattle.timetable.specs.Reading.{moveCount}
 use Rattle.timetable.proofs.StepLaws.{stepLength-some, stepLength-moves, length-moves}
 use Rattle.timetable.proofs.ReadingLaws.{count-steps, total-moves}
-use Rattle.writers.specs.Lines.{space, newline}
 use Rattle.writers.proofs.DecimalLaws.{length-decimal}
-use Rattle.text.specs.Text.{arrow, moveText, movesText, stepLine, stepLines, stepsText, movesWord, firstLine, timetableText}
+use Rattle.text.specs.Text.{moveText, movesText, stepLine, stepLines, firstLine, timetableText}
 
 moveText-short : (m : ℕ × ℕ) → m .0 < 64 → m .1 < 64 → length (moveText m) ≤ 6
-unfolding moveText space arrow
+unfolding moveText ascii
 moveText-short m h₀ h₁ =
     simp (length-append)
     (omega (arith, length-decimal 1 (m .0) (omega arith), length-decimal 1 (m .1) (omega arith)))
@@ -38,7 +38,7 @@ movesText-short (more₂ {p = m} {l = ms} h₀ h₁ b) =
     rw (length-append (moveText m) (movesText ms)) (omega (arith, moveText-short m h₀ h₁, movesText-short b))
 
 pub stepLine-short : (i : ℕ) {ms : List (ℕ × ℕ)} → i < 100000 → BelowPairs 64 ms → length (stepLine i ms) ≤ 6 + 6 * length ms
-unfolding stepLine newline
+unfolding stepLine ascii
 stepLine-short i {ms} h b =
     simp (length-append)
     (omega (arith, length-decimal 4 i h, movesText-short b))
@@ -87,7 +87,7 @@ counts-short (suc k) (c ∷ t) w =
     )
 
 firstLine-short : (s m : ℕ) → s < 100000 → m < 100000 → length (firstLine s m) ≤ 24
-unfolding firstLine stepsText movesWord newline
+unfolding firstLine ascii
 firstLine-short s m h k = simp (length-append) (omega (arith, length-decimal 4 s h, length-decimal 4 m k))
 
 pub timetableText-short : (s : List ℕ) → wrongTimetableLength s ≡ false → length s < 100000

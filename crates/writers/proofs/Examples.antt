@@ -9,9 +9,10 @@ use mathlib.Core.Path.{_≡_, refl}
 use mathlib.Core.List.{[], _∷_, _++_}
 use lib.ListN.{replicate}
 use lib.Dec.{lit≤}
+use Rattle.answers.specs.Ascii.{ascii}
 use Rattle.answers.specs.Family.{familyWord, within}
 use Rattle.field.specs.Writing.{written, Fits}
-use Rattle.writers.specs.Lines.{digits, decimal, space, newline, refusedText, refusalLine}
+use Rattle.writers.specs.Lines.{digits, decimal, refusalLine}
 
 pub decimals : (decimal 0 ≡ 48 ∷ []) × (decimal 9 ≡ 57 ∷ []) × (decimal 10 ≡ 49 ∷ 48 ∷ [])
     × (decimal 407 ≡ 52 ∷ 48 ∷ 55 ∷ []) × (digits 5 65536 ≡ 54 ∷ 53 ∷ 53 ∷ 51 ∷ 54 ∷ [])
@@ -21,19 +22,19 @@ decimals = (refl, refl, refl, refl, refl)
 -- refused 10 0 order
 pub lengthy : refusalLine 10 0
     ≡ 114 ∷ 101 ∷ 102 ∷ 117 ∷ 115 ∷ 101 ∷ 100 ∷ 32 ∷ 49 ∷ 48 ∷ 32 ∷ 48 ∷ 32 ∷ 111 ∷ 114 ∷ 100 ∷ 101 ∷ 114 ∷ 10 ∷ []
-unfolding refusalLine refusedText space newline decimal digits familyWord within
+unfolding refusalLine decimal digits familyWord within ascii
 lengthy = refl
 
 -- refused 33 2 plan
 pub moveless : refusalLine 33 2
     ≡ 114 ∷ 101 ∷ 102 ∷ 117 ∷ 115 ∷ 101 ∷ 100 ∷ 32 ∷ 51 ∷ 51 ∷ 32 ∷ 50 ∷ 32 ∷ 112 ∷ 108 ∷ 97 ∷ 110 ∷ 10 ∷ []
-unfolding refusalLine refusedText space newline decimal digits familyWord within
+unfolding refusalLine decimal digits familyWord within ascii
 moveless = refl
 
 pub room-refusal : Fits (replicate 32 0) 0 (refusalLine 10 0)
-unfolding refusalLine refusedText space newline decimal digits familyWord within
+unfolding refusalLine decimal digits familyWord within ascii
 room-refusal = record { room = lit≤ tt }
 
 pub left-refusal : written (replicate 22 7) 0 (refusalLine 10 0) ≡ refusalLine 10 0 ++ 7 ∷ 7 ∷ 7 ∷ []
-unfolding written refusalLine refusedText space newline decimal digits familyWord within
+unfolding written refusalLine decimal digits familyWord within ascii
 left-refusal = refl
