@@ -19,13 +19,12 @@ const CONTRACTS: [(&str, &[&str]); 4] = [
 ];
 
 /// The records that the main theorems state; of a file without names, all of it.
-const THEOREMS: [(&str, &[&str]); 7] = [
+const THEOREMS: [(&str, &[&str]); 6] = [
     ("crates/order/specs/Theorems.antt", &[]),
     ("crates/plan/specs/Solutions.antt", &[]),
     ("crates/timetable/specs/Solutions.antt", &[]),
     ("crates/motion/specs/LegalStep.antt", &[]),
     ("crates/floor/specs/Plannable.antt", &[]),
-    ("crates/breakdown/specs/Answer.antt", &[]),
     ("crates/scheduling/specs/Maker.antt", &["Timetabled"]),
 ];
 
