@@ -13,7 +13,7 @@ use lib.ListN.{length}
 use lib.Dec.{T, eqb, eqb→eq}
 use Rattle.answers.specs.Answer.{Answer, accepted, refused}
 use Rattle.field.specs.Bits.{bits, number, bitsOf, field, pairs, positions, pairBits, pad, padded, bytes, toBytes}
-use Rattle.field.specs.Units.{unitsLength, misfits, unclean}
+use Rattle.field.specs.Units.{recordLength, misfits, unclean}
 use Rattle.order.specs.Floor.{isPair, among, joined}
 use Rattle.order.specs.Order.{positionCount, edgeCount, rackCount, unitCount, floorOf, startsOf, goalsOf, orderOf, wrongLength, wrongPositions, paddingSet, some, badEdge, precedes, ascending, wrongEdges, repeats, wrongPlaces, wrongRacks, counts, orderAnswer}
 use Rattle.motion.specs.Arrangement.{occupied, vacant}
@@ -100,7 +100,7 @@ agrees-claims (plan-made order buffer a) t = let e = same-answer (refusals order
 
 -- the one computed test
 all-agree : T (every agrees starred)
-unfolding starred every agrees sameAnswer sameList planAnswer timetableAnswer refusals floorAnswer biConnected? ring? makerAnswer madeOf orderAnswer wrongLength misfits unitsLength unitCount wrongPositions paddingSet unclean pad wrongEdges some badEdge precedes ascending wrongRacks wrongPlaces repeats orderOf floorOf startsOf goalsOf counts positionCount edgeCount rackCount field number bitsOf bits pairs positions wrongPlanLength planPaddingSet moveCount planMoves judged misplaced replayMoves replaySteps replayFrom legalMove legalStep onFloor joined among isPair occupied vacant goesTo after afterMove ascends leaves enters enteredOnce led wrongTimetableLength wrongSteps stepLength stepCount timetablePaddingSet stepPadSet partsOf stepParts stepsOf stepMoves total timetableRecord timetableBits allStepBits stepBits toBytes bytes padded pairBits madeSteps timed stepFor ofRack ofLeaving rackAt rackFrom greatest stepsFrom movesIn inStep sort insert
+unfolding starred every agrees sameAnswer sameList planAnswer timetableAnswer refusals floorAnswer biConnected? ring? makerAnswer madeOf orderAnswer wrongLength misfits recordLength unitCount wrongPositions paddingSet unclean pad wrongEdges some badEdge precedes ascending wrongRacks wrongPlaces repeats orderOf floorOf startsOf goalsOf counts positionCount edgeCount rackCount field number bitsOf bits pairs positions wrongPlanLength planPaddingSet moveCount planMoves judged misplaced replayMoves replaySteps replayFrom legalMove legalStep onFloor joined among isPair occupied vacant goesTo after afterMove ascends leaves enters enteredOnce led wrongTimetableLength wrongSteps stepLength stepCount timetablePaddingSet stepPadSet partsOf stepParts stepsOf stepMoves total timetableRecord timetableBits allStepBits stepBits toBytes bytes padded pairBits madeSteps timed stepFor ofRack ofLeaving rackAt rackFrom greatest stepsFrom movesIn inStep sort insert
 all-agree = tt
 
 -- the one lemma

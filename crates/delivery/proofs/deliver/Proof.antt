@@ -4,7 +4,7 @@ use mathlib.Core.Path.{refl, sym, ap}
 use native.Mathlib.Omega.{arith}
 use lib.ListN.{take}
 use lib.Seq.{length-take-le}
-use Rattle.field.specs.Units.{unitsLength}
+use Rattle.field.specs.Units.{recordLength}
 use Rattle.delivery.specs.Delivery.{planLength, planAlone, timetableAlone}
 use Rattle.delivery.proofs.Calls.{both, plan-made, few-moves, plan-ends, timetable-ends, refused-plan, refused-timetable, all-called}
 use borrow.Author.Needs.{needs}
@@ -28,6 +28,11 @@ returns c = both (refused-plan _ (c .enum-told .given .1) (c .before .before .be
 
 mul-plan-end : tie.Need-mul-plan-end
 mul-plan-end c = omega (arith, few-moves (c .before .planned .given .1) (c .before .before .before .before .before .make .ensures))
+
+mul-plan-end-2 : tie.Need-mul-plan-end-2
+mul-plan-end-2 c =
+    let called = c .before .before .before in
+    omega (arith, few-moves (c .before .planned .given .1) (called .before .before .make .ensures))
 
 add-plan-end : tie.Need-add-plan-end
 add-plan-end c = omega (arith, few-moves (c .before .planned .given .1) (c .before .before .before .before .before .make .ensures))
@@ -58,7 +63,7 @@ same-length-3 : tie.Need-same-length-3
 same-length-3 c = search needs
 
 returns-2 : tie.Need-returns-2
-unfolding planAlone planLength unitsLength
+unfolding planAlone planLength recordLength
 returns-2 c =
     let plan = plan-made (c .before .before .before .before .before .before .before .before .planned .given .1) (c .before .before .before .before .before .before .before .before .before .before .before .before .make .ensures) in
     let maker = c .before .before .before .before .make2 in
@@ -83,7 +88,7 @@ same-length-5 : tie.Need-same-length-5
 same-length-5 c = search needs
 
 returns-3 : tie.Need-returns-3
-unfolding planAlone planLength unitsLength timetableAlone
+unfolding planAlone planLength recordLength timetableAlone
 returns-3 c =
     let plan = plan-made (c .before .before .before .before .before .before .before .before .before .before .before .before .before .planned .given .1) (c .before .before .before .before .before .before .before .before .before .before .before .before .before .before .before .before .before .make .ensures) in
     let maker = c .before .before .before .before .before .before .before .before .before .make2 in
@@ -101,6 +106,7 @@ deliver-spec =
     same-length
     returns
     mul-plan-end
+    mul-plan-end-2
     add-plan-end
     add-plan-end-2
     slice-reshare-prefix-make
