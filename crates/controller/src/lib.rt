@@ -46,8 +46,8 @@ pub extern "C" fn wichteab_order_check(order: &[u8]) -> u64
 pub extern "C" fn wichteab_floor_check(order: &[u8]) -> u64
     ensures { λ r. ⌜ Tells nothing nothingOf (floorAnswer (now (order .entry))) r ⌝ }
 {
-    match floor::judge(order) {
-        FloorVerdict::Accepted => 0,
+    match floor::check(order) {
+        FloorVerdict::Accepted(_) => 0,
         FloorVerdict::Refused(fault, place) => refusal(fault, place),
     }
 }

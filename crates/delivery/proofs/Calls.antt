@@ -14,7 +14,7 @@ use native.Mathlib.Omega.{arith}
 use lib.ListN.{length, take}
 use Rattle.answers.specs.Answer.{accepted}
 use Rattle.answers.specs.declared.Fault.{Fault}
-use Rattle.field.specs.Units.{unitsLength}
+use Rattle.field.specs.Units.{recordLength}
 use Rattle.timetable.specs.Timetable.{timetableAnswer}
 use Rattle.timetable.specs.RecordLength.{wholeTimetableLength}
 use Rattle.timetable.specs.Checking.{answerOfCheck}
@@ -41,8 +41,8 @@ module _ {o P P′ : List ℕ} where
     pub few-moves : k < 2 ^ 22
     few-moves = moves-few (plan-made e h)
 
-    pub plan-ends : 3 + (12 * k + 7) / 8 ≤ length P′
-    unfolding planLength unitsLength
+    pub plan-ends : 3 + (6 * (2 * k) + 7) / 8 ≤ length P′
+    unfolding planLength recordLength
     plan-ends = plan-within (plan-made e h)
 
 pub timetable-ends : (T : List ℕ) {n : ℕ} → n ≡ wholeTimetableLength T → n ≤ length T

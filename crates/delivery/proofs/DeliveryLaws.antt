@@ -18,7 +18,7 @@ use lib.ListN.{length, take, drop, length-append}
 use lib.Seq.{take-at}
 use Rattle.answers.specs.Answer.{Answer, accepted, refused}
 use Rattle.answers.proofs.AnswerLaws.{passUp-accepted}
-use Rattle.field.specs.Units.{unitsLength}
+use Rattle.field.specs.Units.{recordLength}
 use Rattle.field.proofs.UnitLaws.{fitting}
 use Rattle.field.specs.Writing.{written}
 use Rattle.field.proofs.WritingLaws.{written-front}
@@ -51,11 +51,11 @@ none-refuses o P can room =
 -- the plan of moves that solve an order which can be planned
 module _ (o : List ℕ) (can : Plannable o) (ms : List (ℕ × ℕ)) (solves : Solves o (positionCount o) ms) (P : List ℕ) where
   plan-long : length (planRecord ms) ≡ planLength (length ms)
-  unfolding planLength unitsLength wrongPlanLength
+  unfolding planLength recordLength wrongPlanLength
   plan-long =
       let right = packed o can ms solves in
-      fitting (planRecord ms) (moveCount (planRecord ms)) (right .length-right) .length-is
-      ∙ ap (λ (k : ℕ). unitsLength k) (right .count-is)
+      fitting (planRecord ms) (2 * moveCount (planRecord ms)) (right .length-right) .length-is
+      ∙ ap (λ (k : ℕ). recordLength (2 * k)) (right .count-is)
 
   written-within : planLength (length ms) ≤ length (written P 0 (planRecord ms))
   written-within =

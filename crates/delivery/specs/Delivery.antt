@@ -19,7 +19,7 @@ use mathlib.Core.Path.{_≡_}
 use mathlib.Core.List.{List, [], _∷_}
 use lib.ListN.{length, take}
 use Rattle.answers.specs.Answer.{Answer, accepted, refused}
-use Rattle.field.specs.Units.{unitsLength}
+use Rattle.field.specs.Units.{recordLength}
 use Rattle.field.specs.Writing.{written}
 use Rattle.order.specs.Order.{positionCount, floorOf, startsOf, goalsOf}
 use Rattle.motion.specs.Replay.{ended, replayMoves}
@@ -47,7 +47,7 @@ pub record Answers : Type 0 where
 
 -- "Plan: move count k in 22 bits, two spare zero bits, k moves, pad."
 unfoldable pub planLength : ℕ → ℕ
-planLength k = unitsLength k
+planLength k = recordLength (2 * k)
 
 unfoldable pub planAlone : ℕ → List ℕ → List ℕ
 planAlone k P = take (planLength k) P

@@ -7,17 +7,17 @@
 --     short, order-refused, not-found, found    what is shown: nothing in too short a buffer, of a refused order or
 --                                               where there is none; else it
 -- Assumes nothing.
-use Prim.Native.Nat.{ℕ, zero, suc, _+_, _-_, _*_, _≤_, _<_}
+use Prim.Native.Nat.{ℕ, zero, suc, _+_, _*_, _≤_, _<_}
 use mathlib.Core.Path.{_≡_, refl, ap, subst, _∙_}
 use mathlib.Core.List.{List, [], _∷_}
 use mathlib.Core.Logic.{_↔_}
 use native.Mathlib.Numerals.{add-one}
 use native.Mathlib.Nat.{not-suc-le-zero}
 use native.Mathlib.Omega.{arith}
-use lib.ListN.{length, take, drop, replicate}
+use lib.ListN.{length}
 use Rattle.answers.specs.Answer.{accepted, refused}
-use Rattle.field.specs.Bits.{pairs}
 use Rattle.order.specs.Order.{floorOf, counts, orderAnswer}
+use Rattle.order.specs.Tables.{rowsOf, decodedRows}
 use Rattle.order.proofs.OrderLaws.{accepted-is}
 use Rattle.tables.specs.Accepted.{OrderGave}
 use Rattle.tables.proofs.AcceptedLaws.{order-gave}
@@ -27,8 +27,6 @@ use Rattle.breakdown.specs.Breakdown.{Handle, Breakdown}
 use Rattle.breakdown.specs.Building.{row}
 use Rattle.breakdown.specs.Answer.{Answer}
 use Rattle.floor.specs.FloorAnswer.{Joins}
-use Rattle.floor.specs.JoinedRows.{joinedRows}
-use Rattle.floor.proofs.JoinedRowsLaws.{rowsOf}
 use Rattle.floor.proofs.FloorRows.{edge-joins, biConnected-rows, filled-is, filled-rows}
 use Rattle.floor.proofs.EdgesCounted.{ring-rows}
 use Rattle.inspection.specs.Inspection.{upTo, LaidOut, Breaks, Inspected}
@@ -89,8 +87,7 @@ order-refused o old number place f = nothing-shown o old (λ b. never (f ∙ acc
     never : refused number place ≡ accepted (counts o) → ⊥
     never e = let z : _≡_ {A = ℕ} 0 1 = cc in omega arith
 
-module _ (o : List ℕ) (n e m : ℕ) (a : accepted (n ∷ e ∷ m ∷ []) ≡ orderAnswer o) (g : List ℕ)
-    (filled : g ≡ joinedRows (replicate 64 0) (pairs (take (length o - 3) (drop 3 o)) 0 e)) where
+module _ (o : List ℕ) (n e m : ℕ) (a : accepted (n ∷ e ∷ m ∷ []) ≡ orderAnswer o) (g : List ℕ) (filled : g ≡ decodedRows o) where
   pub gave : OrderGave o n e m
   gave = order-gave o n e m a
 

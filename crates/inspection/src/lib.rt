@@ -69,13 +69,14 @@ pub extern "C" fn wichteab_inspect_breakdown(order: &[u8], buffer: &mut [u8]) ->
     if buffer.len() < 256 {
         return 0;
     }
-    let below = order::read(order);
+    let mut rows = [0u64; 64];
+    let mut starts = [0u8; 64];
+    let mut goals = [0u8; 64];
+    let below = order::decode(order, &mut rows, &mut starts, &mut goals);
     let OrderVerdict::Accepted(counts) = below else {
         return 0;
     };
     let n = counts.positions;
-    let e = counts.edges;
-    let rows = floor::rows_of(&order[3..], e);
     let found = breakdown::break_down(&rows, n);
     let ring = found.ring;
     let handles = found.handles;

@@ -20,7 +20,7 @@ use Rattle.answers.specs.Ascii.{ascii}
 use Rattle.answers.specs.Answer.{accepted, refused}
 use Rattle.answers.specs.Family.{familyWord, within}
 use Rattle.field.specs.Bits.{bits, number, bitsOf, field, pairs, positions, pairBits, positionBits, pad, padded, bytes, toBytes}
-use Rattle.field.specs.Units.{unitsLength, misfits, unclean}
+use Rattle.field.specs.Units.{recordLength, misfits, unclean}
 use Rattle.field.specs.Writing.{written}
 use Rattle.order.specs.Floor.{isPair, among, joined}
 use Rattle.order.specs.Order.{orderBits, orderRecord, positionCount, edgeCount, rackCount, unitCount, floorOf, startsOf, goalsOf, orderOf}
@@ -46,7 +46,7 @@ allOfEighteen = orderRecord (record { floor = floorFrom 18 (λ a b. true); start
 -- the hypotheses of `printed-large` hold of something
 pub large : Plannable allOfEighteen × (18 ≤ positionCount allOfEighteen)
 unfolding allOfEighteen orderRecord orderBits floorFrom listed isEdge bits pairBits positionBits toBytes padded pad bytes floorAnswer
-    biConnected? ring? joined among isPair orderAnswer wrongLength misfits unitsLength unitCount wrongPositions paddingSet unclean
+    biConnected? ring? joined among isPair orderAnswer wrongLength misfits recordLength unitCount wrongPositions paddingSet unclean
     wrongEdges some badEdge precedes ascending wrongRacks wrongPlaces repeats orderOf floorOf startsOf goalsOf counts positionCount
     edgeCount rackCount field number bitsOf pairs positions
 large = (plannable allOfEighteen [] refl, lit≤ tt)
@@ -59,7 +59,7 @@ pub refusals-met :
     × (refusals allOfEighteen 65536 ≡ refused 23 0)
     × (refusals twoRacks 65536 ≡ accepted [])
 unfolding refusals allOfEighteen orderRecord orderBits floorFrom listed isEdge bits pairBits positionBits toBytes padded pad bytes
-    floorAnswer biConnected? ring? joined among isPair orderAnswer wrongLength misfits unitsLength unitCount wrongPositions paddingSet
+    floorAnswer biConnected? ring? joined among isPair orderAnswer wrongLength misfits recordLength unitCount wrongPositions paddingSet
     unclean wrongEdges some badEdge precedes ascending wrongRacks wrongPlaces repeats orderOf floorOf startsOf goalsOf counts positionCount
     edgeCount rackCount field number bitsOf pairs positions
 refusals-met = (refl, refl, refl, refl, refl, refl)

@@ -4,7 +4,7 @@ use mathlib.Core.Path.{refl, sym, ap}
 use native.Mathlib.Omega.{arith}
 use lib.ListN.{take}
 use lib.Seq.{length-take-le}
-use Rattle.field.specs.Units.{unitsLength}
+use Rattle.field.specs.Units.{recordLength}
 use Rattle.delivery.specs.Delivery.{planLength, planAlone, timetableAlone}
 use Rattle.delivery.proofs.Calls.{both, plan-made, few-moves, plan-ends, timetable-ends, refused-plan, refused-timetable, all-called}
 use borrow.Author.Needs.{needs}
@@ -32,6 +32,11 @@ mul-plan-end : tie.Need-mul-plan-end
 mul-plan-end c =
     let match = c .before .before in let make = match .before .before .before in
     omega (arith, few-moves (c .before .planned .given .1) (make .make .ensures))
+
+mul-plan-end-2 : tie.Need-mul-plan-end-2
+mul-plan-end-2 c =
+    let called = c .before .before .before in
+    omega (arith, few-moves (c .before .planned .given .1) (called .before .before .make .ensures))
 
 add-plan-end : tie.Need-add-plan-end
 add-plan-end c =
@@ -69,7 +74,7 @@ same-length-3 : tie.Need-same-length-3
 same-length-3 c = search needs
 
 returns-2 : tie.Need-returns-2
-unfolding planAlone planLength unitsLength
+unfolding planAlone planLength recordLength
 returns-2 c =
     let timetable = c .before .before .before in let make2 = timetable .before in
     let known-told = make2 .before .before .before in let planned = known-told .before in
@@ -97,7 +102,7 @@ same-length-5 : tie.Need-same-length-5
 same-length-5 c = search needs
 
 returns-3 : tie.Need-returns-3
-unfolding planAlone planLength unitsLength timetableAlone
+unfolding planAlone planLength recordLength timetableAlone
 returns-3 c =
     let record-length = c .before .before in let made = record-length .before .before .before in
     let timetable = made .before .before .before in let make2 = timetable .before in
@@ -120,6 +125,7 @@ deliver-spec =
     same-length
     returns
     mul-plan-end
+    mul-plan-end-2
     add-plan-end
     add-plan-end-2
     slice-reshare-prefix-make
