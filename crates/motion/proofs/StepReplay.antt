@@ -25,7 +25,8 @@ abbrev pub StepsLead : Floor → ℕ → Arrangement → List (List (ℕ × ℕ)
 StepsLead F n A steps G = replayFrom (stepFault (legalStep? F)) after n A steps ≡ ended G
 
 module _ (F : Floor) where
-  pub steps-lead : (n : ℕ) (A : Arrangement) (steps : List (List (ℕ × ℕ))) (G : Arrangement) → StepsLead F n A steps G ↔ LeadsSteps F A steps G
+  pub steps-lead : (n : ℕ) (A : Arrangement) (steps : List (List (ℕ × ℕ))) (G : Arrangement)
+      → StepsLead F n A steps G ↔ LeadsSteps F A steps G
   steps-lead = replay-ended (stepFault (legalStep? F)) (legalStep F) after (stepFault-none F)
 
   pub replay-none : (n : ℕ) (A G : Arrangement) → StepsLead F n A [] G ↔ (A ≡ G)

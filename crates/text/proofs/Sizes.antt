@@ -21,7 +21,7 @@ use Rattle.field.proofs.RecordLaws.{pairs-lt}
 use Rattle.field.proofs.UnitLaws.{or-left, or-right}
 use Rattle.field.specs.Writing.{Fits}
 use Rattle.timetable.specs.Timetable.{stepLength, stepCount, wrongSteps, stepParts, partsOf, stepMoves, stepsOf, total, wrongTimetableLength}
-use Rattle.timetable.specs.Reading.{moveCount}
+use Rattle.timetable.specs.Reading.{moveTotal}
 use Rattle.timetable.proofs.StepLaws.{stepLength-some, stepLength-moves, length-moves}
 use Rattle.timetable.proofs.ReadingLaws.{count-steps, total-moves}
 use Rattle.text.specs.Text.{space, newline, arrow, refusedText, refusalLine, moveText, movesText, stepLine, stepLines, stepsText, movesWord, firstLine, timetableText}
@@ -96,8 +96,8 @@ timetableText-short s w h =
     let right = or-right (ltb (length s) 3) _ w in
     let counts = counts-short (stepCount s) (drop 3 s) right in
     let lines = lines-short (stepCount s) 1 (drop 3 s) right (omega (arith, counts .0, length-drop 3 s)) in
-    let first = firstLine-short (length (stepsOf s)) (moveCount (stepsOf s)) (omega (arith, count-steps s, counts .0, length-drop 3 s)) (omega (arith, total-moves s, counts .1, length-drop 3 s)) in
-    rw (length-append (firstLine (length (stepsOf s)) (moveCount (stepsOf s))) (stepLines 1 (stepsOf s))) (omega (arith, first, lines, length-drop 3 s))
+    let first = firstLine-short (length (stepsOf s)) (moveTotal (stepsOf s)) (omega (arith, count-steps s, counts .0, length-drop 3 s)) (omega (arith, total-moves s, counts .1, length-drop 3 s)) in
+    rw (length-append (firstLine (length (stepsOf s)) (moveTotal (stepsOf s))) (stepLines 1 (stepsOf s))) (omega (arith, first, lines, length-drop 3 s))
 
 familyWord-short : (n : ℕ) → length (familyWord n) ≤ 9
 unfolding familyWord

@@ -16,7 +16,7 @@ use mathlib.Core.List.{List, [], _∷_, _++_}
 use lib.ListN.{length}
 use lib.Dec.{ltb}
 use Rattle.answers.specs.Family.{familyWord}
-use Rattle.timetable.specs.Reading.{moveCount}
+use Rattle.timetable.specs.Reading.{moveTotal}
 
 -- a number below 10 is one digit; of any other the last digit stands behind those of its tenth part
 unfoldable pub digits : ℕ → ℕ → List ℕ
@@ -77,4 +77,4 @@ unfoldable pub firstLine : ℕ → ℕ → List ℕ
 firstLine steps moves = stepsText ++ decimal steps ++ movesWord ++ decimal moves ++ newline
 
 unfoldable pub timetableText : List (List (ℕ × ℕ)) → List ℕ
-timetableText l = firstLine (length l) (moveCount l) ++ stepLines 1 l
+timetableText l = firstLine (length l) (moveTotal l) ++ stepLines 1 l

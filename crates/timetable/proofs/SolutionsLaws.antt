@@ -31,7 +31,7 @@ use Rattle.motion.specs.StepSolutions.{stepsBetween}
 use Rattle.motion.proofs.StepSolutionsLaws.{OnlySteps, solution-replay, solutions-iff}
 use Rattle.tables.proofs.AcceptedLaws.{well-placed}
 use Rattle.timetable.specs.Timetable.{timetableRecord, stepCount, partsOf, stepsOf, total, timetableAnswer}
-use Rattle.timetable.specs.Reading.{readingAnswer, moveCount}
+use Rattle.timetable.specs.Reading.{readingAnswer, moveTotal}
 use Rattle.timetable.proofs.ReadingLaws.{well-packed, reading-accepted, count-steps, total-moves, timetableAnswer-is}
 use Rattle.timetable.proofs.TimetableRecord.{Steps, no-steps, one-step, Packable, record-bytes, stepsOf-record, record-well-packed, record-only}
 use Rattle.timetable.specs.Solutions.{SolutionOf, arrangements, AcceptedTimetable, OnlyTimetable}
@@ -118,8 +118,8 @@ module _ (o : List ℕ) (w : WellFormed o) (ζ : ℕ) (S : List Arrangement) (fe
   the-count : stepCount the-record ≡ ζ
   the-count = sym (count-steps the-record) ∙ ap length the-moves ∙ the-steps .count
 
-  the-total : total (partsOf the-record) ≡ moveCount (stepsBetween S)
-  the-total = sym (total-moves the-record) ∙ ap moveCount (the-moves ∙ the-steps .between)
+  the-total : total (partsOf the-record) ≡ moveTotal (stepsBetween S)
+  the-total = sym (total-moves the-record) ∙ ap moveTotal (the-moves ∙ the-steps .between)
 
   the-trace : arrangements o the-record ≡ S
   the-trace = ap (trace after (startsOf o)) the-moves ∙ the-steps .traced
@@ -130,7 +130,7 @@ module _ (o : List ℕ) (w : WellFormed o) (ζ : ℕ) (S : List Arrangement) (fe
         timetable = the-record;
         are-bytes = record-bytes (the-steps .steps);
         described = the-trace;
-        is-accepted = accepted-from o the-record (ζ ∷ moveCount (stepsBetween S) ∷ [])
+        is-accepted = accepted-from o the-record (ζ ∷ moveTotal (stepsBetween S) ∷ [])
             (record {
               order-right = w;
               packed-right = record-well-packed (the-steps .steps) can-pack;

@@ -20,7 +20,7 @@ use Rattle.motion.specs.Replay.{trace}
 use Rattle.motion.specs.ParallelPathFinding.{Solution}
 use Rattle.motion.specs.StepSolutions.{stepsBetween}
 use Rattle.timetable.specs.Timetable.{stepCount, partsOf, stepsOf, total, timetableAnswer}
-use Rattle.timetable.specs.Reading.{WellPacked, moveCount}
+use Rattle.timetable.specs.Reading.{WellPacked, moveTotal}
 
 abbrev pub SolutionOf : List ℕ → ℕ → List Arrangement → Type 0
 SolutionOf o ζ S = Solution (floorOf o) (rackCount o) (startsOf o) (goalsOf o) ζ S
@@ -40,5 +40,5 @@ pub record OnlyTimetable (o : List ℕ) (ζ : ℕ) (S : List Arrangement) : Type
   pub timetable : List ℕ
   pub are-bytes : Bytes timetable
   pub described : arrangements o timetable ≡ S
-  pub is-accepted : timetableAnswer o timetable ≡ accepted (ζ ∷ moveCount (stepsBetween S) ∷ [])
+  pub is-accepted : timetableAnswer o timetable ≡ accepted (ζ ∷ moveTotal (stepsBetween S) ∷ [])
   pub only : (s v : List ℕ) → Bytes s → timetableAnswer o s ≡ accepted v → arrangements o s ≡ S → s ≡ timetable
