@@ -119,7 +119,7 @@ module _ {Fits : List ℕ → Type 0} where
   unfolding judged
   judged-sized off G v (stopped f j) n some few goals stops short fits =
       let t = stops f j refl in
-      refuses (t .some) (t .few) (omega (arith, t .near))
+      refuses {number = f} {place = j} (t .some) (t .few) (omega (arith, t .near))
   judged-sized off G v (ended A) n some few goals stops short fits =
       refuse-sized (not (eqb (misplaced 1 A G) 0)) off (misplaced 1 A G) (accepted v) some few (omega (arith, misplaced-small 1 A G))
       (λ none. accepts fits)

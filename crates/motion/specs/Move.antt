@@ -2,8 +2,8 @@
 --
 --     onFloor F m       both positions of m are below n and an edge joins them
 --     legalMove F A m   m is legal on the arrangement A of the floor F
---     faultBy j h v     a move's fault by what makes it legal: it joins two positions, a rack is held, the other is vacant
---     moveFault F A m   the fault of the move m: its number, or 0 where it is legal
+--     faultBy j h v     a move's fault by its tests: its positions are joined, the first holds a rack, the second is vacant
+--     moveFault F A m   the fault of the move m on the arrangement A of the floor F: its number, or 0 where it is legal
 --     goesTo ms p       where a rack that stands at p is taken by the moves ms, made all at once
 --     after A ms        the arrangement that the moves ms, made all at once, make of A
 --     afterMove A m     the arrangement that the one move m makes of A
@@ -23,7 +23,7 @@ onFloor F m = ltb (m .0) (F .positions) && ltb (m .1) (F .positions) && joined F
 unfoldable pub legalMove : Floor → Arrangement → ℕ × ℕ → Bool
 legalMove F A m = onFloor F m && occupied A (m .0) && vacant A (m .1)
 
--- 32: "this move, the first such, is not legal at its turn"
+-- the same as a number of the table: 32, "this move, the first such, is not legal at its turn"
 unfoldable pub faultBy : Bool → Bool → Bool → ℕ
 faultBy false holds free = 32
 faultBy true false free = 32

@@ -67,6 +67,11 @@ meets-31 : planAnswer caseBook (0x00 ∷ 0x00 ∷ 0x04 ∷ 0x00 ∷ 0x11 ∷ [])
 unfolding plan-open
 meets-31 = refl
 
+-- 0>1 and 3>0, which no edge joins
+meets-32-edge : planAnswer caseBook (0x00 ∷ 0x00 ∷ 0x08 ∷ 0x00 ∷ 0x10 ∷ 0xC0 ∷ []) ≡ refused 32 2
+unfolding plan-open
+meets-32-edge = refl
+
 -- 0>1 and again 0>1, which no rack can make
 meets-32 : planAnswer caseBook (0x00 ∷ 0x00 ∷ 0x08 ∷ 0x00 ∷ 0x10 ∷ 0x01 ∷ []) ≡ refused 32 2
 unfolding plan-open

@@ -44,7 +44,8 @@ abbrev pub plan : List (ℕ × ℕ)
 plan = (0, 1) ∷ (3, 2) ∷ (2, 0) ∷ (1, 3) ∷ []
 
 pub solves-met : Solves twoRacks 4 plan
-unfolding replayMoves replayFrom moveFault faultBy onFloor joined among isPair occupied vacant afterMove after goesTo floorOf startsOf goalsOf positionCount edgeCount rackCount field number bitsOf bits pairs positions
+unfolding replayMoves replayFrom moveFault faultBy onFloor joined among isPair occupied vacant afterMove after goesTo floorOf startsOf
+    goalsOf positionCount edgeCount rackCount field number bitsOf bits pairs positions
 solves-met = record { few = lit≤ tt; replayed = refl; still = λ e. absurd (apart (ap (λ (l : List ℕ). getD l 0 0) e)) }
   where
     apart : _≡_ {A = ℕ} 0 3 → ⊥

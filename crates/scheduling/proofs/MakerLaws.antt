@@ -131,7 +131,8 @@ module _ (o p v : List ℕ) (e : planAnswer o p ≡ accepted v) where
   made-replayed = rw (stepsOf-record (madeOf o p) made-packable) (unfold madeOf in made-of .replayed)
 
   at-goals : (v : List ℕ) → judged 43 (goalsOf o) v (ended (goalsOf o)) ≡ accepted v
-  at-goals v = judged-accepted 43 (goalsOf o) v v (ended (goalsOf o)) (λ A q. let g : goalsOf o ≡ A = cc in ap length (sym g)) .1 (refl, refl)
+  at-goals v =
+      judged-accepted 43 (goalsOf o) v v (ended (goalsOf o)) (λ A q. let g : goalsOf o ≡ A = cc in ap length (sym g)) .1 (refl, refl)
 
   made-checked : timetableAnswer o (timetableRecord (madeOf o p)) ≡ accepted (greatest (timed (startsOf o) [] (planMoves p)) ∷ moveCount p ∷ [])
   unfolding timetableAnswer

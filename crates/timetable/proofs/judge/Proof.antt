@@ -28,7 +28,8 @@ returns c =
     let read = marked .before .before in
     let entry = read .before .before .args in
     stopped (entry .order .now) (entry .e) (entry .m) (entry .timetable .now) (entry .steps ∷ entry .moves ∷ []) _ _
-    (marked .mark-edges .ensures) (placed .place-racks .ensures) (ran .replay .result) _ (ran .replay .ensures) _ _ (c .before .replayed .given .1)
+    (marked .mark-edges .ensures) (placed .place-racks .ensures) (ran .replay .result) _ (ran .replay .ensures) _ _
+    (c .before .replayed .given .1)
 
 enum-told : tie.Need-enum-told
 enum-told c = search needs
