@@ -49,7 +49,7 @@ use Rattle.scheduling.specs.Making.{timed, greatest, madeSteps}
 use Rattle.scheduling.proofs.Made.{Made, made}
 use Rattle.scheduling.specs.Rows.{stepsBytes}
 use Rattle.scheduling.proofs.RecordBytes.{record-bytes}
-use Rattle.scheduling.specs.Maker.{madeOf, makerAnswer, bufferAfter, leaves, Timetabled}
+use Rattle.scheduling.specs.Maker.{madeOf, makerAnswer, bufferAfter, afterAnswer, Timetabled}
 
 pub record PlanGave (o p v : List ℕ) : Type 0 where
   pub order-right : WellFormed o
@@ -169,4 +169,4 @@ pub maker-record : (o p B v : List ℕ) → makerAnswer o p (length B) ≡ accep
     → (bufferAfter o p B ≡ timetableRecord (madeOf o p) ++ drop (length (timetableRecord (madeOf o p))) B) × Timetabled o p
 unfolding bufferAfter
 maker-record o p B v e =
-    (ap (λ (a : Answer). leaves a (timetableRecord (madeOf o p)) B) e, timetabled o p (moveCount p ∷ []) (maker-gave o p (length B) v e .plan-accepted))
+    (ap (λ (a : Answer). afterAnswer a (timetableRecord (madeOf o p)) B) e, timetabled o p (moveCount p ∷ []) (maker-gave o p (length B) v e .plan-accepted))

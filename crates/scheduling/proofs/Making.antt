@@ -34,14 +34,14 @@ use Rattle.scheduling.proofs.FillingLaws.{latest-few}
 use Rattle.scheduling.specs.Windows.{allSteps}
 use Rattle.scheduling.proofs.TabledSteps.{latest-rule, allSteps-made}
 use Rattle.scheduling.proofs.RecordBytes.{record-bytes}
-use Rattle.scheduling.specs.Maker.{madeOf, makerAnswer, bufferAfter, leaves}
+use Rattle.scheduling.specs.Maker.{madeOf, makerAnswer, bufferAfter, afterAnswer}
 use Rattle.scheduling.proofs.MakerLaws.{PlanGave, plan-gave, made-of, made-packable}
 
 module _ (o p B : List ℕ) where
   -- an answer of the maker, and what it leaves
   after-refusal : (n q : ℕ) → makerAnswer o p (length B) ≡ refused n q → B ≡ bufferAfter o p B
   unfolding bufferAfter
-  after-refusal n q e = sym (ap (λ (a : Answer). leaves a (timetableRecord (madeOf o p)) B) e)
+  after-refusal n q e = sym (ap (λ (a : Answer). afterAnswer a (timetableRecord (madeOf o p)) B) e)
 
   pub maker-refused : (a r : Answer) (n q : ℕ) → a ≡ planAnswer o p → a ≡ refused n q → r ≡ passUp a (accepted (0 ∷ []))
       → (r ≡ makerAnswer o p (length B)) × (B ≡ bufferAfter o p B)
@@ -132,5 +132,5 @@ module _ (o p B : List ℕ) where
               buffer
                   ∙ ap (written B 0) (sym whole)
                   ∙ written-front B (timetableRecord (madeOf o p))
-                  ∙ sym (ap (λ (a : Answer). leaves a (timetableRecord (madeOf o p)) B) up),
+                  ∙ sym (ap (λ (a : Answer). afterAnswer a (timetableRecord (madeOf o p)) B) up),
             )

@@ -2,7 +2,7 @@
 --
 --     madeOf o p               the steps that the making rule makes of the plan p for the order o
 --     makerAnswer o p n        the timetable maker's answer for the order o, the plan p and a buffer of n bytes
---     leaves a r B             the buffer B after the answer a: with the record r in front where it is accepted, else unchanged
+--     afterAnswer a r B        the buffer B after the answer a: with the record r in front where it is accepted, else unchanged
 --     bufferAfter o p B        the buffer B afterwards
 --     answerOf v               the maker's verdict v as an answer
 --     Timetabled o p           the made record is at most 3 × k + 3 bytes long, and the timetable checker accepts it, with s steps and k moves
@@ -31,12 +31,12 @@ makerAnswer o p n =
     (accepted (greatest (timed (startsOf o) [] (planMoves p)) ∷ [])))
 
 -- "No lent byte changes on a refusal." "The record … is written at the front of the buffer; the rest is unchanged."
-abbrev pub leaves : Answer → List ℕ → List ℕ → List ℕ
-leaves (accepted counts) r B = r ++ drop (length r) B
-leaves (refused number place) r B = B
+abbrev pub afterAnswer : Answer → List ℕ → List ℕ → List ℕ
+afterAnswer (accepted counts) r B = r ++ drop (length r) B
+afterAnswer (refused number place) r B = B
 
 unfoldable pub bufferAfter : List ℕ → List ℕ → List ℕ → List ℕ
-bufferAfter o p B = leaves (makerAnswer o p (length B)) (timetableRecord (madeOf o p)) B
+bufferAfter o p B = afterAnswer (makerAnswer o p (length B)) (timetableRecord (madeOf o p)) B
 
 abbrev pub answerOf : MakerVerdict → Answer
 answerOf (Accepted steps) = accepted (steps ∷ [])
