@@ -29,7 +29,7 @@ use Rattle.order.specs.Order.{some}
 use Rattle.motion.specs.Arrangement.{Arrangement, occupied, vacant}
 use Rattle.motion.specs.Move.{onFloor, goesTo, after}
 use Rattle.motion.specs.Step.{every, ascends, leaves, enters, enteredOnce, led, legalStep}
-use Rattle.motion.specs.Replay.{ended, stopped, replayFrom, unlessLegal, stepFault, replaySteps, trace}
+use Rattle.motion.specs.Replay.{Replayed, ended, stopped, replayFrom, unlessLegal, stepFault, replaySteps, trace}
 use Rattle.motion.specs.Problem.{UniquelyInvertible, Instance}
 use Rattle.motion.specs.ParallelPathFinding.{Solution}
 use Rattle.motion.proofs.Trains.{led-closed}
@@ -53,9 +53,14 @@ pub starts-valid : UniquelyInvertible floorF 2 starts
 unfolding isValid separate every vacant occupied
 starts-valid = isValid-iff floorF starts .0 tt
 
+-- a replay on that floor, with all that it computes by
+unfoldable steps-open : Arrangement → List (List (ℕ × ℕ)) → Replayed
+unfolding replaySteps replayFrom stepFault unlessLegal legalStep? by-test legalStep ascends every onFloor joined among isPair occupied
+    enteredOnce enters led leaves some vacant goesTo after
+steps-open A steps = replaySteps (legalStep? floorF) A steps
+
 pub case-1 : replaySteps (legalStep? floorF) starts timetable ≡ ended goals
-unfolding replaySteps replayFrom stepFault unlessLegal legalStep? by-test legalStep ascends every onFloor joined among isPair occupied enteredOnce enters led leaves
-    some vacant goesTo after
+unfolding steps-open
 case-1 = refl
 
 pub case-1-solution : Solution floorF 2 starts goals 2 (starts ∷ (1 ∷ 2 ∷ []) ∷ goals ∷ [])
@@ -72,8 +77,7 @@ case-1-steps = refl
 -- case 2: rack 1 from 0 to 1, rack 2 from 1 to 3
 
 pub case-2 : replaySteps (legalStep? floorF) (0 ∷ 1 ∷ []) (((0, 1) ∷ (1, 3) ∷ []) ∷ []) ≡ ended (1 ∷ 3 ∷ [])
-unfolding replaySteps replayFrom stepFault unlessLegal legalStep? by-test legalStep ascends every onFloor joined among isPair occupied enteredOnce enters led leaves
-    some vacant goesTo after
+unfolding steps-open
 case-2 = refl
 
 pub case-2-legal : LegalStep floorF (0 ∷ 1 ∷ []) ((0, 1) ∷ (1, 3) ∷ [])
@@ -91,8 +95,7 @@ case-2-change = legal-change (isValid-iff floorF (0 ∷ 1 ∷ []) .0 tt) case-2-
 -- case 3: racks at 0, 1, 2
 
 pub case-3-ring : replaySteps (legalStep? floorF) (0 ∷ 1 ∷ 2 ∷ []) (((0, 1) ∷ (1, 2) ∷ (2, 0) ∷ []) ∷ []) ≡ stopped 42 1
-unfolding replaySteps replayFrom stepFault unlessLegal legalStep? by-test legalStep ascends every onFloor joined among isPair occupied enteredOnce enters led leaves
-    some vacant goesTo after
+unfolding steps-open
 case-3-ring = refl
 
 pub case-3-ring-never : {F : Floor} {A : Arrangement} → LegalStep F A ((0, 1) ∷ (1, 2) ∷ (2, 0) ∷ []) → ⊥
@@ -122,8 +125,7 @@ case-3-no-leader k t = led-closed (0 ∷ 1 ∷ 2 ∷ []) ((0, 1) ∷ (1, 2) ∷ 
     round (suc (suc (suc p))) h = absurd (omega arith)
 
 pub case-3-swap : replaySteps (legalStep? floorF) (0 ∷ 1 ∷ 2 ∷ []) (((0, 1) ∷ (1, 0) ∷ []) ∷ []) ≡ stopped 42 1
-unfolding replaySteps replayFrom stepFault unlessLegal legalStep? by-test legalStep ascends every onFloor joined among isPair occupied enteredOnce enters led leaves
-    some vacant goesTo after
+unfolding steps-open
 case-3-swap = refl
 
 -- two racks into one position; a full floor

@@ -2,6 +2,7 @@
 --
 --     by-test            a test that passes exactly where something holds decides it
 --     legalStep? F A ms  the step ms is legal on the arrangement A of the floor F or not
+--     fault-any          any two decisions give the same fault
 --     stepFault-is       the fault of a step by this decision is 0 where the test passes, and 42 where not
 -- Assumes nothing.
 use Prim.Native.Nat.{ℕ}
@@ -24,6 +25,13 @@ by-test false i = no (λ l. i .1 l)
 unfoldable pub legalStep? : (F : Floor) (A : Arrangement) (ms : List (ℕ × ℕ)) → Dec (LegalStep F A ms)
 unfolding by-test
 legalStep? F A ms = by-test (legalStep F A ms) (legalStep-iff F A ms)
+
+pub fault-any : {L : Type 0} (d e : Dec L) → unlessLegal d ≡ unlessLegal e
+unfolding unlessLegal
+fault-any (yes l) (yes k) = refl
+fault-any (yes l) (no g) = absurd (g l)
+fault-any (no f) (yes k) = absurd (f k)
+fault-any (no f) (no g) = refl
 
 pub stepFault-is : (F : Floor) (A : Arrangement) (ms : List (ℕ × ℕ)) → stepFault (legalStep? F) A ms ≡ cond (legalStep F A ms) 0 42
 unfolding stepFault legalStep? by-test unlessLegal

@@ -177,12 +177,14 @@ module _ (F : Floor) (m : ℕ) (S⁰ S⁺ : Arrangement) where
       }
 
   pub steps-replay : Instance F m S⁰ S⁺
-      → ((steps : List (List (ℕ × ℕ))) → replaySteps (legalStep? F) S⁰ steps ≡ ended S⁺ → Solution F m S⁰ S⁺ (length steps) (trace after S⁰ steps))
+      → ((steps : List (List (ℕ × ℕ))) → replaySteps (legalStep? F) S⁰ steps ≡ ended S⁺
+      → Solution F m S⁰ S⁺ (length steps) (trace after S⁰ steps))
       × ((ζ : ℕ) (S : List Arrangement) → Solution F m S⁰ S⁺ ζ S → OnlySteps F S⁰ S⁺ ζ S)
   steps-replay σ = (replay-solution (σ .initial), solution-replay)
 
   pub solutions-iff : UniquelyInvertible F m S⁰ → (steps : List (List (ℕ × ℕ))) (S : List Arrangement)
-      → ((replaySteps (legalStep? F) S⁰ steps ≡ ended S⁺) × (trace after S⁰ steps ≡ S)) ↔ (Solution F m S⁰ S⁺ (length steps) S × (steps ≡ stepsBetween S))
+      → ((replaySteps (legalStep? F) S⁰ steps ≡ ended S⁺) × (trace after S⁰ steps ≡ S))
+      ↔ (Solution F m S⁰ S⁺ (length steps) S × (steps ≡ stepsBetween S))
   solutions-iff valid steps S = (
     λ w. (
       subst (Solution F m S⁰ S⁺ (length steps)) (w .1) (replay-solution valid steps (w .0)),

@@ -32,7 +32,8 @@ use Rattle.motion.specs.Move.{goesTo}
 use Rattle.motion.specs.Step.{leaves, led}
 use Rattle.motion.specs.LegalStep.{Train, leader, follows}
 use Rattle.motion.proofs.ListLaws.{by-member, pairwise-more, pigeonhole, keys-same}
-use Rattle.motion.proofs.StepTestsLaws.{left, or-left, or-right, left-differ, vacant-iff, leaves-iff, Goes, taken, stays, goesTo-cases, goesTo-takes}
+use Rattle.motion.proofs.StepTestsLaws.{left, or-left, or-right, left-differ, vacant-iff, leaves-iff, Goes, taken, stays}
+use Rattle.motion.proofs.StepTestsLaws.{goesTo-cases, goesTo-takes}
 use Rattle.motion.specs.StepTests.{entered, Ascends}
 
 module _ (A : Arrangement) (ms : List (ℕ × ℕ)) where
@@ -84,7 +85,8 @@ module _ (A : Arrangement) (ms : List (ℕ × ℕ)) where
   led-chain zero p t = ([], ends t)
   led-chain (suc k) p t = on (vacant A p) refl (λ o. passed o (or-yes (vacant A p) _ t)) (led-chain k (goesTo ms p))
     where
-      passed : (T (vacant A p) → ⊥) → T (vacant A p) ⊎ T (leaves ms p && led k ms A (goesTo ms p)) → T (leaves ms p) × T (led k ms A (goesTo ms p))
+      passed : (T (vacant A p) → ⊥) → T (vacant A p) ⊎ T (leaves ms p && led k ms A (goesTo ms p))
+          → T (leaves ms p) × T (led k ms A (goesTo ms p))
       passed o (inl v) = absurd (o v)
       passed o (inr b) = and-yes (leaves ms p) (led k ms A (goesTo ms p)) b
 

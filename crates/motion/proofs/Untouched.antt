@@ -48,19 +48,22 @@ vacant-move A m y v d =
     (λ (e : getD A i 0 ≢ m .0). rw (moved-other A m i h e) (vacant-racks A y .0 v i h))
     (equal? (getD A i 0) (m .0)))
 
-pub vacant-stays : (F : Floor) (y : ℕ) {A B : Arrangement} {ms : List (ℕ × ℕ)} → Leads F A ms B → T (vacant A y) → T (not (enters ms y)) → T (vacant B y)
+pub vacant-stays : (F : Floor) (y : ℕ) {A B : Arrangement} {ms : List (ℕ × ℕ)} → Leads F A ms B → T (vacant A y) → T (not (enters ms y))
+    → T (vacant B y)
 vacant-stays F y still v t = v
 vacant-stays F y (_then_ {A = A} {x = m} {xs = ms} l p) v t =
     let u = enters-first m ms y t in
     vacant-stays F y p (vacant-move A m y v (u .0)) (u .1)
 
-pub rack-stays : (F : Floor) (i : ℕ) {A B : Arrangement} {ms : List (ℕ × ℕ)} → Leads F A ms B → i < length A → T (not (leaves ms (getD A i 0))) → getD B i 0 ≡ getD A i 0
+pub rack-stays : (F : Floor) (i : ℕ) {A B : Arrangement} {ms : List (ℕ × ℕ)} → Leads F A ms B → i < length A
+    → T (not (leaves ms (getD A i 0))) → getD B i 0 ≡ getD A i 0
 rack-stays F i still h t = refl
 rack-stays F i (_then_ {A = A} {x = m} {xs = ms} l p) h t =
     let u = leaves-first m ms (getD A i 0) t in
     let e : getD (afterMove A m) i 0 ≡ getD A i 0 = moved-other A m i h (λ c. u .0 (sym c)) in
     rack-stays F i p (rw move-length h) (rw e (u .1)) ∙ e
 
-pub vacant-before : (F : Floor) (y : ℕ) {A B : Arrangement} {ms : List (ℕ × ℕ)} → Leads F A ms B → T (vacant B y) → T (not (leaves ms y)) → T (vacant A y)
+pub vacant-before : (F : Floor) (y : ℕ) {A B : Arrangement} {ms : List (ℕ × ℕ)} → Leads F A ms B → T (vacant B y) → T (not (leaves ms y))
+    → T (vacant A y)
 vacant-before F y {A} {B} p v t =
     vacant-racks A y .1 (λ i h e. vacant-racks B y .0 v i (rw (leads-length F p) h) (rack-stays F i p h (rw e t) ∙ e))

@@ -8,8 +8,8 @@
 --     stepFault legal?     the fault of a step, where legal? decides
 --     replaySteps legal? A replay of a timetable's steps from the arrangement A
 --     trace a A            the arrangements that a replay passes through, the first and the last included
--- Whether a step is legal has to be decided for a replay to be computed. What is decided stands in the decision's type: `LegalStep`. Any decision gives
--- the same replay; proofs/StepDecision.antt has one.
+-- Whether a step is legal has to be decided for a replay to be computed. What is decided stands in the decision's type, `LegalStep`. Any
+-- decision gives the same replay; proofs/StepDecision.antt has one.
 -- Assumes nothing.
 use Prim.Native.Nat.{ℕ, suc}
 use mathlib.Core.Bool.{cond}

@@ -44,7 +44,7 @@ use Rattle.plan.specs.Plan.{moveCount, planMoves, wrongPlanLength, planAnswer}
 use Rattle.plan.proofs.PlanRecord.{moves-counted}
 use Rattle.plan.proofs.Replayed.{plan-replayed}
 use Rattle.timetable.specs.Timetable.{timetableRecord, stepCount, partsOf, stepsOf, total, timetableAnswer}
-use Rattle.timetable.specs.Reading.{moveCount as movesOf}
+use Rattle.timetable.specs.Reading.{moveTotal}
 use Rattle.timetable.proofs.ReadingLaws.{total-moves}
 use Rattle.timetable.proofs.TimetableRecord.{Steps, no-steps, one-step, Packable, count-record, stepsOf-record, record-well-packed}
 use Rattle.scheduling.specs.Making.{timed, greatest, madeSteps}
@@ -116,7 +116,7 @@ module _ (o p v : List ℕ) (e : planAnswer o p ≡ accepted v) where
   unfolding madeOf
   steps-counted = made-of .count
 
-  moves-total : movesOf (madeOf o p) ≡ length (planMoves p)
+  moves-total : moveTotal (madeOf o p) ≡ length (planMoves p)
   unfolding madeOf
   moves-total = made-of .moves
 
@@ -126,7 +126,7 @@ module _ (o p v : List ℕ) (e : planAnswer o p ≡ accepted v) where
       let r = timetableRecord (madeOf o p) in
       let steps : stepCount r ≡ greatest (timed (startsOf o) [] (planMoves p)) = count-record (madeOf o p) made-packable ∙ steps-counted in
       let moves : total (partsOf r) ≡ moveCount p =
-      sym (total-moves r) ∙ ap movesOf (stepsOf-record (madeOf o p) made-packable) ∙ moves-total ∙ moves-counted p in
+      sym (total-moves r) ∙ ap moveTotal (stepsOf-record (madeOf o p) made-packable) ∙ moves-total ∙ moves-counted p in
       ap₂ (λ (x y : ℕ). x ∷ y ∷ []) steps moves
 
   made-replayed : replaySteps (legalStep? (floorOf o)) (startsOf o) (stepsOf (timetableRecord (madeOf o p))) ≡ ended (goalsOf o)

@@ -38,7 +38,7 @@ use Rattle.motion.specs.StepTests.{KeysDiffer}
 use Rattle.motion.proofs.StepTestsLaws.{left}
 use Rattle.motion.specs.StepOf.{insert, sort}
 use Rattle.motion.proofs.StepOfLaws.{sort-iff, sort-ascends, ascending-same}
-use Rattle.timetable.specs.Reading.{moveCount}
+use Rattle.timetable.specs.Reading.{moveTotal}
 use Rattle.scheduling.specs.Making.{Timed, ofRack, ofLeaving, stepFor, timed, greatest, inStep, movesIn, stepsFrom, madeSteps}
 
 pub data Ruled : List Timed → Type 0 where
@@ -139,31 +139,31 @@ steps-other (suc k) i t l h =
     (steps-other k (suc i) t l (omega arith))
 
 total-more : (k i : ℕ) (t : Timed) (l : List Timed) → i ≤ t .step → t .step < i + k
-    → moveCount (stepsFrom i k (t ∷ l)) ≡ suc (moveCount (stepsFrom i k l))
-unfolding stepsFrom moveCount
+    → moveTotal (stepsFrom i k (t ∷ l)) ≡ suc (moveTotal (stepsFrom i k l))
+unfolding stepsFrom moveTotal
 total-more zero i t l h b = absurd (omega arith)
 total-more (suc k) i t l h b =
     ⊎-elim
     (λ (e : t .step ≡ i).
     let here : length (movesIn i (t ∷ l)) ≡ suc (length (movesIn i l)) =
     length-movesIn i (t ∷ l) ∙ ap length (inStep-same i t l e) ∙ ap suc (sym (length-movesIn i l)) in
-    let rest : moveCount (stepsFrom (suc i) k (t ∷ l)) ≡ moveCount (stepsFrom (suc i) k l) =
-    ap moveCount (steps-other k (suc i) t l (omega arith)) in
+    let rest : moveTotal (stepsFrom (suc i) k (t ∷ l)) ≡ moveTotal (stepsFrom (suc i) k l) =
+    ap moveTotal (steps-other k (suc i) t l (omega arith)) in
     omega arith)
     (λ (e : t .step ≢ i).
     let here : length (movesIn i (t ∷ l)) ≡ length (movesIn i l) =
     length-movesIn i (t ∷ l) ∙ ap length (inStep-other i t l e) ∙ sym (length-movesIn i l) in
-    let rest : moveCount (stepsFrom (suc i) k (t ∷ l)) ≡ suc (moveCount (stepsFrom (suc i) k l)) =
+    let rest : moveTotal (stepsFrom (suc i) k (t ∷ l)) ≡ suc (moveTotal (stepsFrom (suc i) k l)) =
     total-more k (suc i) t l (omega arith) (omega arith) in
     omega arith)
     (equal? (t .step) i)
 
-total-none : (k i : ℕ) → moveCount (stepsFrom i k []) ≡ 0
-unfolding stepsFrom moveCount movesIn inStep sort
+total-none : (k i : ℕ) → moveTotal (stepsFrom i k []) ≡ 0
+unfolding stepsFrom moveTotal movesIn inStep sort
 total-none zero i = refl
 total-none (suc k) i = omega (arith, total-none k (suc i))
 
-pub steps-total : {l : List Timed} → Ruled l → (k : ℕ) → greatest l ≤ k → moveCount (stepsFrom 1 k l) ≡ length l
+pub steps-total : {l : List Timed} → Ruled l → (k : ℕ) → greatest l ≤ k → moveTotal (stepsFrom 1 k l) ≡ length l
 unfolding greatest
 steps-total none k h = total-none k 1
 steps-total (more {t = t} {l = l} e r) k h =

@@ -19,7 +19,7 @@ use Rattle.field.proofs.RecordLaws.{pairs-lt}
 use Rattle.field.proofs.UnitLaws.{or-left, or-right}
 use Rattle.timetable.specs.Timetable.{stepLength, stepCount, wrongSteps, stepParts, partsOf, stepMoves, stepsOf, total}
 use Rattle.timetable.specs.Timetable.{wrongTimetableLength}
-use Rattle.timetable.specs.Reading.{moveCount}
+use Rattle.timetable.specs.Reading.{moveTotal}
 use Rattle.timetable.proofs.StepLaws.{stepLength-some, stepLength-moves, length-moves}
 use Rattle.timetable.proofs.ReadingLaws.{count-steps, total-moves}
 use Rattle.writers.proofs.DecimalLaws.{length-decimal}
@@ -99,7 +99,7 @@ timetableText-short s w h =
     let counts = counts-short (stepCount s) (drop 3 s) right in
     let lines = lines-short (stepCount s) 1 (drop 3 s) right (omega (arith, counts .0, length-drop 3 s)) in
     let first =
-    firstLine-short (length (stepsOf s)) (moveCount (stepsOf s)) (omega (arith, count-steps s, counts .0, length-drop 3 s))
+    firstLine-short (length (stepsOf s)) (moveTotal (stepsOf s)) (omega (arith, count-steps s, counts .0, length-drop 3 s))
     (omega (arith, total-moves s, counts .1, length-drop 3 s)) in
-    rw (length-append (firstLine (length (stepsOf s)) (moveCount (stepsOf s))) (stepLines 1 (stepsOf s)))
+    rw (length-append (firstLine (length (stepsOf s)) (moveTotal (stepsOf s))) (stepLines 1 (stepsOf s)))
     (omega (arith, first, lines, length-drop 3 s))

@@ -10,7 +10,7 @@ use Prim.Native.Nat.{ℕ, _+_}
 use mathlib.Core.List.{List, [], _∷_, _++_}
 use lib.ListN.{length}
 use Rattle.answers.specs.Ascii.{ascii}
-use Rattle.timetable.specs.Reading.{moveCount}
+use Rattle.timetable.specs.Reading.{moveTotal}
 use Rattle.writers.specs.Lines.{decimal}
 
 -- a move as `a>b`, from the position left to the position entered
@@ -34,4 +34,4 @@ unfoldable pub firstLine : ℕ → ℕ → List ℕ
 firstLine steps moves = ascii "steps " ++ decimal steps ++ ascii " moves " ++ decimal moves ++ ascii "\n"
 
 unfoldable pub timetableText : List (List (ℕ × ℕ)) → List ℕ
-timetableText l = firstLine (length l) (moveCount l) ++ stepLines 1 l
+timetableText l = firstLine (length l) (moveTotal l) ++ stepLines 1 l

@@ -44,7 +44,7 @@ use Rattle.motion.specs.Judgement.{misplaced, judged}
 use Rattle.motion.specs.StepOf.{moved, insert, sort, stepOf}
 use Rattle.motion.specs.StepSolutions.{stepsThrough, stepsBetween}
 use Rattle.timetable.specs.Timetable.{stepBits, allStepBits, timetableBits, timetableRecord, stepLength, stepCount, wrongSteps, stepParts, partsOf, wrongTimetableLength, stepPadSet, timetablePaddingSet, stepMoves, stepsOf, total, timetableAnswer, lengthOf, offset, stepPart, stepAnswer}
-use Rattle.timetable.specs.Reading.{readingAnswer, WellPacked, moveCount, partGiven, placeGiven}
+use Rattle.timetable.specs.Reading.{readingAnswer, WellPacked, moveTotal, partGiven, placeGiven}
 use Rattle.timetable.proofs.ReadingLaws.{Stands, stands-at}
 use Rattle.timetable.specs.RecordLength.{stepsLength, timetableLength, wholeTimetableLength}
 use Rattle.timetable.proofs.RecordLengthLaws.{timetable-length-found}
@@ -227,7 +227,7 @@ unfolding trace after goesTo startsOf edgeCount rackCount positions stepsOf step
 solution₁ = replayed₁ .solution
 
 pub accepted₁ : AcceptedTimetable order₁ timetable₁ (2 ∷ 4 ∷ [])
-unfolding stepsBetween stepsThrough stepOf sort insert moved moveCount timetableRecord timetableBits allStepBits stepBits pairBits padded pad
+unfolding stepsBetween stepsThrough stepOf sort insert moved moveTotal timetableRecord timetableBits allStepBits stepBits pairBits padded pad
     toBytes bytes number bits
 accepted₁ =
     record {

@@ -37,7 +37,7 @@ use Rattle.motion.specs.StepSolutions.{stepsBetween}
 use Rattle.motion.proofs.StepSolutionsLaws.{OnlySteps, solution-replay, solutions-iff}
 use Rattle.tables.proofs.AcceptedLaws.{well-placed}
 use Rattle.timetable.specs.Timetable.{timetableRecord, stepCount, partsOf, stepsOf, total, timetableAnswer}
-use Rattle.timetable.specs.Reading.{readingAnswer, WellPacked, moveCount}
+use Rattle.timetable.specs.Reading.{readingAnswer, WellPacked, moveTotal}
 use Rattle.timetable.proofs.ReadingLaws.{well-packed, reading-accepted, count-steps, total-moves, timetableAnswer-is}
 use Rattle.timetable.proofs.TimetableRecord.{Steps, no-steps, one-step, Packable, record-bytes, stepsOf-record, record-well-packed, record-only}
 use Rattle.timetable.specs.Solutions.{SolutionOf}
@@ -57,7 +57,7 @@ pub record OnlyTimetable (o : List ℕ) (ζ : ℕ) (S : List Arrangement) : Type
   pub timetable : List ℕ
   pub are-bytes : Bytes timetable
   pub described : arrangements o timetable ≡ S
-  pub is-accepted : timetableAnswer o timetable ≡ accepted (ζ ∷ moveCount (stepsBetween S) ∷ [])
+  pub is-accepted : timetableAnswer o timetable ≡ accepted (ζ ∷ moveTotal (stepsBetween S) ∷ [])
   pub only : (s v : List ℕ) → Bytes s → timetableAnswer o s ≡ accepted v → arrangements o s ≡ S → s ≡ timetable
 
 -- a replay of steps ends with as many racks as it began with
@@ -142,15 +142,15 @@ module _ (o : List ℕ) (w : WellFormed o) (ζ : ℕ) (S : List Arrangement) (fe
   the-count : stepCount the-record ≡ ζ
   the-count = sym (count-steps the-record) ∙ ap length the-moves ∙ the-steps .count
 
-  the-total : total (partsOf the-record) ≡ moveCount (stepsBetween S)
-  the-total = sym (total-moves the-record) ∙ ap moveCount (the-moves ∙ the-steps .between)
+  the-total : total (partsOf the-record) ≡ moveTotal (stepsBetween S)
+  the-total = sym (total-moves the-record) ∙ ap moveTotal (the-moves ∙ the-steps .between)
 
   the-trace : arrangements o the-record ≡ S
   the-trace = ap (trace after (startsOf o)) the-moves ∙ the-steps .traced
 
-  pub accepted-record : timetableAnswer o the-record ≡ accepted (ζ ∷ moveCount (stepsBetween S) ∷ [])
+  pub accepted-record : timetableAnswer o the-record ≡ accepted (ζ ∷ moveTotal (stepsBetween S) ∷ [])
   accepted-record =
-      accepted-from o the-record (ζ ∷ moveCount (stepsBetween S) ∷ [])
+      accepted-from o the-record (ζ ∷ moveTotal (stepsBetween S) ∷ [])
       (record {
         order-right = w;
         packed-right = record-well-packed (the-steps .steps) can-pack;

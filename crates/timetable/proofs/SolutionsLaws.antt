@@ -10,7 +10,7 @@ use Rattle.answers.specs.Answer.{accepted}
 use Rattle.field.specs.Bytes.{Bytes}
 use Rattle.motion.specs.StepSolutions.{stepsBetween}
 use Rattle.timetable.specs.Timetable.{timetableRecord, stepCount, stepsOf, timetableAnswer}
-use Rattle.timetable.specs.Reading.{moveCount}
+use Rattle.timetable.specs.Reading.{moveTotal}
 use Rattle.timetable.specs.Solutions.{AcceptedTimetable}
 use Rattle.timetable.proofs.ReadingLaws.{total-moves}
 use Rattle.timetable.proofs.SizeLaws.{count-small}
@@ -27,7 +27,7 @@ solution-of o s v bytes t =
       solution = t .solution;
       is = sym (record-stepsOf bytes (t .packed-right)) ∙ ap timetableRecord (t .listed);
       counted = sym (t .counted)
-          ∙ ap (λ (k : ℕ). stepCount s ∷ k ∷ []) (sym (total-moves s) ∙ ap moveCount (t .listed));
+          ∙ ap (λ (k : ℕ). stepCount s ∷ k ∷ []) (sym (total-moves s) ∙ ap moveTotal (t .listed));
     }
 
 accepted-from : (o s v : List ℕ) → AcceptedTimetable o s v → timetableAnswer o s ≡ accepted v

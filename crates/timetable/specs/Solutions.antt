@@ -13,7 +13,7 @@ use Rattle.motion.specs.Arrangement.{Arrangement}
 use Rattle.motion.specs.ParallelPathFinding.{Solution}
 use Rattle.motion.specs.StepSolutions.{stepsBetween}
 use Rattle.timetable.specs.Timetable.{timetableRecord}
-use Rattle.timetable.specs.Reading.{moveCount}
+use Rattle.timetable.specs.Reading.{moveTotal}
 
 abbrev pub SolutionOf : List ℕ → ℕ → List Arrangement → Type 0
 SolutionOf o ζ S = Solution (floorOf o) (rackCount o) (startsOf o) (goalsOf o) ζ S
@@ -26,4 +26,4 @@ pub record AcceptedTimetable (o s v : List ℕ) : Type 0 where
   pub arrangements : List Arrangement
   pub solution : SolutionOf o steps arrangements
   pub is : s ≡ timetableRecord (stepsBetween arrangements)
-  pub counted : v ≡ steps ∷ moveCount (stepsBetween arrangements) ∷ []
+  pub counted : v ≡ steps ∷ moveTotal (stepsBetween arrangements) ∷ []

@@ -138,7 +138,8 @@ module _ (ms : List (ℕ × ℕ)) (t h : List ℕ) (targets : Targets ms t) wher
       ⊎-elim
       (λ (e : getD h p 0 ≡ 0). (1, leads e))
       (λ (d : getD h p 0 ≢ 0).
-      let b = ⊎-elim (λ v. absurd (d (vacant-on h p .0 v))) (and-yes (leaves ms p) (ledOn k ms h (goesTo ms p))) (or-yes (not (heldAt h p)) _ u) in
+      let b = ⊎-elim (λ v. absurd (d (vacant-on h p .0 v))) (and-yes (leaves ms p) (ledOn k ms h (goesTo ms p)))
+      (or-yes (not (heldAt h p)) _ u) in
       let g = left-target p (b .0) in
       let w = led-from k (goesTo ms p) (b .1) in
       (suc (w .0), follows d (g .0) (subst (λ (q : ℕ). Led t h (w .0) q) (sym (g .1)) (w .1))))
@@ -156,7 +157,8 @@ module _ (ms : List (ℕ × ℕ)) (t h : List ℕ) (targets : Targets ms t) wher
   led-on p w = passed (ledOn (length ms) ms h p) (led-iff-on p .0 w)
 
   pub unled-on : (p : ℕ) → ((n : ℕ) → Led t h n p → ⊥) → ledOn (length ms) ms h p ≡ false
-  unled-on p none = failed (ledOn (length ms) ms h p) (not-T (ledOn (length ms) ms h p) (λ u. let w = led-iff-on p .1 u in none (w .0) (w .1)))
+  unled-on p none =
+      failed (ledOn (length ms) ms h p) (not-T (ledOn (length ms) ms h p) (λ u. let w = led-iff-on p .1 u in none (w .0) (w .1)))
 
 -- what is noted
 
@@ -180,7 +182,8 @@ noted-at t (more₂ {p = m} {l = ms} k₀ k₁ r) n up p =
         (not-T (leaves ms (m .0))
         (λ u. let w = leaves-iff ms (m .0) .0 u in let less : m .0 < w .0 .0 = pairwise-rel up (w .1) in omega (arith, less, w .2)))
 
-noted-below : (t : List ℕ) {ms : List (ℕ × ℕ)} → BelowPairs 64 ms → length t ≡ 64 → ((p : ℕ) → getD t p 0 ≤ 64) → (p : ℕ) → getD (noted t ms) p 0 ≤ 64
+noted-below : (t : List ℕ) {ms : List (ℕ × ℕ)} → BelowPairs 64 ms → length t ≡ 64 → ((p : ℕ) → getD t p 0 ≤ 64) → (p : ℕ)
+    → getD (noted t ms) p 0 ≤ 64
 unfolding noted
 noted-below t none₂ n b = b
 noted-below t (more₂ {p = m} {l = ms} k₀ k₁ r) n b =

@@ -12,7 +12,9 @@
 --     judge              whether each of the moves is led
 --     Leading            a loop over a step's moves: what is left to judge decides
 --     leading-first, leading-chain    before the first move; a chain may be followed from each move
---     not-led, leading-next, leading-last   a move without a leader decides; one that is led leaves the rest; after the last the answer is yes
+--     leading-room       a led move's train has few moves, so that one more is a mark
+--     not-led, leading-next, leading-last   a move without a leader decides; one that is led leaves the rest; after the last the answer
+--                        is yes
 -- Assumes nothing.
 use Prim.Native.Nat.{ℕ, zero, suc, _+_, _-_, _≤_, _<_}
 use mathlib.Core.Path.{_≡_, refl, sym, ap, _∙_, subst}
@@ -32,7 +34,8 @@ use Rattle.tables.specs.Simulation.{Each, each-more}
 use Rattle.trains.specs.Chains.{Targets, Taking, Led, leads, follows, Marks, leaderMark, LeadersMarked, NonePassed, Chain, Followed}
 use Rattle.trains.proofs.ChainsLaws.{unvisited}
 use Rattle.trains.proofs.ChainLaws.{led-short, led-on, unled-on}
-use Rattle.trains.proofs.Moves.{Left, left-first, left-at, left-next, left-last, entriesFrom, entries-first, entries-last, entries-length}
+use Rattle.trains.proofs.Moves.{Left, left-first, left-at, left-next, left-last}
+use Rattle.trains.proofs.Moves.{entriesFrom, entries-first, entries-last, entries-length}
 
 pub unvisited-less : (t v : List ℕ) (p : ℕ) → getD t p 0 ≢ 0 → getD v p 0 ≡ 0 → p < length v → unvisited t (set v p 255) < unvisited t v
 unfolding unvisited
@@ -172,7 +175,8 @@ module _ (t h v : List ℕ) (p : ℕ) (chain : Chain t h v p) where
 pub leaders-first : (h v : List ℕ) → length v ≡ 64 → LeadersMarked h v 0
 leaders-first h v size = record { size = size; leaders = λ q l. omega arith }
 
-pub leaders-next : (h v : List ℕ) (j x : ℕ) → j < 64 → x ≡ leaderMark (getD h j 0) → LeadersMarked h v j → LeadersMarked h (set v j x) (j + 1)
+pub leaders-next : (h v : List ℕ) (j x : ℕ) → j < 64 → x ≡ leaderMark (getD h j 0) → LeadersMarked h v j
+    → LeadersMarked h (set v j x) (j + 1)
 leaders-next h v j x room e m =
     record {
       size = length-set v j x ∙ m .size;

@@ -51,7 +51,8 @@ entriesFrom d c j = entries d j (c - j)
 pub entries-first : (d : List ℕ) (c : ℕ) → entriesFrom d c 0 ≡ entries d 0 c
 entries-first d c = ap (entries d 0) (sub-zero c)
 
-pub entries-at : (d : List ℕ) (c j a b : ℕ) → j < c → a ≡ getD d j 0 / 64 % 64 → b ≡ getD d j 0 % 64 → entriesFrom d c j ≡ ((a, b) ∷ entriesFrom d c (j + 1))
+pub entries-at : (d : List ℕ) (c j a b : ℕ) → j < c → a ≡ getD d j 0 / 64 % 64 → b ≡ getD d j 0 % 64
+    → entriesFrom d c j ≡ ((a, b) ∷ entriesFrom d c (j + 1))
 unfolding entries
 entries-at d c j a b h ea eb = let left : c - j ≡ suc (c - (j + 1)) = omega arith in rw (left, ea, eb) refl
 

@@ -31,7 +31,8 @@ use Rattle.tables.specs.Tables.{edgeAt, heldAt}
 use Rattle.tables.proofs.TableLaws.{zeros-at}
 use Rattle.trains.specs.StepOn.{entries, soundMoves}
 use Rattle.trains.specs.Chains.{noted}
-use Rattle.trains.proofs.Moves.{Left, left-first, left-at, left-next, left-last, entriesFrom, entries-first, entries-below, entries-last}
+use Rattle.trains.proofs.Moves.{Left, left-first, left-at, left-next, left-last}
+use Rattle.trains.proofs.Moves.{entriesFrom, entries-first, entries-below, entries-last}
 
 unfoldable pub soundAfter : List ℕ → List ℕ → ℕ → List ℕ → List (ℕ × ℕ) → Bool
 soundAfter g h lowest v [] = true
@@ -70,7 +71,8 @@ unflagged-set : (v : List ℕ) (p : ℕ) (ms : List (ℕ × ℕ)) → p < length
 unfolding unflagged every enters some
 unflagged-set v p [] h = refl
 unflagged-set v p (m ∷ ms) h =
-    rw (flag-set v p (m .1) h, unflagged-set v p ms h) (regroup (eqb (m .1) p) (heldAt v (m .1)) (enters ms p) (every (λ m. not (heldAt v (m .1))) ms))
+    rw (flag-set v p (m .1) h, unflagged-set v p ms h)
+    (regroup (eqb (m .1) p) (heldAt v (m .1)) (enters ms p) (every (λ m. not (heldAt v (m .1))) ms))
   where
     regroup : (e f r u : Bool) → (not e && not f && (not r && u)) ≡ (not (e || r) && (not f && u))
     regroup true f r u = refl
@@ -78,16 +80,20 @@ unflagged-set v p (m ∷ ms) h =
     regroup false true false u = refl
     regroup false false r u = refl
 
-regroup : (l e h n a es hs x ns o : Bool) → (l && e && h && n && (a && es && hs && ((x && ns) && o))) ≡ (l && a && (e && es) && (h && hs) && ((n && ns) && (x && o)))
+regroup : (l e h n a es hs x ns o : Bool)
+    → (l && e && h && n && (a && es && hs && ((x && ns) && o))) ≡ (l && a && (e && es) && (h && hs) && ((n && ns) && (x && o)))
 regroup l e h n a es hs x ns o = simp (and-assoc, and-swap)
 
 after-is : (g h : List ℕ) (lowest : ℕ) (v : List ℕ) {ms : List (ℕ × ℕ)} → BelowPairs 64 ms → length v ≡ 64
-    → soundAfter g h lowest v ms ≡ (startsAt lowest ms && ascends ms && every (edgeAt g) ms && every (λ m. heldAt h (m .0)) ms && (unflagged v ms && enteredOnce ms))
+    → soundAfter g h lowest v ms ≡
+    (startsAt lowest ms && ascends ms && every (edgeAt g) ms && every (λ m. heldAt h (m .0)) ms && (unflagged v ms && enteredOnce ms))
 unfolding soundAfter startsAt unflagged every enteredOnce ascends
 after-is g h lowest v none₂ n = refl
 after-is g h lowest v (more₂ {p = m} {l = ms} k₀ k₁ r) n =
-    rw (after-is g h (m .0 + 1) (set v (m .1) 1) r (length-set v (m .1) 1 ∙ n), starts-ascends m ms, unflagged-set v (m .1) ms (omega arith))
-    (regroup (leb lowest (m .0)) (edgeAt g m) (heldAt h (m .0)) (not (heldAt v (m .1))) (ascends (m ∷ ms)) (every (edgeAt g) ms) (every (λ m. heldAt h (m .0)) ms) (not (enters ms (m .1))) (unflagged v ms) (enteredOnce ms))
+    rw
+    (after-is g h (m .0 + 1) (set v (m .1) 1) r (length-set v (m .1) 1 ∙ n), starts-ascends m ms, unflagged-set v (m .1) ms (omega arith))
+    (regroup (leb lowest (m .0)) (edgeAt g m) (heldAt h (m .0)) (not (heldAt v (m .1))) (ascends (m ∷ ms)) (every (edgeAt g) ms)
+    (every (λ m. heldAt h (m .0)) ms) (not (enters ms (m .1))) (unflagged v ms) (enteredOnce ms))
 
 none-flagged : (ms : List (ℕ × ℕ)) → unflagged (replicate 64 0) ms ≡ true
 unfolding unflagged every heldAt
@@ -104,7 +110,8 @@ unfolding soundMoves
 soundAfter-is g h {ms} b = after-is g h 0 (replicate 64 0) b (length-replicate {A = ℕ} 64 0) ∙ rw (starts-anywhere ms, none-flagged ms) refl
 
 -- moves that ascend from `lowest` on leave different positions below 64
-ascends-few : (lowest : ℕ) {ms : List (ℕ × ℕ)} → BelowPairs 64 ms → lowest ≤ 64 → T (startsAt lowest ms && ascends ms) → lowest + length ms ≤ 64
+ascends-few : (lowest : ℕ) {ms : List (ℕ × ℕ)} → BelowPairs 64 ms → lowest ≤ 64 → T (startsAt lowest ms && ascends ms)
+    → lowest + length ms ≤ 64
 unfolding startsAt
 ascends-few lowest none₂ low u = omega arith
 ascends-few lowest (more₂ {p = m} {l = ms} k₀ k₁ r) low u =

@@ -56,7 +56,8 @@ module _ (F : Floor) (few : F .positions ≤ 64) (below : BelowPairs 64 (F .edge
       (invertible-sound F (length A) (after A ms) .0 valid .1, step-holds F few A h (r .1) ms s, after-length A ms ∙ r .2)
 
   module _ (A : Arrangement) (sound : Sound (F .positions) A) {steps : List (List (ℕ × ℕ))} (small : Each (BelowPairs 64) steps) where
-    pub steps-alike : Alike (Kept (F .positions) (length A)) (replaySteps (legalStep? F) A steps) (replayStepsOn (matrixOf F) (tableOf A) steps)
+    pub steps-alike : Alike (Kept (F .positions) (length A)) (replaySteps (legalStep? F) A steps)
+        (replayStepsOn (matrixOf F) (tableOf A) steps)
     unfolding replaySteps replayStepsOn tableOf
     steps-alike =
         replay-alike (BelowPairs 64) (Kept (F .positions) (length A)) (stepFault (legalStep? F)) after (stepFaultOn (matrixOf F)) stepOn

@@ -7,8 +7,8 @@
 --     Led t h n p          by the table t the train of a move into p has n moves, to a leader that enters a position that the table h has
 --                          vacant
 --     Marks t h v          the marks v are right where they say how long a train is
---     leaderMark x         the mark of a position with the rack x before any chain is followed: 1 where there is none, since a move that enters
---                          it leads
+--     leaderMark x         the mark of a position with the rack x before any chain is followed: 1 where there is none, since a move that
+--                          enters it leads
 --     LeadersMarked h v j  the first j marks of v are so
 --     NonePassed v         no chain is being followed
 --     Chain t h v p        the marks v where a chain is being followed that has come to p
@@ -42,8 +42,8 @@ pub data Led (t h : List ℕ) : ℕ → ℕ → Type 0 where
   leads : {p : ℕ} → getD h p 0 ≡ 0 → Led t h 1 p
   follows : {n p : ℕ} → (getD h p 0 ≡ 0 → ⊥) → (getD t p 0 ≡ 0 → ⊥) → Led t h n (getD t p 0 - 1) → Led t h (suc n) p
 
--- A mark is 0 where nothing is known, 255 where the chain that is being followed has come through, and else the length of the train of a move
--- that enters the position.
+-- A mark is 0 where nothing is known, 255 where the chain that is being followed has come through, and else the length of the train of a
+-- move that enters the position.
 pub record Marks (t h v : List ℕ) : Type 0 where
   pub size : length v ≡ 64
   pub known : (q : ℕ) → (getD v q 0 ≡ 0 → ⊥) → (getD v q 0 ≡ 255 → ⊥) → Led t h (getD v q 0) q

@@ -83,9 +83,9 @@ fn note_moves(
     true
 }
 
-// Follows the chain of a move that enters p, from the mover to the move that it follows, to its leader, and answers how many moves that are:
-// 1 where the move leads, and 0 where there is no leader. Marks show what is known of the positions that it comes through: a chain that
-// meets itself again is a ring, and one that meets a train whose length is known is so much longer.
+// Follows the chain of a move that enters p, from the mover to the move that it follows, to its leader, and answers how many moves those
+// are: 1 where the move leads, and 0 where there is no leader. Marks show what is known of the positions that it comes through: a chain
+// that meets itself again is a ring, and one that meets a train whose length is known is so much longer.
 fn follow_chain(p: usize, target: &[u8; 64], racks: &[u8; 64], marks: &mut [u8; 64]) -> u8
     requires { ⌜ p < 64 ⌝ }
     requires { ⌜ Chain (now target) (now racks) (now marks) p ⌝ }

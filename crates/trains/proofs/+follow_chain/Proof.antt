@@ -4,7 +4,8 @@ use mathlib.Core.Path.{sym, _∙_, subst}
 use native.Mathlib.Omega.{arith}
 use lib.ListN.{set}
 use Rattle.trains.proofs.ChainsLaws.{unvisited}
-use Rattle.trains.proofs.Following.{chain-leads, chain-ring, chain-known, chain-stays, chain-on, chain-falls, chain-failed, chain-room, chain-ended}
+use Rattle.trains.proofs.Following.{chain-leads, chain-ring, chain-known, chain-stays, chain-on, chain-falls}
+use Rattle.trains.proofs.Following.{chain-failed, chain-room, chain-ended}
 use Prim.Native.Nat.{ℕ, _<_}
 use borrow.Fn.Kinds.{In}
 use borrow.Fn.PlainCycle.{Measures, is, falls, and}
@@ -128,7 +129,8 @@ follow-chain-returns-4 t c =
     let held = other .before .before in
     let entry = held .before .before in
     let a = entry .args in
-    chain-stays (a .target .now) (a .racks .now) (a .marks .now) (a .p) (entry .pre .1 .1) (held .if1 .left) (sym (looked .wide .ensures .0) ∙ c .if4 .taken)
+    chain-stays (a .target .now) (a .racks .now) (a .marks .now) (a .p) (entry .pre .1 .1) (held .if1 .left)
+    (sym (looked .wide .ensures .0) ∙ c .if4 .taken)
 
 follow-chain-sub-entered : (t : ℕ) → follow-chain-lts.Need-sub-entered (
   wide-reads.Asked,
@@ -161,9 +163,12 @@ follow-chain-follow-chain-requires t c κs =
     let entry = held .before .before in
     let a = entry .args in
     let wide = looked .wide in
-    let falls = chain-falls (a .target .now) (a .racks .now) (a .marks .now) (a .p) (entry .pre .1 .1) (held .if1 .left) (omega arith) (fresh .if3 .left) (wide .result) (wide .ensures .0) (moving .if4 .left) in
-    let on = chain-on (a .target .now) (a .racks .now) (a .marks .now) (a .p) (entry .pre .1 .1) (held .if1 .left) (omega arith) (fresh .if3 .left) (wide .result) (wide .ensures .0) (moving .if4 .left) in
-    let less : unvisited (a .target .now) (set (a .marks .now) (a .p) 255) < t = subst (λ (j : ℕ). unvisited (a .target .now) (set (a .marks .now) (a .p) 255) < j) (entry .pre .0) falls in
+    let falls = chain-falls (a .target .now) (a .racks .now) (a .marks .now) (a .p) (entry .pre .1 .1) (held .if1 .left) (omega arith)
+    (fresh .if3 .left) (wide .result) (wide .ensures .0) (moving .if4 .left) in
+    let on = chain-on (a .target .now) (a .racks .now) (a .marks .now) (a .p) (entry .pre .1 .1) (held .if1 .left) (omega arith)
+    (fresh .if3 .left) (wide .result) (wide .ensures .0) (moving .if4 .left) in
+    let less : unvisited (a .target .now) (set (a .marks .now) (a .p) 255) < t = subst
+    (λ (j : ℕ). unvisited (a .target .now) (set (a .marks .now) (a .p) 255) < j) (entry .pre .0) falls in
     (less, (omega (arith, entry .pre .1 .1 .below (a .p), wide .ensures .0), on))
 
 follow-chain-returns-5 : (t : ℕ) → follow-chain-lts.Need-returns-5 (
@@ -183,7 +188,8 @@ follow-chain-returns-5 t c =
     let a = entry .args in
     let wide = looked .wide in
     let ahead = call .follow-chain in
-    chain-failed (a .target .now) (a .racks .now) (a .marks .now) (a .p) (entry .pre .1 .1) (held .if1 .left) (omega arith) (fresh .if3 .left) (wide .result) (wide .ensures .0) (moving .if4 .left)
+    chain-failed (a .target .now) (a .racks .now) (a .marks .now) (a .p) (entry .pre .1 .1) (held .if1 .left) (omega arith)
+    (fresh .if3 .left) (wide .result) (wide .ensures .0) (moving .if4 .left)
     (ahead .last .1 .1 .1 .0) (ahead .result) (ahead .ensures) (c .if5 .taken)
 
 follow-chain-add-moves : (t : ℕ) → follow-chain-lts.Need-add-moves (
@@ -203,7 +209,8 @@ follow-chain-add-moves t c =
     let a = entry .args in
     let wide = looked .wide in
     let ahead = call .follow-chain in
-    let room = chain-room (a .target .now) (a .racks .now) (a .marks .now) (a .p) (entry .pre .1 .1) (held .if1 .left) (omega arith) (fresh .if3 .left) (wide .result) (wide .ensures .0) (moving .if4 .left)
+    let room = chain-room (a .target .now) (a .racks .now) (a .marks .now) (a .p) (entry .pre .1 .1) (held .if1 .left) (omega arith)
+    (fresh .if3 .left) (wide .result) (wide .ensures .0) (moving .if4 .left)
     (ahead .last .1 .1 .1 .0) (ahead .result) (ahead .ensures) (c .if5 .left) in
     omega arith
 
@@ -233,7 +240,8 @@ follow-chain-returns-6 t c =
     let a = entry .args in
     let wide = looked .wide in
     let ahead = call .follow-chain in
-    chain-ended (a .target .now) (a .racks .now) (a .marks .now) (a .p) (entry .pre .1 .1) (held .if1 .left) (omega arith) (fresh .if3 .left) (wide .result) (wide .ensures .0) (moving .if4 .left)
+    chain-ended (a .target .now) (a .racks .now) (a .marks .now) (a .p) (entry .pre .1 .1) (held .if1 .left) (omega arith)
+    (fresh .if3 .left) (wide .result) (wide .ensures .0) (moving .if4 .left)
     (ahead .last .1 .1 .1 .0) (ahead .result) (ahead .ensures) (led .if5 .left)
 
 pub +follow-chain-spec : {M : Type 1} → statement M

@@ -43,12 +43,14 @@ second-of-requires c κs = tt
 
 train-length-requires : tie.Need-train-length-requires Inv-loop μ-loop
 train-length-requires c κs =
-    let first = c .before .before in
-    let turn = first .before .before .before .before in
+    let second = c .before in
+    let first = second .before .before in
+    let turn = first .before .before .before in
     let l = turn .loop in
     let entry = turn .before .before .before in
     let a = entry .args in
-    let chain = leading-chain (a .step .now) (a .c) (a .target .now) (a .racks .now) (omega arith) (entry .pre .1 .0) (l .marks) (l .j) _ (l .inv .1) in
+    let chain = leading-chain (a .step .now) (a .c) (a .target .now) (a .racks .now) (omega arith) (entry .pre .1 .0) (l .marks) (l .j) _
+    (l .inv .1) in
     (omega arith, (chain, l .inv .1 .none-passed))
 
 returns : tie.Need-returns Inv-loop μ-loop
@@ -76,7 +78,8 @@ add-marks c =
     let a = entry .args in
     let moves = call .train-length in
     let at = entries-at (a .step .now) (a .c) (l .j) _ _ (omega arith) (first .first-of .ensures) (second .second-of .ensures) in
-    let room = leading-room (a .step .now) (a .c) (a .target .now) (a .racks .now) (omega arith) (entry .pre .1 .0) (l .marks) (l .j) _ _ (l .inv .1) at
+    let room = leading-room (a .step .now) (a .c) (a .target .now) (a .racks .now) (omega arith) (entry .pre .1 .0) (l .marks) (l .j) _ _
+    (l .inv .1) at
     (moves .last .1 .1 .1 .0) (moves .result) (moves .ensures) (c .if1 .left) in
     omega arith
 
@@ -100,14 +103,16 @@ loop-again c =
     let a = entry .args in
     let moves = call .train-length in
     let at = entries-at (a .step .now) (a .c) (l .j) _ _ (omega arith) (first .first-of .ensures) (second .second-of .ensures) in
-    let next = leading-next (a .step .now) (a .c) (a .target .now) (a .racks .now) (omega arith) (entry .pre .1 .0) (l .marks) (l .j) _ _ (l .inv .1) at
+    let next = leading-next (a .step .now) (a .c) (a .target .now) (a .racks .now) (omega arith) (entry .pre .1 .0) (l .marks) (l .j) _ _
+    (l .inv .1) at
     (moves .last .1 .1 .1 .0) (moves .result) (moves .ensures) (c .if1 .left) (omega arith) in
     (omega arith, next)
 
 returns-2 : tie.Need-returns-2 Inv-loop μ-loop
 returns-2 c =
-    let l = c .before .loop in
-    let entry = c .before .before .before .before in
+    let turn = c .before in
+    let l = turn .loop in
+    let entry = turn .before .before .before in
     let a = entry .args in
     leading-last (a .step .now) (a .c) (a .target .now) (a .racks .now) (l .marks) (l .j) (l .inv .1) (omega arith)
 

@@ -38,7 +38,8 @@ returns-2 c =
     let noting = tested .before in
     let a = noting .before .before .args in
     let ms = entries (a .step .now) 0 (a .c) in
-    sound (a .matrix .now) (a .racks .now) ms _ (sym (noting .note-moves .ensures .0) ∙ not-false _ (tested .if1 .left)) (c .all-led .ensures)
+    sound (a .matrix .now) (a .racks .now) ms _ (sym (noting .note-moves .ensures .0) ∙ not-false _ (tested .if1 .left))
+    (c .all-led .ensures)
 
 pub judge-entries-spec : {M : Type 1} → statement M
 judge-entries-spec = tie.close (tie.spec note-moves-requires returns all-led-requires returns-2)

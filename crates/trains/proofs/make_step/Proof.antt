@@ -16,8 +16,10 @@ put-down-requires c κs = search needs
 returns : tie.Need-returns
 unfolding stepOn
 returns c =
-    let s = c .before .before .before .before .before .before in
-    c .put-down .ensures ∙ ap (λ (h : List ℕ). putDown (s .args .racks .now) h (entries (s .args .step .now) 0 (s .args .c))) (c .before .before .before .take-up .ensures)
+    let taking = c .before .before .before in
+    let a = taking .before .before .before .args in
+    let moves = entries (a .step .now) 0 (a .c) in
+    c .put-down .ensures ∙ ap (λ (h : List ℕ). putDown (a .racks .now) h moves) (taking .take-up .ensures)
 
 pub make-step-spec : {M : Type 1} → statement M
 make-step-spec = tie.close (tie.spec take-up-requires put-down-requires returns)

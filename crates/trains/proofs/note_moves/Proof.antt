@@ -43,7 +43,9 @@ returns c =
     let turn = first .before .before .before in
     let l = turn .loop in
     let a = turn .before .args in
-    not-ascending (a .matrix .now) (a .racks .now) (a .step .now) (a .c) (a .target .now) (l .lowest) (l .entered) (l .target) (l .j) _ _ (l .inv .2) (entries-at (a .step .now) (a .c) (l .j) _ _ (omega arith) (first .first-of .ensures) (second .second-of .ensures)) (omega arith)
+    not-ascending (a .matrix .now) (a .racks .now) (a .step .now) (a .c) (a .target .now) (l .lowest) (l .entered) (l .target) (l .j) _ _
+    (l .inv .2) (entries-at (a .step .now) (a .c) (l .j) _ _ (omega arith) (first .first-of .ensures) (second .second-of .ensures))
+    (omega arith)
 
 mul-if2 : tie.Need-mul-if2 Inv-loop μ-loop
 mul-if2 c = omega arith
@@ -62,7 +64,9 @@ returns-2 c =
     let turn = first .before .before .before in
     let l = turn .loop in
     let a = turn .before .args in
-    no-edge (a .matrix .now) (a .racks .now) (a .step .now) (a .c) (a .target .now) (l .lowest) (l .entered) (l .target) (l .j) _ _ (l .inv .2) (entries-at (a .step .now) (a .c) (l .j) _ _ (omega arith) (first .first-of .ensures) (second .second-of .ensures)) (c .if2 .taken)
+    no-edge (a .matrix .now) (a .racks .now) (a .step .now) (a .c) (a .target .now) (l .lowest) (l .entered) (l .target) (l .j) _ _
+    (l .inv .2) (entries-at (a .step .now) (a .c) (l .j) _ _ (omega arith) (first .first-of .ensures) (second .second-of .ensures))
+    (c .if2 .taken)
 
 element-copy-out-if3 : tie.Need-element-copy-out-if3 Inv-loop μ-loop
 element-copy-out-if3 c = omega arith
@@ -76,7 +80,9 @@ returns-3 c =
     let turn = first .before .before .before in
     let l = turn .loop in
     let a = turn .before .args in
-    no-rack (a .matrix .now) (a .racks .now) (a .step .now) (a .c) (a .target .now) (l .lowest) (l .entered) (l .target) (l .j) _ _ (l .inv .2) (entries-at (a .step .now) (a .c) (l .j) _ _ (omega arith) (first .first-of .ensures) (second .second-of .ensures)) (c .if3 .taken)
+    no-rack (a .matrix .now) (a .racks .now) (a .step .now) (a .c) (a .target .now) (l .lowest) (l .entered) (l .target) (l .j) _ _
+    (l .inv .2) (entries-at (a .step .now) (a .c) (l .j) _ _ (omega arith) (first .first-of .ensures) (second .second-of .ensures))
+    (c .if3 .taken)
 
 array-read-if4 : tie.Need-array-read-if4 Inv-loop μ-loop
 array-read-if4 c = omega arith
@@ -91,7 +97,9 @@ returns-4 c =
     let turn = first .before .before .before in
     let l = turn .loop in
     let a = turn .before .args in
-    entered-twice (a .matrix .now) (a .racks .now) (a .step .now) (a .c) (a .target .now) (l .lowest) (l .entered) (l .target) (l .j) _ _ (l .inv .2) (entries-at (a .step .now) (a .c) (l .j) _ _ (omega arith) (first .first-of .ensures) (second .second-of .ensures)) (c .if4 .taken)
+    entered-twice (a .matrix .now) (a .racks .now) (a .step .now) (a .c) (a .target .now) (l .lowest) (l .entered) (l .target) (l .j) _ _
+    (l .inv .2) (entries-at (a .step .now) (a .c) (l .j) _ _ (omega arith) (first .first-of .ensures) (second .second-of .ensures))
+    (c .if4 .taken)
 
 array-write-entered : tie.Need-array-write-entered Inv-loop μ-loop
 array-write-entered c = omega arith
@@ -124,14 +132,18 @@ loop-again c =
     let turn = first .before .before .before in
     let l = turn .loop in
     let a = turn .before .args in
-    let next = noting-next (a .matrix .now) (a .racks .now) (a .step .now) (a .c) (a .target .now) (l .lowest) (l .entered) (l .target) (l .j) _ _ (l .inv .2) (entries-at (a .step .now) (a .c) (l .j) _ _ (omega arith) (first .first-of .ensures) (second .second-of .ensures)) (omega arith) (joined .if2 .left) (held .if3 .left) (c .if4 .left) in
+    let next = noting-next (a .matrix .now) (a .racks .now) (a .step .now) (a .c) (a .target .now) (l .lowest) (l .entered) (l .target)
+    (l .j) _ _ (l .inv .2)
+    (entries-at (a .step .now) (a .c) (l .j) _ _ (omega arith) (first .first-of .ensures) (second .second-of .ensures)) (omega arith)
+    (joined .if2 .left) (held .if3 .left) (c .if4 .left) in
     (omega arith, omega arith, next)
 
 returns-5 : tie.Need-returns-5 Inv-loop μ-loop
 returns-5 c =
     let l = c .before .loop in
     let a = c .before .before .args in
-    noting-last (a .matrix .now) (a .racks .now) (a .step .now) (a .c) (a .target .now) (l .lowest) (l .entered) (l .target) (l .j) (l .inv .2) (omega arith)
+    noting-last (a .matrix .now) (a .racks .now) (a .step .now) (a .c) (a .target .now) (l .lowest) (l .entered) (l .target) (l .j)
+    (l .inv .2) (omega arith)
 
 pub note-moves-spec : {M : Type 1} → statement M
 note-moves-spec =
