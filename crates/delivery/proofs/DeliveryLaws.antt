@@ -1,5 +1,6 @@
 -- Demand 3, from what the three calls answer and leave.
 --
+--     planRoom o         how long a plan buffer 23 asks for
 --     plan-within        a plan just written ends within its buffer
 --     length-within      so does the timetable that is found in a buffer
 --     plan-alone         the plan just written, alone
@@ -36,7 +37,11 @@ use Rattle.floor.proofs.FloorLaws.{plannable-is}
 use Rattle.planner.specs.Moves.{Solves}
 use Rattle.planner.specs.Planner.{refusals, PlanMade, turned-down, made}
 use Rattle.planner.proofs.PlannerLaws.{unrefused, packed, plan-accepted}
-use Rattle.delivery.specs.Delivery.{Call, answered, Answers, planLength, planAlone, timetableAlone, planRoom, Called, unplanned, untimed, checked, Timed, Delivered, Delivers}
+use Rattle.delivery.specs.Delivery.{Call, answered, Answers, planLength, planAlone, timetableAlone, Called, unplanned, untimed, checked, Timed, Delivered, Delivers}
+
+-- how long a plan buffer 23 asks for
+abbrev pub planRoom : List ℕ → ℕ
+planRoom o = 12 * (positionCount o * (positionCount o * positionCount o)) + 3
 
 never : {number place : ℕ} {v : List ℕ} → accepted v ≡ refused number place → ⊥
 never e = let z : _≡_ {A = ℕ} 0 1 = cc in omega arith

@@ -23,8 +23,8 @@ use Rattle.scheduling.proofs.MakerCases.{maker-open}
 use Rattle.scheduling.specs.Maker.{bufferAfter}
 use Rattle.floor.proofs.ExamplesLaws.{twoRacks, plannable-met}
 use Rattle.planner.specs.Moves.{Solves}
-use Rattle.delivery.specs.Delivery.{answered, Answers, Called, Delivered, planRoom}
-use Rattle.delivery.proofs.DeliveryLaws.{delivered, callable}
+use Rattle.delivery.specs.Delivery.{answered, Answers, Called, Delivered}
+use Rattle.delivery.proofs.DeliveryLaws.{planRoom, delivered, callable}
 
 abbrev pub order₁ : List ℕ
 order₁ = twoRacks

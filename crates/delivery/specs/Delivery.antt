@@ -10,7 +10,6 @@
 --     Called o P T a P′ T′      on the order o and the buffers P and T the three calls may answer a and leave P′ and T′ behind
 --     Timed o p k T m c T′      of the plan p of k moves the making rule's timetable is made, and accepted with the maker's steps and k moves
 --     Delivered o P T a P′ T′   the plan just written is accepted, and so is the timetable made of it
---     planRoom o                how long a plan buffer 23 asks for
 --     Delivers o P T a P′ T′    demand 3: every order that can be planned is delivered, given such a buffer
 --     callOfMaker, callOfCheck, answersOf    what the code answers, as these
 -- Assumes nothing.
@@ -97,13 +96,11 @@ pub record Delivered (o P T : List ℕ) (a : Answers) (P′ T′ : List ℕ) : T
   pub accepts : planAnswer o plan ≡ accepted (moves ∷ [])
   pub then : 3 * moves + 3 ≤ length T → Timed o plan moves T (a .maker) (a .checker) T′
 
-abbrev pub planRoom : List ℕ → ℕ
-planRoom o = 12 * (positionCount o * (positionCount o * positionCount o)) + 3
-
 -- "For every well-formed order on a bi-connected floor of n positions, n from 4 to 64, that is not a single ring and has at least two
 -- vacant positions, given a plan buffer of at least 12 × n × n × n + 3 bytes, whatever it held before"
 abbrev pub Delivers : List ℕ → List ℕ → List ℕ → Answers → List ℕ → List ℕ → Type 0
-Delivers o P T a P′ T′ = Plannable o → planRoom o ≤ length P → Delivered o P T a P′ T′
+Delivers o P T a P′ T′ =
+    let n = positionCount o in Plannable o → 12 * (n * (n * n)) + 3 ≤ length P → Delivered o P T a P′ T′
 
 abbrev pub callOfMaker : MakerCall → Call
 callOfMaker NotReached = notReached
