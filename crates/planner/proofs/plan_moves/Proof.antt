@@ -35,10 +35,10 @@ fill-requires c κs =
     let w = t .gave .placed-well .few-positions in
     let p = t .gave .positions-are in (
       omega arith,
-      room-racks o (a .n) (t .edges) (a .m) (t .gave) (t .can),
-      start-placed o (a .n) (t .edges) (a .m)
-          (t .gave) _ from,
-      from .size,
+      (
+        room-racks o (a .n) (t .edges) (a .m) (t .gave) (t .can),
+        (start-placed o (a .n) (t .edges) (a .m) (t .gave) _ from, from .size),
+      ),
     )
 
 fill-requires-2 : tie.Need-fill-requires-2
@@ -51,8 +51,13 @@ fill-requires-2 c κs =
     let a = entry .args in
     let to = goal-holds o (a .n) (t .edges) (a .m) (t .gave) (a .goals) (t .goals-are) in
     let w = t .gave .placed-well .few-positions in
-    let p = t .gave .positions-are in
-    (omega arith, room-racks o (a .n) (t .edges) (a .m) (t .gave) (t .can), goal-placed o (a .n) (t .edges) (a .m) (t .gave) _ to, to .size)
+    let p = t .gave .positions-are in (
+      omega arith,
+      (
+        room-racks o (a .n) (t .edges) (a .m) (t .gave) (t .can),
+        (goal-placed o (a .n) (t .edges) (a .m) (t .gave) _ to, to .size),
+      ),
+    )
 
 break-down-requires : tie.Need-break-down-requires
 break-down-requires c κs =
@@ -66,7 +71,7 @@ break-down-requires c κs =
 
 solve-requires : tie.Need-solve-requires
 solve-requires c κs =
-    let found = c .before .before .before in
+    let found = c .before .before in
     let second = found .before in
     let first = second .before .before in
     let judged = first .before .before .before in
@@ -91,8 +96,7 @@ same-length c = search needs
 returns-2 : tie.Need-returns-2
 returns-2 c =
     let solved = c .before .before in
-    let goal = solved .before .before in
-    let found = goal .before .before in
+    let found = solved .before .before .before in
     let second = found .before in
     let first = second .before .before in
     let test = first .before .before in
