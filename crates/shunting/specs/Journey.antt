@@ -4,6 +4,7 @@
 --
 --     row h                      the table as a function of the position
 --     relogged s j               the state s with j moves in its log
+--     stateOf h m c              the racks h, m of them real, and the counts c as one state; unlogged h m w    w moves written, and no log
 --     Packed old ws t            the bytes t are the moves ws, packed, and behind them what stood there before in `old`
 --     packedOn t w ws            the bytes t, which have w moves, with the moves ws packed behind them
 --     noted l j ms               the log l, which has j moves, with the moves ms behind them
@@ -34,12 +35,19 @@ use Rattle.sets.specs.Sets.{Has}
 use Rattle.graph.specs.Rows.{Edge}
 use Rattle.shunting.specs.Went.{Went, Within}
 use Rattle.shunting.specs.declared.State.{State}
+use Rattle.shunting.specs.declared.Tally.{Tally}
 
 abbrev pub row : List ℕ → ℕ → ℕ
 row h p = getD h p 0
 
 abbrev pub relogged : State → ℕ → State
 relogged s j = record { racks = s .racks; real = s .real; written = s .written; logged = j }
+
+abbrev pub stateOf : List ℕ → ℕ → Tally → State
+stateOf h m c = record { racks = h; real = m; written = c .written; logged = c .logged }
+
+abbrev pub unlogged : List ℕ → ℕ → ℕ → State
+unlogged h m w = record { racks = h; real = m; written = w; logged = 0 }
 
 pub record Packed (old : List ℕ) (ws : List (ℕ × ℕ)) (t : List ℕ) : Type 0 where
   pub is : t ≡ pack ws ++ drop (length (pack ws)) old
@@ -82,7 +90,6 @@ made h a b = set (set h b (row h a)) a 0
 pub record Moved (a b : ℕ) (s : State) (t : List ℕ) (s′ : State) (t′ : List ℕ) : Type 0 where
   pub table : s′ .racks ≡ made (s .racks) a b
   pub reals : s′ .real ≡ s .real
-  pub logged : s′ .logged ≡ s .logged
   pub real : row (s .racks) a ≤ s .real → (t′ ≡ putPair t (s .written) a b) × (s′ .written ≡ s .written + 1)
   pub stand-in : s .real < row (s .racks) a → (t′ ≡ t) × (s′ .written ≡ s .written)
 

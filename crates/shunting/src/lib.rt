@@ -4,7 +4,8 @@ ghost use Prim.Native.Nat.{_+_, _-_, _*_, _≤_, _<_};
 ghost use Rattle.sets.specs.Sets.{Has};
 ghost use Rattle.graph.specs.Connected.{Robust};
 ghost use Rattle.graph.specs.Rows.{Edge, Rows};
-ghost use Rattle.shunting.specs.Journey.{row, Fits, Space, Moved, Joins, Journey, JourneyIn, JourneyOn, JourneyAlong};
+ghost use Rattle.shunting.specs.Journey.{row, stateOf, unlogged, Fits, Space, Moved};
+ghost use Rattle.shunting.specs.Journey.{Joins, Journey, JourneyIn, JourneyOn, JourneyAlong};
 ghost use Rattle.shunting.specs.Turned.{Enterable, Movable, Passed, Simple, Round};
 ghost use Rattle.shunting.specs.Turned.{VacantPlace, Turnable, Turned, Shiftable, Shifted};
 ghost use Rattle.shunting.specs.Undone.{Entries, Undoable, Undone};
@@ -25,23 +26,59 @@ pub struct State {
     pub logged: usize,
 }
 
-// Moves the rack at a to b. The move of a stand-in is not written.
-fn move_rack(a: usize, b: usize, state: State, tail: &mut [u8]) -> State
+// The two counts of a state. Where many moves are made one after another, the racks are lent beside them, so that no move copies the table.
+struct Tally {
+    written: usize,
+    logged: usize,
+}
+
+// Moves the rack at a to b. The move of a stand-in is not written. Yields how many moves the plan has.
+fn move_rack(
+    a: usize,
+    b: usize,
+    real: usize,
+    racks: &mut [u8; 64],
+    tail: &mut [u8],
+    written: usize,
+) -> usize
     requires { ⌜ (a < 64) × (b < 64) ⌝ }
-    requires { ⌜ Space state (now tail) 1 ⌝ }
-    ensures { λ r. ⌜ Moved a b state (now (tail .entry)) r (now (tail .exit)) ⌝ }
+    requires { ⌜ Space (unlogged (now racks) real written) (now tail) 1 ⌝ }
+    ensures { λ r. ⌜ Moved a b (unlogged (now (racks .entry)) real written) (now (tail .entry))
+        (unlogged (now (racks .exit)) real r) (now (tail .exit)) ⌝ }
 {
-    let rack = state.racks[a];
-    let mut next = state;
-    next.racks[b] = rack;
-    next.racks[a] = 0;
-    if state.real < field::wide(rack) {
-        return next;
+    let rack = racks[a];
+    racks[b] = rack;
+    racks[a] = 0;
+    if real < field::wide(rack) {
+        return written;
     }
-    let written = state.written;
     field::put_pair(tail, written, a, b);
-    next.written = written + 1;
-    next
+    written + 1
+}
+
+// Moves the rack at a to b, and logs the move.
+fn step(
+    a: usize,
+    b: usize,
+    real: usize,
+    racks: &mut [u8; 64],
+    log: &mut Log,
+    tail: &mut [u8],
+    tally: Tally,
+) -> Tally
+    requires { ⌜ Movable a b (row (now racks)) ⌝ }
+    requires { ⌜ Fits (stateOf (now racks) real tally) (now log) (now tail) 1 ⌝ }
+    ensures { λ r. ⌜ JourneyOn (Joins a b) 1 (stateOf (now (racks .entry)) real tally) (now (log .entry)) (now (tail .entry))
+        (stateOf (now (racks .exit)) real r) (now (log .exit)) (now (tail .exit)) ⌝ }
+    ensures { λ _. ⌜ Passed a b (row (now (racks .entry))) (row (now (racks .exit))) ⌝ }
+{
+    let logged = tally.logged;
+    log[logged] = (a * 64 + b) as u16;
+    let written = move_rack(a, b, real, racks, tail, tally.written);
+    Tally {
+        written,
+        logged: logged + 1,
+    }
 }
 
 // Moves the rack at a to b, and logs the move.
@@ -51,11 +88,19 @@ pub fn make_move(a: usize, b: usize, state: State, log: &mut Log, tail: &mut [u8
     ensures { λ r. ⌜ JourneyOn (Joins a b) 1 state (now (log .entry)) (now (tail .entry)) r (now (log .exit)) (now (tail .exit)) ⌝ }
     ensures { λ r. ⌜ Passed a b (row (state .racks)) (row (r .racks)) ⌝ }
 {
-    let logged = state.logged;
-    log[logged] = (a * 64 + b) as u16;
-    let mut next = move_rack(a, b, state, tail);
-    next.logged = logged + 1;
-    next
+    let real = state.real;
+    let mut racks = state.racks;
+    let begun = Tally {
+        written: state.written,
+        logged: state.logged,
+    };
+    let made = step(a, b, real, &mut racks, log, tail, begun);
+    State {
+        racks,
+        real,
+        written: made.written,
+        logged: made.logged,
+    }
 }
 
 // The vacant positions below p, and p where it is vacant.
@@ -94,15 +139,25 @@ fn shift(at: &[u8; 64], size: usize, state: State, log: &mut Log, tail: &mut [u8
         r (now (log .exit)) (now (tail .exit)) ⌝ }
     ensures { λ r. ⌜ Shifted (row (now (at .entry))) size (row (state .racks)) (row (r .racks)) ⌝ }
 {
-    let mut state = state;
+    let real = state.real;
+    let mut racks = state.racks;
+    let mut tally = Tally {
+        written: state.written,
+        logged: state.logged,
+    };
     let mut i = size - 1;
     while 0 < i {
         i -= 1;
         let a = at[i] as usize;
         let b = at[i + 1] as usize;
-        state = make_move(a, b, state, log, tail);
+        tally = step(a, b, real, &mut racks, log, tail, tally);
     }
-    state
+    State {
+        racks,
+        real,
+        written: tally.written,
+        logged: tally.logged,
+    }
 }
 
 // Clears p: a shortest way through free positions leads from p to a vacancy, and the racks on it are shifted along it by one.
@@ -187,16 +242,25 @@ fn vacancy_on(cycle: &[u8; 64], size: usize, racks: &[u8; 64]) -> usize
 }
 
 // Moves what stands at a, if anything does, to b, which is vacant.
-fn pass_on(a: usize, b: usize, state: State, log: &mut Log, tail: &mut [u8]) -> State
-    requires { ⌜ Enterable a b (row (state .racks)) ⌝ }
-    requires { ⌜ Fits state (now log) (now tail) 1 ⌝ }
-    ensures { λ r. ⌜ JourneyOn (Joins a b) 1 state (now (log .entry)) (now (tail .entry)) r (now (log .exit)) (now (tail .exit)) ⌝ }
-    ensures { λ r. ⌜ Passed a b (row (state .racks)) (row (r .racks)) ⌝ }
+fn pass_on(
+    a: usize,
+    b: usize,
+    real: usize,
+    racks: &mut [u8; 64],
+    log: &mut Log,
+    tail: &mut [u8],
+    tally: Tally,
+) -> Tally
+    requires { ⌜ Enterable a b (row (now racks)) ⌝ }
+    requires { ⌜ Fits (stateOf (now racks) real tally) (now log) (now tail) 1 ⌝ }
+    ensures { λ r. ⌜ JourneyOn (Joins a b) 1 (stateOf (now (racks .entry)) real tally) (now (log .entry)) (now (tail .entry))
+        (stateOf (now (racks .exit)) real r) (now (log .exit)) (now (tail .exit)) ⌝ }
+    ensures { λ _. ⌜ Passed a b (row (now (racks .entry))) (row (now (racks .exit))) ⌝ }
 {
-    if state.racks[a] == 0 {
-        return state;
+    if racks[a] == 0 {
+        return tally;
     }
-    make_move(a, b, state, log, tail)
+    step(a, b, real, racks, log, tail, tally)
 }
 
 // Turns a cycle by one place: from a vacancy on, the rack before it moves into it, then the one before that, and so on round. A vacant
@@ -209,18 +273,27 @@ pub fn turn(cycle: &[u8; 64], size: usize, state: State, log: &mut Log, tail: &m
         r (now (log .exit)) (now (tail .exit)) ⌝ }
     ensures { λ r. ⌜ Turned (row (now (cycle .entry))) size (row (state .racks)) (row (r .racks)) ⌝ }
 {
-    let racks = state.racks;
+    let real = state.real;
+    let mut racks = state.racks;
     let z = vacancy_on(cycle, size, &racks);
-    let mut state = state;
+    let mut tally = Tally {
+        written: state.written,
+        logged: state.logged,
+    };
     // The place i places after that vacancy is vacant: what stands before it moves there.
     let mut i = size;
     while 1 < i {
         let b = cycle[(z + i) % size] as usize;
         i -= 1;
         let a = cycle[(z + i) % size] as usize;
-        state = pass_on(a, b, state, log, tail);
+        tally = pass_on(a, b, real, &mut racks, log, tail, tally);
     }
-    state
+    State {
+        racks,
+        real,
+        written: tally.written,
+        logged: tally.logged,
+    }
 }
 
 // Takes back the moves that the log has from entry `from` up to entry `to`, the last of them first. A move is skipped where nothing stands
@@ -231,18 +304,25 @@ pub fn undo(from: usize, to: usize, state: State, log: &Log, tail: &mut [u8]) ->
     requires { ⌜ Space state (now tail) (to - from) ⌝ }
     ensures { λ r. ⌜ Undone (now (log .entry)) from to state (now (tail .entry)) r (now (tail .exit)) ⌝ }
 {
-    let mut state = state;
+    let real = state.real;
+    let mut racks = state.racks;
+    let mut written = state.written;
     let mut i = to;
     while from < i {
         i -= 1;
         let x = log[i];
         let a = field::first_of(x);
         let b = field::second_of(x);
-        if state.racks[b] != 0 {
-            state = move_rack(b, a, state, tail);
+        if racks[b] != 0 {
+            written = move_rack(b, a, real, &mut racks, tail, written);
         }
     }
-    state
+    State {
+        racks,
+        real,
+        written,
+        logged: state.logged,
+    }
 }
 
 // Where a rack stands.

@@ -9,11 +9,11 @@ use Rattle.shunting.proofs.move_rack.Tie as tie
 element-copy-out-rack : tie.Need-element-copy-out-rack
 element-copy-out-rack c = search needs
 
-element-write-next : tie.Need-element-write-next
-element-write-next c = search needs
+element-write-racks : tie.Need-element-write-racks
+element-write-racks c = search needs
 
-element-write-next-2 : tie.Need-element-write-next-2
-element-write-next-2 c = search needs
+element-write-racks-2 : tie.Need-element-write-racks-2
+element-write-racks-2 c = search needs
 
 wide-requires : tie.Need-wide-requires
 wide-requires c κs = search needs
@@ -22,13 +22,13 @@ returns : tie.Need-returns
 returns c =
     let w = c .before .wide .ensures .0 in
     let t = c .if1 .taken in
-    record { table = refl; reals = refl; logged = refl; real = λ l. absurd (omega arith); stand-in = λ l. (refl, refl) }
+    record { table = refl; reals = refl; real = λ l. absurd (omega arith); stand-in = λ l. (refl, refl) }
 
 put-pair-requires : tie.Need-put-pair-requires
 put-pair-requires c κs = search needs
 
-add-next : tie.Need-add-next
-add-next c = search needs
+add-result : tie.Need-add-result
+add-result c = search needs
 
 same-length : tie.Need-same-length
 same-length c = search needs
@@ -42,7 +42,6 @@ returns-2 c =
     record {
       table = refl;
       reals = refl;
-      logged = refl;
       real = λ l. (put .put-pair .ensures, refl);
       stand-in = λ l. absurd (omega arith);
     }
@@ -52,11 +51,11 @@ move-rack-spec =
     tie.close
     (tie.spec
     element-copy-out-rack
-    element-write-next
-    element-write-next-2
+    element-write-racks
+    element-write-racks-2
     wide-requires
     returns
     put-pair-requires
-    add-next
+    add-result
     same-length
     returns-2)

@@ -18,8 +18,8 @@ returns c =
       record { left = vacant; entered = entry .pre .0 .vacant ∙ sym vacant; others = λ p x y. refl },
     )
 
-make-move-requires : tie.Need-make-move-requires
-make-move-requires c κs = search needs
+step-requires : tie.Need-step-requires
+step-requires c κs = search needs
 
 same-length : tie.Need-same-length
 same-length c = search needs
@@ -29,4 +29,4 @@ returns-2 c = search needs
 
 pub pass-on-spec : {M : Type 1} → statement M
 pass-on-spec =
-    tie.close (tie.spec element-copy-out-if1 returns make-move-requires same-length returns-2)
+    tie.close (tie.spec element-copy-out-if1 returns step-requires same-length returns-2)

@@ -2,7 +2,7 @@
 -- Assumes nothing.
 use Prim.Native.Nat.{_-_}
 use native.Mathlib.Omega.{arith}
-use Rattle.shunting.specs.Journey.{row}
+use Rattle.shunting.specs.Journey.{row, stateOf}
 use Rattle.shunting.proofs.JourneyLaws.{journey-more}
 use Rattle.shunting.proofs.TurnLaws.{round-in, round-below, Underway, underway-first, underway-next, underway-last}
 use Rattle.shunting.proofs.TurnLaws.{underway-tail, underway-fits, underway-enterable}
@@ -10,11 +10,11 @@ use Rattle.shunting.proofs.turn.Statement.{statement}
 use Rattle.shunting.proofs.turn.Tie as tie
 
 abbrev Inv-loop : tie.InvT-loop
-Inv-loop cycle size log₀ tail₀ z state₀ i₀ log tail state i =
-    Underway (row cycle) z size i state₀ log₀ tail₀ state log tail
+Inv-loop cycle size log₀ tail₀ real racks₀ z tally₀ i₀ log tail racks tally i =
+    Underway (row cycle) z size i (stateOf racks₀ real tally₀) log₀ tail₀ (stateOf racks real tally) log tail
 
 abbrev μ-loop : tie.MeasureT-loop
-μ-loop cycle size log₀ tail₀ z state₀ i₀ log tail state i = i
+μ-loop cycle size log₀ tail₀ real racks₀ z tally₀ i₀ log tail racks tally i = i
 
 vacancy-on-requires : tie.Need-vacancy-on-requires Inv-loop μ-loop
 vacancy-on-requires c κs =
@@ -101,8 +101,8 @@ cast-a c =
 
 pass-on-requires : tie.Need-pass-on-requires Inv-loop μ-loop
 pass-on-requires c κs =
-    let after-b = c .before .before .before in
-    let turn = after-b .before .before in
+    let after-a = c .before .before .before in
+    let turn = after-a .before .before .before in
     let after-vacancy-on = turn .before in
     let after-racks = after-vacancy-on .before .before in
     let entry = after-racks .before .before in
@@ -116,8 +116,9 @@ loop-less c = omega arith
 loop-again : tie.Need-loop-again Inv-loop μ-loop
 loop-again c =
     let after-pass-on = c .before .before in
-    let after-a = after-pass-on .before .before .before in
-    let turn = after-a .before .before .before in
+    let after-racks3 = after-pass-on .before .before .before in
+    let test = after-racks3 .before .before .before in
+    let turn = test .before in
     let after-vacancy-on = turn .before in
     let after-racks = after-vacancy-on .before .before in
     let entry = after-racks .before .before in

@@ -1,10 +1,10 @@
--- `shunting::make_move` meets its contract.
+-- `shunting::step` meets its contract.
 -- Assumes nothing.
 use mathlib.Core.Path.{refl}
 use borrow.Author.Needs.{needs}
-use Rattle.shunting.proofs.JourneyLaws.{moved-passed, moved-journey}
-use Rattle.shunting.proofs.make_move.Statement.{statement}
-use Rattle.shunting.proofs.make_move.Tie as tie
+use Rattle.shunting.proofs.JourneyLaws.{moved-relogged, moved-passed, moved-journey}
+use Rattle.shunting.proofs.step.Statement.{statement}
+use Rattle.shunting.proofs.step.Tie as tie
 
 mul-log : tie.Need-mul-log
 mul-log c = search needs
@@ -22,10 +22,14 @@ element-write-log : tie.Need-element-write-log
 element-write-log c = search needs
 
 move-rack-requires : tie.Need-move-rack-requires
-move-rack-requires c κs = search needs
+move-rack-requires c κs =
+    let entry = c .before .before .before in
+    let can = entry .pre .0 in
+    let fits = entry .pre .1 in
+    ((can .leaves, can .enters), record { racks = fits .racks; room = fits .room })
 
-add-next : tie.Need-add-next
-add-next c = search needs
+add-t10 : tie.Need-add-t10
+add-t10 c = search needs
 
 same-length : tie.Need-same-length
 same-length c = search needs
@@ -33,14 +37,16 @@ same-length c = search needs
 returns : tie.Need-returns
 returns c =
     let moved = c .before .before in
-    let entry = moved .before .before .before in
+    let written = moved .before .before in
+    let entry = written .before .before in
     let can = entry .pre .0 in
     let fits = entry .pre .1 in
-    let m = moved .move-rack .ensures in
+    let j = entry .args .tally .logged in
+    let m = moved-relogged j j (moved .move-rack .ensures) in
     (λ g e. moved-journey (fits .racks) can m g e (entry .args .log .now) _ fits refl, moved-passed (fits .racks) can m)
 
-pub make-move-spec : {M : Type 1} → statement M
-make-move-spec =
+pub step-spec : {M : Type 1} → statement M
+step-spec =
     tie.close
     (tie.spec
     mul-log
@@ -49,6 +55,6 @@ make-move-spec =
     mul-log-2
     element-write-log
     move-rack-requires
-    add-next
+    add-t10
     same-length
     returns)
