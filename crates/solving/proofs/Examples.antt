@@ -187,7 +187,6 @@ step h t w a b long m few edge = (
   moved-trip long m (record {
     table = refl;
     reals = refl;
-    logged = refl;
     real = λ l. (refl, refl);
     stand-in = λ l. absurd (omega arith);
   }) floorF edge,
