@@ -7,15 +7,15 @@
 --     aside-bringable        it can be brought to place 0
 --     aside-again            it can step aside
 --     aside-done             it stands there, and nothing else off the ring moved
---     aside-filled           all vacancies are on the ring
+--     aside-rest             all vacancies are on the ring
 --     rack-on                a rack that stood on the ring, and is not aside, stands on the ring
 --     next-bringable         b can be brought to place 1
---     next-held, next-outside, next-held-still, next-outside-still    it stands there, and nothing off the ring moved: b brought, place 0
---                                                                     cleared
+--     next-held, next-outside, next-held-still, next-outside-still
+--                            it stands there, and nothing off the ring moved: where b is brought, and where place 0 is cleared
 --     next-done              and the last place
---     swapped-first, swapped-second, swapped-other, swapped-zero, swapped-some    a for b; b for a; any other rack; no rack; a rack for a
---                                                                                 rack
---     exchange-swappable     the two can be swapped then
+--     swapped-first, swapped-second, swapped-other, swapped-zero, swapped-some
+--                            a for b; b for a; any other rack; no rack; a rack for a rack
+--     exchange-aside, exchange-swappable    a is still aside then, and the two can be swapped
 --     exchange-swapped       two racks swapped where they stand are swapped everywhere
 --     exchange-undoing       what taking back the moves before the swap leads to
 --     exchange-moves, exchange-most    the moves before the swap are at most 2 × n × n, and they fit the log
@@ -50,10 +50,10 @@ use Rattle.shunting.specs.Cleared.{Cleared, Bringable, Brought}
 use Rattle.shunting.specs.Table.{Table, StandsAt}
 use Rattle.shunting.proofs.TableLaws.{table-rack, table-went}
 use Rattle.base_ring.specs.declared.Circle.{Circle}
-use Rattle.base_ring.specs.Circle.{place, On, BaseRing, OnRing, TwoOnRing, Filled, Open, Aside, Ready, swapped, Exchanged}
+use Rattle.base_ring.specs.Circle.{place, On, BaseRing, OnRing, TwoOnRing, RestHeld, Open, Aside, Ready, swapped, Exchanged}
 use Rattle.base_ring.specs.Moves.{asideMoves, nextMoves}
 use Rattle.base_ring.specs.Swap.{Swappable, Joined, Swapped}
-use Rattle.base_ring.proofs.RingLaws.{on-surely, circle-on, circle-apart, circle-off, circle-beside, filled-open}
+use Rattle.base_ring.proofs.RingLaws.{on-surely, circle-on, circle-apart, circle-off, circle-beside, held-open}
 use Rattle.base_ring.proofs.RingLaws.{ring-has, ring-on, ring-vacancy}
 
 -- a rack of a table that stands where one on the ring does
@@ -83,7 +83,7 @@ module _ {g : List ℕ} {c : Circle} (rows : Rows (c .positions) g) (circle : Ba
         record {
           leaves = small-beside;
           enters = small-place 0 (omega arith);
-          held = filled-open circle o (c .beside) (circle-beside rows circle) (circle-off circle);
+          held = held-open circle o (c .beside) (circle-beside rows circle) (circle-off circle);
           vacant = o .zero;
         }
 
@@ -146,11 +146,11 @@ module _ {g : List ℕ} {c : Circle} (rows : Rows (c .positions) g) (circle : Ba
 
   -- the table k after a was brought aside
   module _ {h k : ℕ → ℕ} {a : ℕ} (o : Open c h) (rack : OnRing c a h) (aside : Aside c a h k) where
-    pub aside-filled : Filled c k
-    aside-filled p l out e =
+    pub aside-rest : RestHeld c k
+    aside-rest p l out e =
         by-cases (ℕ-discrete p (c .beside))
         (λ q. rack .rack (sym (aside .there) ∙ ap k (sym q) ∙ e))
-        (λ q. filled-open circle o p l out (sym (aside .outside p out q) ∙ e))
+        (λ q. held-open circle o p l out (sym (aside .outside p out q) ∙ e))
 
     pub rack-on : Table (c .positions) k → {b : ℕ} → a ≢ b → OnRing c b h → OnRing c b k
     rack-on t {b} differ other =
@@ -176,7 +176,7 @@ module _ {g : List ℕ} {c : Circle} (rows : Rows (c .positions) g) (circle : Ba
   -- b is brought to place 1, and two places are cleared
   module _ {h : ℕ → ℕ} {b : ℕ} (ring at : ℕ) (rack : OnRing c b h) (part : Part (place c) 0 (c .size) ring)
       (stands : StandsAt (c .positions) b h at) where
-    pub next-bringable : Table (c .positions) h → Filled c h → Bringable (Has ring) at (place c 1) h
+    pub next-bringable : Table (c .positions) h → RestHeld c h → Bringable (Has ring) at (place c 1) h
     next-bringable table filled =
         let l = three in
         record {

@@ -8,9 +8,9 @@
 --     circle-robust        the ring is whole, and stays so without any one position
 --     robust-same          two sets with the same positions stay whole together
 --     table-two            where two positions are vacant, no third is
---     filled-on            where every position off the ring holds a rack, a vacancy is on the ring
---     filled-open          so it is where places 0 and 1 are vacant
---     filled-same          and where the same stands off the ring
+--     held-on              where every position off the ring holds a rack, a vacancy is on the ring
+--     held-open            so it is where places 0 and 1 are vacant
+--     held-same            and where the same stands off the ring
 --     ring-has, ring-on, ring-below, ring-robust    the ring as a set
 --     ring-vacancy         the set has a vacancy
 --     ring-reaches         a walk leads from each place to a vacancy, where every position off the ring holds a rack
@@ -36,7 +36,7 @@ use Rattle.shunting.specs.Cleared.{Reaches, Vacancy}
 use Rattle.shunting.specs.Table.{Table}
 use Rattle.shunting.proofs.TableLaws.{table-other}
 use Rattle.base_ring.specs.declared.Circle.{Circle}
-use Rattle.base_ring.specs.Circle.{place, On, BaseRing, Filled, Open}
+use Rattle.base_ring.specs.Circle.{place, On, BaseRing, RestHeld, Open}
 
 pub among-or-not : (at : ℕ → ℕ) (m p : ℕ) → Among at m p ⊎ (Among at m p → ⊥)
 among-or-not at zero p = inr (λ x. none (x .before))
@@ -84,11 +84,11 @@ table-two t p q r hp hq differ vp vq hr vr =
     pick (inr a) (inl b) (inr c) = inl (c ∙ sym a)
     pick (inr a) (inr b) c = absurd (differ (a ∙ sym b))
 
-pub filled-on : (c : Circle) {h : ℕ → ℕ} → Filled c h → (p : ℕ) → p < c .positions → h p ≡ 0 → On c p
-filled-on c f p l v = on-surely c p (λ out. f p l out v)
+pub held-on : (c : Circle) {h : ℕ → ℕ} → RestHeld c h → (p : ℕ) → p < c .positions → h p ≡ 0 → On c p
+held-on c f p l v = on-surely c p (λ out. f p l out v)
 
-pub filled-same : (c : Circle) {h k : ℕ → ℕ} → ((p : ℕ) → (On c p → ⊥) → k p ≡ h p) → Filled c h → Filled c k
-filled-same c same f p l out e = f p l out (sym (same p out) ∙ e)
+pub held-same : (c : Circle) {h k : ℕ → ℕ} → ((p : ℕ) → (On c p → ⊥) → k p ≡ h p) → RestHeld c h → RestHeld c k
+held-same c same f p l out e = f p l out (sym (same p out) ∙ e)
 
 module _ {E : ℕ → ℕ → Type 0} {c : Circle} (circle : BaseRing E c) where
   pub circle-on : (i : ℕ) → i < c .size → On c (place c i)
@@ -107,8 +107,8 @@ module _ {E : ℕ → ℕ → Type 0} {c : Circle} (circle : BaseRing E c) where
   pub circle-robust : Symmetric E → Robust E (On c)
   circle-robust s = stage.ring-robust (place c) (c .size) s (circle .three) (circle .joined) (circle .closed) (circle .distinct)
 
-  pub filled-open : {h : ℕ → ℕ} → Open c h → Filled c h
-  filled-open o p l out v =
+  pub held-open : {h : ℕ → ℕ} → Open c h → RestHeld c h
+  held-open o p l out v =
       let three = circle .three in
       ⊎-elim
       (λ e. out (subst (On c) (sym e) (circle-on 0 (omega arith))))
@@ -133,12 +133,12 @@ module _ {g : List ℕ} {c : Circle} (rows : Rows (c .positions) g) (circle : Ba
     pub ring-robust : Robust (Edge g) (Has ring)
     ring-robust = robust-same ring-has ring-on (circle-robust circle (rows .symmetric))
 
-    module _ {h : ℕ → ℕ} (table : Table (c .positions) h) (filled : Filled c h) where
+    module _ {h : ℕ → ℕ} (table : Table (c .positions) h) (filled : RestHeld c h) where
       pub ring-vacancy : Vacancy (Has ring) h
       ring-vacancy =
           record {
             at = table .first;
-            there = ring-has (table .first) (filled-on c filled (table .first) (table .first-inside) (table .first-vacant));
+            there = ring-has (table .first) (held-on c filled (table .first) (table .first-inside) (table .first-vacant));
             vacant = table .first-vacant;
           }
 
@@ -155,7 +155,7 @@ module _ {g : List ℕ} {c : Circle} (rows : Rows (c .positions) g) (circle : Ba
             let z = table-other table (place c i) in
             let way = ring-robust .without (place c i) (ring-has (place c i) (circle-on circle i hi)) (place c j) (z .0)
             (record { there = ring-has (place c j) (circle-on circle j hj); other = circle-apart circle j i hj hi other })
-            (record { there = ring-has (z .0) (filled-on c filled (z .0) (z .1) (z .3)); other = z .2 }) in
+            (record { there = ring-has (z .0) (held-on c filled (z .0) (z .1) (z .3)); other = z .2 }) in
             record { to = z .0; size = way .size; walk = walk-inside (λ p x. has p .1 (x .there, x .other)) (way .walk); vacant = z .3 }
 
       module _ (held : h (place c 1) ≢ 0) (free more : ℕ) (has : (p : ℕ) → Has free p ↔ (Has ring p × (p ≢ place c 1)))
@@ -183,7 +183,7 @@ module _ {g : List ℕ} {c : Circle} (rows : Rows (c .positions) g) (circle : Ba
         pub ring-reaches-last : Reaches (Edge g) (Has more) h (place c (c .size - 1))
         ring-reaches-last =
             let z = table-other table (place c 0) in
-            let on = filled-on c filled (z .0) (z .1) (z .3) in
+            let on = held-on c filled (z .0) (z .1) (z .3) in
             let first : on .place ≢ 0 = λ e. z .2 (sym (on .is) ∙ ap (place c) e) in
             let second : on .place ≢ 1 = λ e. held (ap h (sym (ap (place c) e) ∙ on .is) ∙ z .3) in
             let way = down (on .place) (omega arith) (on .before) in

@@ -1,6 +1,6 @@
 -- Laws of settling the ring.
 --
---     open-filled, open-first, open-done    places 0 and 1 are cleared: before, after the first, and after both
+--     open-rest, open-first, open-done      places 0 and 1 are cleared: before, after the first, and after both
 --     place-held, place-goal                a place from 2 on holds a rack; the rack that the goal has there stands on the ring
 --     place-same, place-done                it holds the goal's rack; the two were exchanged
 --     ringing-all           all places are settled: the table is the goal
@@ -29,8 +29,8 @@ use Rattle.shunting.specs.Cleared.{Cleared}
 use Rattle.shunting.specs.Table.{Table}
 use Rattle.shunting.proofs.TableLaws.{table-rack}
 use Rattle.base_ring.specs.declared.Circle.{Circle}
-use Rattle.base_ring.specs.Circle.{place, On, BaseRing, OnRing, Filled, Open, swapped, Exchanged, RestSettled, Ringing}
-use Rattle.base_ring.proofs.RingLaws.{among-or-not, on-surely, circle-on, circle-apart, table-two, filled-open, filled-same, ring-on}
+use Rattle.base_ring.specs.Circle.{place, On, BaseRing, OnRing, RestHeld, Open, swapped, Exchanged, RestSettled, Ringing}
+use Rattle.base_ring.proofs.RingLaws.{among-or-not, on-surely, circle-on, circle-apart, table-two, held-open, held-same, ring-on}
 use Rattle.base_ring.proofs.ExchangeLaws.{swapped-second, swapped-other, swapped-zero}
 
 none : {i j : ℕ} → i ≤ j → j < i → ⊥
@@ -38,15 +38,15 @@ none a b = omega arith
 
 module _ {g : List ℕ} {c : Circle} (rows : Rows (c .positions) g) (circle : BaseRing (Edge g) c) {T h : ℕ → ℕ}
     (rest : RestSettled c T h) where
-  pub open-filled : Filled c h
-  open-filled = filled-same c (rest .outside) (filled-open circle (rest .goal))
+  pub open-rest : RestHeld c h
+  open-rest = held-same c (rest .outside) (held-open circle (rest .goal))
 
   module _ (ring : ℕ) (part : Part (place c) 0 (c .size) ring) {h₁ : ℕ → ℕ} (cleared : Cleared (Has ring) (place c 0) h h₁) where
     same : (p : ℕ) → (On c p → ⊥) → h₁ p ≡ T p
     same p out = cleared .outside p (λ x. out (ring-on rows circle ring part p x)) ∙ rest .outside p out
 
-    pub open-first : Filled c h₁
-    open-first = filled-same c same (filled-open circle (rest .goal))
+    pub open-first : RestHeld c h₁
+    open-first = held-same c same (held-open circle (rest .goal))
 
     pub open-done : (free : ℕ) → ((p : ℕ) → Has free p ↔ (Has ring p × (p ≢ place c 0))) → {h₂ : ℕ → ℕ}
         → Cleared (Has free) (place c 1) h₁ h₂ → Table (c .positions) h₂ → Ringing c T 2 h₂

@@ -8,7 +8,7 @@
 --                          not on it
 --     OnRing c r h         rack r stands on the ring
 --     TwoOnRing c a b h    a and b are two racks, and both stand on it
---     Filled c h           every position off the ring holds a rack, so that the vacancies are on the ring
+--     RestHeld c h         every position off the ring holds a rack, so that the vacancies are on the ring
 --     Open c h             just the places 0 and 1 are vacant
 --     Aside c r h k        rack r stands beside the ring, and nothing else off the ring moved
 --     Ready c r h k        rack r stands at place 1, place 0 and the last place are vacant, and nothing off the ring moved
@@ -55,8 +55,8 @@ pub record TwoOnRing (c : Circle) (a b : ℕ) (h : ℕ → ℕ) : Type 0 where
   pub first : OnRing c a h
   pub second : OnRing c b h
 
-abbrev pub Filled : Circle → (ℕ → ℕ) → Type 0
-Filled c h = (p : ℕ) → p < c .positions → (On c p → ⊥) → h p ≢ 0
+abbrev pub RestHeld : Circle → (ℕ → ℕ) → Type 0
+RestHeld c h = (p : ℕ) → p < c .positions → (On c p → ⊥) → h p ≢ 0
 
 pub record Open (c : Circle) (h : ℕ → ℕ) : Type 0 where
   pub table : Table (c .positions) h

@@ -10,7 +10,7 @@ ghost use Rattle.shunting.specs.Went.{Same};
 ghost use Rattle.shunting.specs.Journey.{row, Fits, Room, Space, Trip, Journey, JourneyOn};
 ghost use Rattle.shunting.specs.Turned.{Passed};
 ghost use Rattle.shunting.specs.Table.{Table};
-ghost use Rattle.base_ring.specs.Circle.{BaseRing, OnRing, TwoOnRing, Filled, Open, Aside, Ready, Exchanged, RestSettled, Ringing};
+ghost use Rattle.base_ring.specs.Circle.{BaseRing, OnRing, TwoOnRing, RestHeld, Open, Aside, Ready, Exchanged, RestSettled, Ringing};
 ghost use Rattle.base_ring.specs.From.{placeOf, ringFrom, circleOf};
 ghost use Rattle.base_ring.specs.Moves.{asideMoves, nextMoves, exchangeMoves, openMoves, ringMoves};
 ghost use Rattle.base_ring.specs.Swap.{PassableBy, JoinsBy, Swappable, Joined, Swapped};
@@ -100,7 +100,7 @@ fn bring_next(
     requires { ⌜ Rows (circle .positions) (now rows) ⌝ }
     requires { ⌜ BaseRing (Edge (now rows)) circle ⌝ }
     requires { ⌜ Table (circle .positions) (row (state .racks)) ⌝ }
-    requires { ⌜ Filled circle (row (state .racks)) ⌝ }
+    requires { ⌜ RestHeld circle (row (state .racks)) ⌝ }
     requires { ⌜ OnRing circle rack (row (state .racks)) ⌝ }
     requires { ⌜ Fits state (now log) (now tail) (nextMoves (circle .positions)) ⌝ }
     ensures { λ r. ⌜ Journey (now (rows .entry)) (nextMoves (circle .positions)) state (now (log .entry)) (now (tail .entry))

@@ -34,7 +34,7 @@ use Rattle.base_ring.specs.declared.Circle.{Circle}
 use Rattle.base_ring.specs.Circle.{place, On, BaseRing, Open, RestSettled}
 use Rattle.base_ring.specs.From.{circleOf}
 use Rattle.base_ring.specs.Moves.{ringMoves}
-use Rattle.base_ring.proofs.RingLaws.{circle-apart, filled-open}
+use Rattle.base_ring.proofs.RingLaws.{circle-apart, held-open}
 use Rattle.base_ring.proofs.FromLaws.{circle-right, circle-same}
 use Rattle.handles.specs.Lane.{Agreed, Filled}
 use Rattle.solving.specs.Moves.{settleMoves, solveMoves}
@@ -67,7 +67,7 @@ module _ {n : ℕ} {E : ℕ → ℕ → Type 0} (b : Breakdown) (broken : Breaks
 
   pub goal-filled : {k : ℕ → ℕ} → Open (circleOf n b) k → Filled (row (b .order)) k (b .ring) n
   goal-filled o j le l =
-      filled-open right o (row (b .order) j) (broken .below j l) (λ on.
+      held-open right o (row (b .order) j) (broken .below j l) (λ on.
       let a = circle-same n b broken (row (b .order) j) .1 on in
       let h = a .before in
       broken .distinct (a .place) j (omega arith) l (a .is))

@@ -5,7 +5,7 @@ use native.Mathlib.Omega.{arith}
 use borrow.Author.Needs.{needs}
 use Rattle.shunting.proofs.JourneyLaws.{journey-append, fits-less, fits-then}
 use Rattle.shunting.proofs.TableLaws.{table-went}
-use Rattle.base_ring.proofs.RingLaws.{circle-below, filled-same, ring-below, ring-robust}
+use Rattle.base_ring.proofs.RingLaws.{circle-below, held-same, ring-below, ring-robust}
 use Rattle.base_ring.proofs.RingLaws.{ring-reaches-without, ring-reaches-last}
 use Rattle.base_ring.proofs.ExchangeLaws.{next-bringable, next-outside, next-held-still, next-outside-still, next-done}
 use Rattle.base_ring.proofs.bring_next.Statement.{statement}
@@ -108,7 +108,7 @@ clear-requires c κs =
     let has = without .without .ensures in
     let table = table-went (rows .inside) (m .0 .trip .went) (p .1 .1 .0) in
     let outside = next-outside rows circle _ _ (rack .0) (part .ensures) (at .where-is .ensures) (m .1) in
-    let filled = filled-same (entry (parted at) .args .circle) outside (p .1 .1 .1 .0) in (
+    let filled = held-same (entry (parted at) .args .circle) outside (p .1 .1 .1 .0) in (
       rows,
       (
         circle .below 0 (omega arith),
@@ -159,7 +159,7 @@ clear-requires-2 c κs =
         (
           λ q h. ring-below rows circle _ (part .ensures) q (has q .0 (has-more q .0 h .0) .0),
           (
-            ring-reaches-last rows circle _ (part .ensures) two (filled-same ring outside (p .1 .1 .1 .0)) there _ _ has has-more,
+            ring-reaches-last rows circle _ (part .ensures) two (held-same ring outside (p .1 .1 .1 .0)) there _ _ has has-more,
             fits-then (fits-then (rack .1) (m .0)) (o .0 .journey),
           ),
         ),

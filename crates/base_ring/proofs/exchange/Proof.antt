@@ -6,7 +6,7 @@ use borrow.Author.Needs.{needs}
 use Rattle.shunting.proofs.JourneyLaws.{journey-append, trip-append, trip-more, fits-then, fits-anew, room-less, space-then, space-less}
 use Rattle.shunting.proofs.TableLaws.{table-went}
 use Rattle.base_ring.specs.Moves.{asideMoves, nextMoves}
-use Rattle.base_ring.proofs.ExchangeLaws.{aside-filled, rack-on, exchange-swappable, exchange-moves, exchange-most, exchange-made}
+use Rattle.base_ring.proofs.ExchangeLaws.{aside-rest, rack-on, exchange-swappable, exchange-moves, exchange-most, exchange-made}
 use Rattle.base_ring.proofs.exchange.Statement.{statement}
 use Rattle.base_ring.proofs.exchange.Tie as tie
 
@@ -72,7 +72,7 @@ bring-next-requires c κs =
         (
           table,
           (
-            aside-filled rows circle (p .1 .1 .0) (two .first) (m .1),
+            aside-rest rows circle (p .1 .1 .0) (two .first) (m .1),
             (
               rack-on rows circle (p .1 .1 .0) (two .first) (m .1) table (two .differ) (two .second),
               fits-then (fits-anew (asideMoves n + nextMoves n) (omega arith) (omega arith) (p .1 .1 .1 .1)) (m .0),

@@ -8,7 +8,7 @@ use Rattle.shunting.proofs.JourneyLaws.{trip-append, trip-anew, fits-then, fits
 use Rattle.shunting.proofs.TableLaws.{table-went}
 use Rattle.base_ring.specs.Moves.{openMoves}
 use Rattle.base_ring.proofs.RingLaws.{ring-below, ring-reaches, ring-reaches-without}
-use Rattle.base_ring.proofs.SettleLaws.{open-filled, open-first, open-done}
+use Rattle.base_ring.proofs.SettleLaws.{open-rest, open-first, open-done}
 use Rattle.base_ring.proofs.open_ring.Statement.{statement}
 use Rattle.base_ring.proofs.open_ring.Tie as tie
 
@@ -56,7 +56,7 @@ clear-requires c κs =
         (
           ring-below rows circle _ part,
           (
-            ring-reaches rows circle _ part (rest .table) (open-filled rows circle rest) 0 (omega arith),
+            ring-reaches rows circle _ part (rest .table) (open-rest rows circle rest) 0 (omega arith),
             fits-anew _ (omega arith) (omega arith) (p .1 .1 .1),
           ),
         ),
