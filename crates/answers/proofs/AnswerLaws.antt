@@ -1,7 +1,8 @@
 -- Laws of the fault's numbers.
 --
---     numberOf-le          a number fits the 8 bits that the C interface has for it, with room to spare
+--     numberOf-some, numberOf-le    a number is not 0, and fits the 8 bits that the C interface has for it
 --     numberOf-injective   two faults have two numbers
+--     number-is            what an arm of a match tells, as an equation
 --     refuse-not, refuse-else    an answer that is accepted passed the test, and is what comes after it
 --     passUp-low, passUp-high    an answer that is accepted was accepted below, and is what comes after it
 --     passUp-refused, passUp-accepted    a refusal below is the answer above; where it is accepted below, what comes after is
@@ -10,80 +11,34 @@ use Prim.Native.Nat.{ℕ, _≤_}
 use mathlib.Core.List.{List}
 use native.Mathlib.Omega.{arith}
 use mathlib.Core.Path.{_≡_, refl, sym, ap, _∙_}
-use mathlib.Core.Bool.{Bool, true, false, cond}
-use lib.Dec.{eqb, lit≤}
-use Rattle.answers.specs.Answer.{Answer, accepted, refused, refuse, passUp, numberOf}
+use mathlib.Core.Bool.{Bool, true, false, not, _||_}
+use borrow.Author.Tests.{eq-eqb}
+use lib.Dec.{T, eqb, leb, leb→le}
+use Rattle.answers.specs.Answer.{Answer, accepted, refused, refuse, passUp, numberOf, HasNumber}
 use Rattle.answers.specs.declared.Fault.{Fault}
-use Rattle.answers.specs.declared.Fault.the-variants.{OrderLength, OrderPositions, OrderPadding, OrderEdge, OrderRack, FloorCrowded, FloorNotBiconnected, FloorRing, PlanBuffer, PlanLength, PlanPadding, PlanMove, PlanGoal, TimetableLength, TimetablePadding, TimetableStep, TimetableGoal, TimetableBuffer, StepNumber}
+use Rattle.answers.proofs.Faults.{every-fault, each-fault, same, same-fault}
 
-pub numberOf-le : (f : Fault) → numberOf f ≤ 45
-numberOf-le OrderLength = lit≤ tt
-numberOf-le OrderPositions = lit≤ tt
-numberOf-le OrderPadding = lit≤ tt
-numberOf-le OrderEdge = lit≤ tt
-numberOf-le OrderRack = lit≤ tt
-numberOf-le FloorCrowded = lit≤ tt
-numberOf-le FloorNotBiconnected = lit≤ tt
-numberOf-le FloorRing = lit≤ tt
-numberOf-le PlanBuffer = lit≤ tt
-numberOf-le PlanLength = lit≤ tt
-numberOf-le PlanPadding = lit≤ tt
-numberOf-le PlanMove = lit≤ tt
-numberOf-le PlanGoal = lit≤ tt
-numberOf-le TimetableLength = lit≤ tt
-numberOf-le TimetablePadding = lit≤ tt
-numberOf-le TimetableStep = lit≤ tt
-numberOf-le TimetableGoal = lit≤ tt
-numberOf-le TimetableBuffer = lit≤ tt
-numberOf-le StepNumber = lit≤ tt
+-- 0 stands for acceptance
+pub numberOf-some : (f : Fault) → 1 ≤ numberOf f
+unfolding every-fault
+numberOf-some f = leb→le 1 (numberOf f) (each-fault (λ f. leb 1 (numberOf f)) tt f)
 
--- the fault of a number, for the numbers of the table
-faultOf : ℕ → Fault
-faultOf n =
-    cond (eqb n 10) OrderLength (
-    cond (eqb n 11) OrderPositions (
-    cond (eqb n 12) OrderPadding (
-    cond (eqb n 13) OrderEdge (
-    cond (eqb n 14) OrderRack (
-    cond (eqb n 20) FloorCrowded (
-    cond (eqb n 21) FloorNotBiconnected (
-    cond (eqb n 22) FloorRing (
-    cond (eqb n 23) PlanBuffer (
-    cond (eqb n 30) PlanLength (
-    cond (eqb n 31) PlanPadding (
-    cond (eqb n 32) PlanMove (
-    cond (eqb n 33) PlanGoal (
-    cond (eqb n 40) TimetableLength (
-    cond (eqb n 41) TimetablePadding (
-    cond (eqb n 42) TimetableStep (
-    cond (eqb n 43) TimetableGoal (
-    cond (eqb n 44) TimetableBuffer (
-    StepNumber))))))))))))))))))
+pub numberOf-le : (f : Fault) → numberOf f ≤ 255
+unfolding every-fault
+numberOf-le f = leb→le (numberOf f) 255 (each-fault (λ f. leb (numberOf f) 255) tt f)
 
-faultOf-numberOf : (f : Fault) → faultOf (numberOf f) ≡ f
-unfolding faultOf
-faultOf-numberOf OrderLength = refl
-faultOf-numberOf OrderPositions = refl
-faultOf-numberOf OrderPadding = refl
-faultOf-numberOf OrderEdge = refl
-faultOf-numberOf OrderRack = refl
-faultOf-numberOf FloorCrowded = refl
-faultOf-numberOf FloorNotBiconnected = refl
-faultOf-numberOf FloorRing = refl
-faultOf-numberOf PlanBuffer = refl
-faultOf-numberOf PlanLength = refl
-faultOf-numberOf PlanPadding = refl
-faultOf-numberOf PlanMove = refl
-faultOf-numberOf PlanGoal = refl
-faultOf-numberOf TimetableLength = refl
-faultOf-numberOf TimetablePadding = refl
-faultOf-numberOf TimetableStep = refl
-faultOf-numberOf TimetableGoal = refl
-faultOf-numberOf TimetableBuffer = refl
-faultOf-numberOf StepNumber = refl
+-- of two faults with one number, the case is the same
+apart : (f g : Fault) → T (not (eqb (numberOf f) (numberOf g)) || same f g)
+unfolding every-fault same
+apart f =
+    let test : Fault → Fault → Bool = λ f g. not (eqb (numberOf f) (numberOf g)) || same f g in
+    each-fault (test f) (each-fault (λ f. every-fault (test f)) tt f)
 
 pub numberOf-injective : (f g : Fault) → numberOf f ≡ numberOf g → f ≡ g
-numberOf-injective f g e = sym (faultOf-numberOf f) ∙ ap faultOf e ∙ faultOf-numberOf g
+numberOf-injective f g e = same-fault f g (rw (eq-eqb (numberOf f) (numberOf g) e) at (apart f g))
+
+pub number-is : (f : Fault) (r : ℕ) → HasNumber f r → r ≡ numberOf f
+number-is f r h = h .number ∙ ap numberOf (sym (h .is))
 
 not-both : (n p : ℕ) (v : List ℕ) → refused n p ≡ accepted v → ⊥
 not-both n p v e = let z : _≡_ {A = ℕ} 0 1 = cc in omega arith

@@ -11,7 +11,8 @@ use mathlib.Core.List.{List}
 use native.Mathlib.Omega.{arith}
 use borrow.Author.Tests.{le-leb, lt-leb}
 use lib.Dec.{leb}
-use Rattle.answers.specs.Family.{within, familyWord, order, floor, plan, timetable, other}
+use Rattle.answers.specs.Ascii.{ascii}
+use Rattle.answers.specs.Family.{within, familyWord}
 
 within-yes : (a b n : ℕ) → a ≤ n → n ≤ b → within a b n ≡ true
 unfolding within
@@ -26,26 +27,41 @@ unfolding within
 within-over a b n h = simp (lt-leb n b h, and-false)
 
 module _ (n : ℕ) where
-  pub word-order : 10 ≤ n → n < 20 → order ≡ familyWord n
+  pub word-order : 10 ≤ n → n < 20 → ascii "order" ≡ familyWord n
   unfolding familyWord
   word-order h k = rw (within-yes 10 19 n h (omega arith))
 
-  pub word-floor : 20 ≤ n → n < 30 → floor ≡ familyWord n
+  pub word-floor : 20 ≤ n → n < 30 → ascii "floor" ≡ familyWord n
   unfolding familyWord
   word-floor h k = rw (within-over 10 19 n (omega arith), within-yes 20 29 n h (omega arith))
 
-  pub word-plan : 30 ≤ n → n < 40 → plan ≡ familyWord n
+  pub word-plan : 30 ≤ n → n < 40 → ascii "plan" ≡ familyWord n
   unfolding familyWord
   word-plan h k = rw (within-over 10 19 n (omega arith), within-over 20 29 n (omega arith), within-yes 30 39 n h (omega arith))
 
-  pub word-timetable : 40 ≤ n → n < 50 → timetable ≡ familyWord n
+  pub word-timetable : 40 ≤ n → n < 50 → ascii "timetable" ≡ familyWord n
   unfolding familyWord
-  word-timetable h k = rw (within-over 10 19 n (omega arith), within-over 20 29 n (omega arith), within-over 30 39 n (omega arith), within-yes 40 49 n h (omega arith))
+  word-timetable h k = rw (
+    within-over 10 19 n (omega arith),
+    within-over 20 29 n (omega arith),
+    within-over 30 39 n (omega arith),
+    within-yes 40 49 n h (omega arith),
+  )
 
-  pub word-under : n < 10 → other ≡ familyWord n
+  pub word-under : n < 10 → ascii "other" ≡ familyWord n
   unfolding familyWord
-  word-under h = rw (within-under 10 19 n (omega arith), within-under 20 29 n (omega arith), within-under 30 39 n (omega arith), within-under 40 49 n (omega arith))
+  word-under h = rw (
+    within-under 10 19 n (omega arith),
+    within-under 20 29 n (omega arith),
+    within-under 30 39 n (omega arith),
+    within-under 40 49 n (omega arith),
+  )
 
-  pub word-over : 50 ≤ n → other ≡ familyWord n
+  pub word-over : 50 ≤ n → ascii "other" ≡ familyWord n
   unfolding familyWord
-  word-over h = rw (within-over 10 19 n (omega arith), within-over 20 29 n (omega arith), within-over 30 39 n (omega arith), within-over 40 49 n (omega arith))
+  word-over h = rw (
+    within-over 10 19 n (omega arith),
+    within-over 20 29 n (omega arith),
+    within-over 30 39 n (omega arith),
+    within-over 40 49 n (omega arith),
+  )

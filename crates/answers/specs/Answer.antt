@@ -2,6 +2,7 @@
 --
 --     Answer         accepted, with the counts that document 01 names, or refused, with a number and a place
 --     numberOf f     document 01's number for each case of the fault enum
+--     HasNumber f r  r is the number of the fault f
 --     refusedBy f p  the refusal by the fault f at the place p
 --     refuse t k p a the answer a, unless the test t holds: then the refusal k at the place p
 --     passUp b a     the answer a of a reader whose lower reader answered b, unless that was a refusal
@@ -9,8 +10,8 @@
 use Prim.Native.Nat.{ℕ}
 use mathlib.Core.Bool.{Bool, true, false}
 use mathlib.Core.List.{List}
+use mathlib.Core.Path.{_≡_}
 use Rattle.answers.specs.declared.Fault.{Fault}
-use Rattle.answers.specs.declared.Fault.the-variants.{OrderLength, OrderPositions, OrderPadding, OrderEdge, OrderRack, FloorCrowded, FloorNotBiconnected, FloorRing, PlanBuffer, PlanLength, PlanPadding, PlanMove, PlanGoal, TimetableLength, TimetablePadding, TimetableStep, TimetableGoal, TimetableBuffer, StepNumber}
 
 -- "either accepted, with counts, or refused, with a place and one of the faults"
 pub data Answer : Type 0 where
@@ -19,25 +20,31 @@ pub data Answer : Type 0 where
 
 -- the table's number of each fault
 abbrev pub numberOf : Fault → ℕ
-numberOf OrderLength = 10
-numberOf OrderPositions = 11
-numberOf OrderPadding = 12
-numberOf OrderEdge = 13
-numberOf OrderRack = 14
-numberOf FloorCrowded = 20
-numberOf FloorNotBiconnected = 21
-numberOf FloorRing = 22
-numberOf PlanBuffer = 23
-numberOf PlanLength = 30
-numberOf PlanPadding = 31
-numberOf PlanMove = 32
-numberOf PlanGoal = 33
-numberOf TimetableLength = 40
-numberOf TimetablePadding = 41
-numberOf TimetableStep = 42
-numberOf TimetableGoal = 43
-numberOf TimetableBuffer = 44
-numberOf StepNumber = 45
+numberOf Fault.OrderLength = 10
+numberOf Fault.OrderPositions = 11
+numberOf Fault.OrderPadding = 12
+numberOf Fault.OrderEdge = 13
+numberOf Fault.OrderRack = 14
+numberOf Fault.FloorCrowded = 20
+numberOf Fault.FloorNotBiconnected = 21
+numberOf Fault.FloorRing = 22
+numberOf Fault.PlanBuffer = 23
+numberOf Fault.PlanLength = 30
+numberOf Fault.PlanPadding = 31
+numberOf Fault.PlanMove = 32
+numberOf Fault.PlanGoal = 33
+numberOf Fault.TimetableLength = 40
+numberOf Fault.TimetablePadding = 41
+numberOf Fault.TimetableStep = 42
+numberOf Fault.TimetableGoal = 43
+numberOf Fault.TimetableBuffer = 44
+numberOf Fault.StepNumber = 45
+
+-- as an arm of a match on f tells it: f is some case, and r is that case's number
+pub record HasNumber (f : Fault) (r : ℕ) : Type 0 where
+  pub case : Fault
+  pub is : f ≡ case
+  pub number : r ≡ numberOf case
 
 abbrev pub refusedBy : Fault → ℕ → Answer
 refusedBy f place = refused (numberOf f) place

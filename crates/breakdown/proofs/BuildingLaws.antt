@@ -116,7 +116,8 @@ extended-push f i m o o′ s s′ small new with-it x =
           by-cases (ℕ-discrete j i)
           (λ e.
           ap (λ (y : ℕ). row (set o′ (m + i) (row f i)) (m + y)) e
-          ∙ getD-set-same o′ (m + i) (row f i) 0 (let r = settled-room (x .settled) (row f i) small new in let w = x .settled .long in omega arith)
+          ∙ getD-set-same o′ (m + i) (row f i) 0
+          (let r = settled-room (x .settled) (row f i) small new in let w = x .settled .long in omega arith)
           ∙ ap (row f) (sym e))
           (λ e. getD-set-other o′ (m + i) (m + j) (row f i) 0 (omega arith) ∙ x .new j (omega arith));
     }
@@ -124,7 +125,8 @@ extended-push f i m o o′ s s′ small new with-it x =
 pub among-same : {at at′ : ℕ → ℕ} {m p : ℕ} → ((i : ℕ) → i < m → at′ i ≡ at i) → Among at m p → Among at′ m p
 among-same same a = record { place = a .place; before = a .before; is = same (a .place) (a .before) ∙ a .is }
 
-pub handle-same : {E : ℕ → ℕ → Type 0} {at at′ : ℕ → ℕ} {s e u v : ℕ} → ((i : ℕ) → i < e → at′ i ≡ at i) → Handle E at s e u v → Handle E at′ s e u v
+pub handle-same : {E : ℕ → ℕ → Type 0} {at at′ : ℕ → ℕ} {s e u v : ℕ} → ((i : ℕ) → i < e → at′ i ≡ at i) → Handle E at s e u v
+    → Handle E at′ s e u v
 handle-same {E} {at} {at′} {s} {e} {u} {v} same h =
     let inner = h .inner in
     record {
@@ -197,7 +199,8 @@ module _ {n : ℕ} {E : ℕ → ℕ → Type 0} {r c : ℕ} {o start left right 
   pub building-few : c + 3 ≤ 64
   building-few = let f = building-full in let p = b .room in let t = b .ring-three in omega arith
 
-  pub building-add : (u w k : ℕ) (f o′ : List ℕ) (s′ : ℕ) → u < n → Leaves E s u w → Nearest E (Except (Below n) u) (Has s) w k (row f) → 0 < k
+  pub building-add : (u w k : ℕ) (f o′ : List ℕ) (s′ : ℕ) → u < n → Leaves E s u w
+      → Nearest E (Except (Below n) u) (Has s) w k (row f) → 0 < k
       → Extended f (k - 1) (row start c) o o′ s′
       → Building n E r (c + 1) o′ (set start (c + 1) (row start c + (k - 1))) (set left c u) (set right c (row f (k - 1))) s′
       × (row start c < row (set start (c + 1) (row start c + (k - 1))) (c + 1))
@@ -270,12 +273,15 @@ module _ {n : ℕ} {E : ℕ → ℕ → Type 0} {r c : ℕ} {o start left right 
           let t = two in
           record {
             inner = omega arith;
-            first = subst (E u) (sym (at-new (row start c) (omega arith) (omega arith) ∙ ap (row f) (omega arith) ∙ path .first)) (leaves .edge);
+            first =
+                subst (E u) (sym (at-new (row start c) (omega arith) (omega arith) ∙ ap (row f) (omega arith) ∙ path .first))
+                (leaves .edge);
             joined = λ j l h.
                 subst₂ E (sym (at-new j l (omega arith))) (sym (at-new (j + 1) (omega arith) h ∙ ap (row f) (omega arith)))
                 (path .joined (j - row start c) (omega arith));
             last =
-                subst₂ E (sym (at-new (row start c + (k - 1) - 1) (omega arith) (omega arith) ∙ ap (row f) (omega arith))) (ap (row f) (omega arith))
+                subst₂ E (sym (at-new (row start c + (k - 1) - 1) (omega arith) (omega arith) ∙ ap (row f) (omega arith)))
+                (ap (row f) (omega arith))
                 (path .joined (k - 2) (omega arith));
             ends = λ e. path .inside (k - 1) (omega arith) .other (sym e);
             left = among-same x.kept (b .settled .among u (leaves .settled));
@@ -288,9 +294,11 @@ module _ {n : ℕ} {E : ℕ → ℕ → Type 0} {r c : ℕ} {o start left right 
       handle i l =
           by-cases (ℕ-discrete i c)
           (λ e.
-          subst (λ (j : ℕ). Handle E (row o′) (row (set start (c + 1) (row start c + (k - 1))) j) (row (set start (c + 1) (row start c + (k - 1))) (j + 1))
+          subst (λ (j : ℕ). Handle E (row o′) (row (set start (c + 1) (row start c + (k - 1))) j)
+          (row (set start (c + 1) (row start c + (k - 1))) (j + 1))
           (row (set left c u) j) (row (set right c (row f (k - 1))) j)) (sym e)
-          (subst₂ (λ (p q : ℕ). Handle E (row o′) p q (row (set left c u) c) (row (set right c (row f (k - 1))) c)) (sym (start-old c (omega arith))) (sym stop)
+          (subst₂ (λ (p q : ℕ). Handle E (row o′) p q (row (set left c u) c) (row (set right c (row f (k - 1))) c))
+          (sym (start-old c (omega arith))) (sym stop)
           (subst₂ (Handle E (row o′) (row start c) (row start c + (k - 1))) (sym left-new) (sym right-new) newest)))
           (λ e.
           let upto = starts-ascend (c - (i + 1)) (i + 1) (omega arith) in

@@ -5,9 +5,11 @@
 --     choice-stop       a choice as short as any can be stands, whatever pairs are done
 --     choice-better     the better one of the choice and the one new pair
 --     choice-enter, choice-turn, choice-leave    of the pairs that begin at a none is done, one more, all
---     ring-none, ring-enter, ring-turn, ring-leave, ring-done    these laws at the choice of a base ring; done, where all that begin before n are
---     handle-none, handle-enter, handle-turn, handle-leave, handle-done, handle-skip, handle-stop    and at that of a handle; a position that is
---                       not settled is skipped, and one inner position with an end is as short as any handle can be
+--     ring-none, ring-enter, ring-turn, ring-leave, ring-done
+--                       these laws at the choice of a base ring; done, where all that begin before n are
+--     handle-none, handle-enter, handle-turn, handle-leave, handle-done, handle-skip, handle-stop
+--                       and at that of a handle; a position that is not settled is skipped, and one inner position with an end is as short
+--                       as any handle can be
 --     rest-less         a set without one of its positions has fewer
 -- Assumes nothing.
 use Prim.Native.Nat.{ℕ, _+_, _≤_, _<_}
@@ -82,7 +84,8 @@ module _ {n : ℕ} {E : ℕ → ℕ → Type 0} (C : ℕ → ℕ → Type 0) (T 
             let now = better .now some in
             record { some = positive-new some; most = omega arith }
 
-        same-way : {a a′ b b′ i i′ : ℕ} → a ≡ a′ → b ≡ b′ → i ≡ i′ → Near E (Except (Below n) a) (T a b) b i → Near E (Except (Below n) a′) (T a′ b′) b′ i′
+        same-way : {a a′ b b′ i i′ : ℕ} → a ≡ a′ → b ≡ b′ → i ≡ i′ → Near E (Except (Below n) a) (T a b) b i
+            → Near E (Except (Below n) a′) (T a′ b′) b′ i′
         same-way {a} {a′} {b} {b′} {i} {i′} p q o r =
             subst (λ (v : ℕ). Near E (Except (Below n) a′) (T a′ b′) b′ v) o
             (subst₂ (λ (v v′ : ℕ). Near E (Except (Below n) v) (T v v′) v′ i) p q r)
@@ -90,12 +93,15 @@ module _ {n : ℕ} {E : ℕ → ℕ → Type 0} (C : ℕ → ℕ → Type 0) (T 
         found : 0 < j → Near E (Except (Below n) u) (T u w) w j
         found h = record { target = _; is = size .nearest .target h; walk = path-walk (size .nearest .path h) }
 
-  pub choice-enter : (a rest u w k : ℕ) → ((y : ℕ) → C a y → Has rest y) → Choice n E C T (Before a) u w k → Choice n E C T (Upto a rest) u w k
+  pub choice-enter : (a rest u w k : ℕ) → ((y : ℕ) → C a y → Has rest y) → Choice n E C T (Before a) u w k
+      → Choice n E C T (Upto a rest) u w k
   choice-enter a rest u w k all =
-      choice-less (Before a) (Upto a rest) u w k (λ x y d c. ⊎-elim (λ l. l) (λ e. absurd (e .1 (all y (subst (λ (v : ℕ). C v y) (e .0) c)))) d)
+      choice-less (Before a) (Upto a rest) u w k (λ x y d c. ⊎-elim (λ l. l)
+      (λ e. absurd (e .1 (all y (subst (λ (v : ℕ). C v y) (e .0) c)))) d)
 
   pub choice-turn : (a b rest rest′ f t k j x y z : ℕ) → ((p : ℕ) → Has rest′ p ↔ (Has rest p × (p ≢ b))) → C a b
-      → Size E (Except (Below n) a) (T a b) b j → Better f t k a b j x y z → Choice n E C T (Upto a rest) f t k → Choice n E C T (Upto a rest′) x y z
+      → Size E (Except (Below n) a) (T a b) b j → Better f t k a b j x y z → Choice n E C T (Upto a rest) f t k
+      → Choice n E C T (Upto a rest′) x y z
   choice-turn a b rest rest′ f t k j x y z without =
       choice-better (Upto a rest) (Upto a rest′) a b f t k j x y z (λ p q d c. ⊎-elim
       (λ l. inl (inl l))

@@ -65,7 +65,8 @@ ring-neighbours {E} at r i sy three joined closed l =
       second = joined i (omega arith);
     }))
 
-module _ {n : ℕ} {g : List ℕ} {r c : ℕ} {at start left right : ℕ → ℕ} (rows : Rows n g) (b : Breakdown n (Edge g) r c at start left right) where
+module _ {n : ℕ} {g : List ℕ} {r c : ℕ} {at start left right : ℕ → ℕ} (rows : Rows n g)
+    (b : Breakdown n (Edge g) r c at start left right) where
   first-handle : 0 < c
   first-handle =
       by-cases (ℕ-discrete c 0)
@@ -86,7 +87,8 @@ module _ {n : ℕ} {g : List ℕ} {r c : ℕ} {at start left right : ℕ → ℕ
       let out : Edge g (at place) (at r) =
       subst (λ (x : ℕ). Edge g (at place) (at x)) begins (subst (λ (x : ℕ). Edge g x (at (start 0))) (sym is) (h .first)) in
       subst (λ (x : ℕ). 3 ≤ rowSum g x n) is
-      (rowSum-least-three g (at place) n (at (t .one)) (at (t .two)) (at r) (rows .inside _ _ (t .first) .1) (rows .inside _ _ (t .second) .1) (rows .inside _ _ out .1)
+      (rowSum-least-three g (at place) n (at (t .one)) (at (t .two)) (at r) (rows .inside _ _ (t .first) .1)
+      (rows .inside _ _ (t .second) .1) (rows .inside _ _ out .1)
       (by-cases (decLt (t .one) (t .two)) (λ l. b .distinct (t .one) (t .two) l (omega arith))
       (λ l e. b .distinct (t .two) (t .one) (let d = t .differ in omega arith) (omega arith) (sym e)))
       (b .distinct (t .one) r p less)

@@ -79,7 +79,8 @@ module _ {n : ℕ} {g : List ℕ} (rows : Rows n g) (bi : BiConnected n (Edge g)
       ended x y t l settled below other =
           let in-floor = rows .inside x y (l .edge) in
           let differ : y ≢ x = λ e. l .new (subst (Has s) (sym e) (l .settled)) in
-          let way = bi .without x (in-floor .0) y t (record { there = in-floor .1; other = differ }) (record { there = below; other = other }) in
+          let way = bi .without x (in-floor .0) y t (record { there = in-floor .1; other = differ })
+          (record { there = below; other = other }) in
           let within = choice .least x y t (way .size) (l .edge) l (way .walk) settled in
           let found = within .some in
           omega arith

@@ -79,7 +79,8 @@ module _ {n : ℕ} {g : List ℕ} (a b k j : ℕ) (f : List ℕ) (rows : Rows n 
         let e = choice .pair some in
         let same : j ≡ j + 0 = omega arith in
         let size = same-size in (
-          building-ring a b j f o₂ start left right s₂ e (rows .inside a b e .0) (rows .other a b e) nearest ring-found rows.symmetric (end .settled)
+          building-ring a b j f o₂ start left right s₂ e (rows .inside a b e .0)
+              (rows .other a b e) nearest ring-found rows.symmetric (end .settled)
               (λ i l. end .kept i l ∙ in-row i l) (ap (row o₂) same ∙ end .new 0 (omega arith) ∙ is) begins starts lefts rights,
           omega arith,
         )

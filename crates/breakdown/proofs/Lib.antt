@@ -8,3 +8,4 @@ pub mod ChoiceFacts
 pub mod CountLaws
 pub mod Examples
 pub mod StageLaws
+pub mod PartLaws

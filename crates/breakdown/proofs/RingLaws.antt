@@ -56,7 +56,8 @@ module _ {n : ℕ} {g : List ℕ} {c u w k : ℕ} (r : ℕ) (o start left right 
       (walk-segment (row o) (i + 1) (j - (i + 1))
       (λ p x y. record { there = below p (omega arith); other = λ z. distinct i p (omega arith) (omega arith) (sym z) })
       (λ p x y. joined p (omega arith))) in
-      let short = choice .least (row o i) (row o (i + 1)) (row o j) (suc (j - (i + 1))) (joined i (omega arith)) (joined i (omega arith)) walk
+      let short = choice .least (row o i) (row o (i + 1)) (row o j) (suc (j - (i + 1))) (joined i (omega arith))
+      (joined i (omega arith)) walk
       (record { edge = e; other = λ z. distinct (i + 1) j (omega arith) h (sym z) }) .most in
       let a = around in
       inr (omega arith, omega arith))
@@ -82,7 +83,8 @@ module _ {n : ℕ} {g : List ℕ} {c u w k : ℕ} (r : ℕ) (o start left right 
   next-to : (i j : ℕ) → i < n → j < n → j ≢ i → Edge g (row o i) (row o j)
       → ((j ≡ i + 1) ⊎ ((i ≡ 0) × (j ≡ n - 1))) ⊎ ((i ≡ j + 1) ⊎ ((j ≡ 0) × (i ≡ n - 1)))
   next-to i j hi hj other e =
-      by-cases (decLt i j) (λ l. inl (adjacent i j l hj e)) (λ l. inr (adjacent j i (omega arith) hi (rows .symmetric (row o i) (row o j) e)))
+      by-cases (decLt i j) (λ l. inl (adjacent i j l hj e)) (λ l. inr (adjacent j i (omega arith) hi
+      (rows .symmetric (row o i) (row o j) e)))
 
   one-less : (i j : ℕ) → i ≡ j + 1 → j ≡ i - 1
   one-less i j e = omega arith
@@ -101,14 +103,16 @@ module _ {n : ℕ} {g : List ℕ} {c u w k : ℕ} (r : ℕ) (o start left right 
       (λ z. by-cases (ℕ-discrete i (n - 1))
       (λ y.
       degree i (n - 2) 0 hi (omega arith) (omega arith) (omega arith)
-      (rows .symmetric _ _ (subst (λ (m : ℕ). Edge g (row o (n - 2)) (row o m)) (sym (let q : i ≡ n - 2 + 1 = omega arith in q)) (joined (n - 2) (omega arith))))
+      (rows .symmetric _ _ (subst (λ (m : ℕ). Edge g (row o (n - 2)) (row o m)) (sym (let q : i ≡ n - 2 + 1 = omega arith in q))
+      (joined (n - 2) (omega arith))))
       (subst (λ (m : ℕ). Edge g (row o m) (row o 0)) (sym y) closed)
       (λ j hj x v q e.
       ⊎-elim (⊎-elim (λ a. omega arith) (λ a. let a0 = a .0 in omega arith)) (⊎-elim (λ a. omega arith) (λ a. let a0 = a .0 in omega arith))
       (next-to i j hi hj q e)))
       (λ y.
       degree i (i - 1) (i + 1) hi (omega arith) (omega arith) (omega arith)
-      (rows .symmetric _ _ (subst (λ (m : ℕ). Edge g (row o (i - 1)) (row o m)) (let q : i - 1 + 1 ≡ i = omega arith in q) (joined (i - 1) (omega arith))))
+      (rows .symmetric _ _ (subst (λ (m : ℕ). Edge g (row o (i - 1)) (row o m)) (let q : i - 1 + 1 ≡ i = omega arith in q)
+      (joined (i - 1) (omega arith))))
       (joined i (omega arith))
       (λ j hj x v q e.
       ⊎-elim (⊎-elim v (λ a. z (a .0))) (⊎-elim (λ a. x (one-less i j a)) (λ a. y (a .1))) (next-to i j hi hj q e))))

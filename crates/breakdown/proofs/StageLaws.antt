@@ -1,11 +1,12 @@
--- Stages stay whole. A stage is the base ring with the first handles: the positions before a place of the row. Laws without code, as the planner
--- needs them.
+-- Stages stay whole. A stage is the base ring with the first handles: the positions before a place of the row. Laws without code, as the
+-- planner needs them.
 --
 --     Both P Q                 the positions of P and those of Q
 --     ring-robust              the base ring is whole, and stays so without any one position
 --     handle-robust            so does a stage with one handle more
---     whole-left, whole-right  a whole set with part of a handle hanging on the left end, or on the right end, is whole. The set may be a stage, a
---                              stage without a position that is not that end, or either of them with a part hanging on the other end
+--     whole-left, whole-right  a whole set with part of a handle hanging on the left end, or on the right end, is whole. The set may be a
+--                              stage, a stage without a position that is not that end, or either of them with a part hanging on the other
+--                              end
 --     stage-within             each stage ends within the floor
 --     stage-robust             each stage of a breakdown is whole, and stays so without any one position
 --     stage-right              stage i with the places from j on of handle i, which hang on its right end, is whole
@@ -51,10 +52,14 @@ module _ {E : ℕ → ℕ → Type 0} (at : ℕ → ℕ) where
   way-along {Q} i j le inside joined =
       let same : i + (j - i) ≡ j = omega arith in
       subst (λ (k : ℕ). Way E Q (at i) (at k)) same
-      (record { size = suc (j - i); walk = walk-segment at i (j - i) (λ p l h. inside p l (omega arith)) (λ p l h. joined p l (omega arith)) })
+      (record {
+        size = suc (j - i);
+        walk = walk-segment at i (j - i) (λ p l h. inside p l (omega arith)) (λ p l h. joined p l (omega arith));
+      })
 
   -- from an inner position of a handle down to its left end, and up to its right end
-  way-down : {Q : ℕ → Type 0} {s e u v : ℕ} → Symmetric E → Handle E at s e u v → (i : ℕ) → s ≤ i → i < e → ((p : ℕ) → s ≤ p → p ≤ i → Q (at p)) → Q u
+  way-down : {Q : ℕ → Type 0} {s e u v : ℕ} → Symmetric E → Handle E at s e u v → (i : ℕ) → s ≤ i → i < e
+      → ((p : ℕ) → s ≤ p → p ≤ i → Q (at p)) → Q u
       → Way E Q (at i) u
   way-down {Q} {s} {e} {u} {v} sy h i le lt inside end =
       way-append (way-reverse sy (way-along s i le inside (λ p a b. h .joined p a (omega arith))))
@@ -84,13 +89,15 @@ module _ {E : ℕ → ℕ → Type 0} (at : ℕ → ℕ) where
       -- without the first position all hang on the second
       to-second : (i : ℕ) → i < r → i ≢ 0 → Way E (Except (Among at r) (at 0)) (at i) (at 1)
       to-second i hi other =
-          way-reverse sy (way-along 1 i (omega arith) (λ q x y. rest 0 q (omega arith) (omega arith) (omega arith)) (λ q x y. joined q (omega arith)))
+          way-reverse sy (way-along 1 i (omega arith) (λ q x y. rest 0 q (omega arith) (omega arith) (omega arith))
+          (λ q x y. joined q (omega arith)))
 
       -- without another one all hang on the first: those before it down the row, those after it up the row and round
       to-first : (k i : ℕ) → k < r → i < r → i ≢ k → k ≢ 0 → Way E (Except (Among at r) (at k)) (at i) (at 0)
       to-first k i hk hi other later =
           by-cases (decLt i k)
-          (λ l. way-reverse sy (way-along 0 i (omega arith) (λ q x y. rest k q hk (omega arith) (omega arith)) (λ q x y. joined q (omega arith))))
+          (λ l. way-reverse sy (way-along 0 i (omega arith) (λ q x y. rest k q hk (omega arith) (omega arith))
+          (λ q x y. joined q (omega arith))))
           (λ l. way-append
           (way-along i (r - 1) (omega arith) (λ q x y. rest k q hk (omega arith) (omega arith)) (λ q x y. joined q (omega arith)))
           (way-step (rest k (r - 1) hk (omega arith) (omega arith)) closed (way-stay (rest k 0 hk (omega arith) (omega arith)))))
@@ -100,9 +107,11 @@ module _ {E : ℕ → ℕ → Type 0} (at : ℕ → ℕ) where
           by-cases (ℕ-discrete k 0)
           (λ e. subst (λ (y : ℕ). Whole E (Except (Among at r) (at y))) (sym e)
           (whole-base sy (at 1) (λ p x.
-          subst (λ (q : ℕ). Way E (Except (Among at r) (at 0)) q (at 1)) (x .there .is) (to-second (x .there .place) (x .there .before) (apart at r 0 x)))))
+          subst (λ (q : ℕ). Way E (Except (Among at r) (at 0)) q (at 1)) (x .there .is)
+          (to-second (x .there .place) (x .there .before) (apart at r 0 x)))))
           (λ e. whole-base sy (at 0) (λ p x.
-          subst (λ (q : ℕ). Way E (Except (Among at r) (at k)) q (at 0)) (x .there .is) (to-first k (x .there .place) hk (x .there .before) (apart at r k x) e)))
+          subst (λ (q : ℕ). Way E (Except (Among at r) (at k)) q (at 0)) (x .there .is)
+          (to-first k (x .there .place) hk (x .there .before) (apart at r k x) e)))
 
   pub handle-robust : (s e u v : ℕ) → Symmetric E → Handle E at s e u v → ((i j : ℕ) → i < j → j < e → at i ≢ at j)
       → Robust E (Among at s) → Robust E (Among at e)
@@ -115,7 +124,9 @@ module _ {E : ℕ → ℕ → Type 0} (at : ℕ → ℕ) where
             (record {
               at = u;
               there = h .left;
-              way = way-down sy h (a .place) (omega arith) (a .before) (λ q x y. among at e q (let b = a .before in omega arith)) (before u (h .left));
+              way =
+                  way-down sy h (a .place) (omega arith) (a .before) (λ q x y. among at e q (let b = a .before in omega arith))
+                  (before u (h .left));
             })));
         without = λ x a.
             subst (λ (y : ℕ). Whole E (Except (Among at e) y)) (a .is)
@@ -139,7 +150,10 @@ module _ {E : ℕ → ℕ → Type 0} (at : ℕ → ℕ) where
       without-old k hk =
           whole-hung sy (λ p x. record { there = before p (x .there); other = x .other }) (robust .without (at k) (among at s k hk)) (λ p x.
           by-cases (decLt (x .there .place) s)
-          (λ l. stays (Except (Among at e) (at k)) p (record { there = record { place = x .there .place; before = l; is = x .there .is }; other = x .other }) x)
+          (λ l. stays (Except (Among at e) (at k)) p (record {
+            there = record { place = x .there .place; before = l; is = x .there .is };
+            other = x .other;
+          }) x)
           (λ l. subst (Hangs E (Except (Among at s) (at k)) (Except (Among at e) (at k))) (x .there .is)
           (by-cases (ℕ-discrete u (at k))
           (λ i. right (x .there .place) (omega arith) (x .there .before) (λ j. h .ends (i ∙ sym j)))
@@ -150,7 +164,9 @@ module _ {E : ℕ → ℕ → Type 0} (at : ℕ → ℕ) where
               record {
                 at = u;
                 there = record { there = h .left; other = other };
-                way = way-down sy h i le lt (λ q a b. rest k q (omega arith) (omega arith) (omega arith)) (record { there = before u (h .left); other = other });
+                way =
+                    way-down sy h i le lt (λ q a b. rest k q (omega arith) (omega arith) (omega arith))
+                    (record { there = before u (h .left); other = other });
               }
 
           right : (i : ℕ) → s ≤ i → i < e → v ≢ at k → Hangs E (Except (Among at s) (at k)) (Except (Among at e) (at k)) (at i)
@@ -158,7 +174,9 @@ module _ {E : ℕ → ℕ → Type 0} (at : ℕ → ℕ) where
               record {
                 at = v;
                 there = record { there = h .right; other = other };
-                way = way-up h i le lt (λ q a b. rest k q (omega arith) b (omega arith)) (record { there = before v (h .right); other = other });
+                way =
+                    way-up h i le lt (λ q a b. rest k q (omega arith) b (omega arith))
+                    (record { there = before v (h .right); other = other });
               }
 
       -- without an inner position those before it hang on the left end, those after it on the right end
@@ -189,7 +207,8 @@ module _ {E : ℕ → ℕ → Type 0} (at : ℕ → ℕ) where
                 way = way-up h i le lt (λ q a b. rest k q hk b (omega arith)) (old v (h .right));
               })
 
-  pub whole-left : {P : ℕ → Type 0} (s e u v i : ℕ) → Symmetric E → Handle E at s e u v → i ≤ e → Whole E P → P u → Whole E (Both P (Between at s i))
+  pub whole-left : {P : ℕ → Type 0} (s e u v i : ℕ) → Symmetric E → Handle E at s e u v → i ≤ e → Whole E P → P u
+      → Whole E (Both P (Between at s i))
   whole-left {P} s e u v i sy h le whole end =
       whole-hung sy (λ p a. inl a) whole (λ p x. ⊎-elim
       (λ a. record { at = p; there = a; way = way-stay (inl a) })
@@ -199,11 +218,14 @@ module _ {E : ℕ → ℕ → Type 0} (at : ℕ → ℕ) where
       record {
         at = u;
         there = end;
-        way = way-down sy h (b .place) f (omega arith) (λ q x y. inr (record { place = q; from = x; before = omega arith; is = refl })) (inl end);
+        way =
+            way-down sy h (b .place) f (omega arith)
+            (λ q x y. inr (record { place = q; from = x; before = omega arith; is = refl })) (inl end);
       }))
       x)
 
-  pub whole-right : {P : ℕ → Type 0} (s e u v i : ℕ) → Symmetric E → Handle E at s e u v → s ≤ i → Whole E P → P v → Whole E (Both P (Between at i e))
+  pub whole-right : {P : ℕ → Type 0} (s e u v i : ℕ) → Symmetric E → Handle E at s e u v → s ≤ i → Whole E P → P v
+      → Whole E (Both P (Between at i e))
   whole-right {P} s e u v i sy h le whole end =
       whole-hung sy (λ p a. inl a) whole (λ p x. ⊎-elim
       (λ a. record { at = p; there = a; way = way-stay (inl a) })
@@ -213,7 +235,8 @@ module _ {E : ℕ → ℕ → Type 0} (at : ℕ → ℕ) where
       record {
         at = v;
         there = end;
-        way = way-up h (b .place) (omega arith) l (λ q x y. inr (record { place = q; from = omega arith; before = y; is = refl })) (inl end);
+        way =
+            way-up h (b .place) (omega arith) l (λ q x y. inr (record { place = q; from = omega arith; before = y; is = refl })) (inl end);
       }))
       x)
 
@@ -239,7 +262,8 @@ robust-neighbours {E} {P} a x y robust loopless pa px py ax ay xy =
         let t = walk-starts (way .walk) az in
         record { one = s; two = record { to = t .to; edge = t .edge; there = t .there .there }; differ = t .there .other }
 
-module _ {n : ℕ} {E : ℕ → ℕ → Type 0} {r c : ℕ} {at start left right : ℕ → ℕ} (sy : Symmetric E) (b : Breakdown n E r c at start left right) where
+module _ {n : ℕ} {E : ℕ → ℕ → Type 0} {r c : ℕ} {at start left right : ℕ → ℕ} (sy : Symmetric E)
+    (b : Breakdown n E r c at start left right) where
   pub stage-within : (d i : ℕ) → i + d ≡ c → start i ≤ n
   stage-within zero i e = let same : start i ≡ start c = ap start (omega arith) in let stops = b .stops in omega arith
   stage-within (suc d) i e =
@@ -276,7 +300,8 @@ module _ {n : ℕ} {E : ℕ → ℕ → Type 0} {r c : ℕ} {at start left right
   stage-split-without i j y l h k in-stage not-left not-right =
       let handle = b .handle i l in
       whole-right at (start i) (start (i + 1)) (left i) (right i) (j + 1) sy handle (omega arith)
-      (whole-left at (start i) (start (i + 1)) (left i) (right i) j sy handle (omega arith) (stage-robust i (omega arith) .without y in-stage)
+      (whole-left at (start i) (start (i + 1)) (left i) (right i) j sy handle (omega arith)
+      (stage-robust i (omega arith) .without y in-stage)
       (record { there = handle .left; other = not-left }))
       (inl (record { there = handle .right; other = not-right }))
 

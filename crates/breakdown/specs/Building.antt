@@ -5,6 +5,7 @@
 --     Fresh f k s                 the first k of f are different positions that are not settled
 --     Extended f k m o o′ s′      the first k of f stand in the row from place m on, and are settled; what came before stands as it stood
 --     Building n E r c o start left right s    a base ring of r positions and c handles are in the row, and nothing else
+--     BuildingOf n E b s          the same of the parts b, as the code has them
 -- Assumes nothing.
 use Prim.Native.Nat.{ℕ, _+_, _-_, _≤_, _<_}
 use mathlib.Core.Path.{_≡_}
@@ -14,6 +15,7 @@ use lib.Count.{ones}
 use lib.ListN.{getD, length}
 use Rattle.sets.specs.Sets.{Has}
 use Rattle.breakdown.specs.Breakdown.{Among, Handle}
+use Rattle.breakdown.specs.declared.Breakdown.{Breakdown as Parts}
 
 abbrev pub row : List ℕ → ℕ → ℕ
 row o i = getD o i 0
@@ -48,3 +50,6 @@ pub record Building (n : ℕ) (E : ℕ → ℕ → Type 0) (r c : ℕ) (o start 
   pub starts : length start ≡ 64
   pub lefts : length left ≡ 64
   pub rights : length right ≡ 64
+
+abbrev pub BuildingOf : ℕ → (ℕ → ℕ → Type 0) → Parts → ℕ → Type 0
+BuildingOf n E b s = Building n E (b .ring) (b .handles) (b .order) (b .start) (b .left) (b .right) s

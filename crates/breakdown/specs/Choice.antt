@@ -1,14 +1,18 @@
--- How the base ring and the handles are chosen: among the pairs of joined positions (a, b) that can begin one, the pair from which the way on
--- from b, avoiding a, is shortest.
+-- How the base ring and the handles are chosen: among the pairs of joined positions (a, b) that can begin one, the pair from which the way
+-- on from b, avoiding a, is shortest.
 --
 --     Beside E a b t              t is joined to a and is not b: where the way of a ring ends that begins with a, b
 --     Leaves E s u w              an edge leads from u, which is settled, to w, which is not: where a handle can begin
 --     Before a x y                the pair (x, y) begins before a
---     Better f t k u w j x y z    (x, y) with the size z is the better one of (f, t) with the size k and (u, w) with the size j; a size of 0 is none
---     Choice n E C T D u w k      of the pairs of D that C allows, (u, w) has the shortest way on to a target of T, of k positions; k is 0 exactly
---                                 where none of them has a way
+--     Better f t k u w j x y z    (x, y) with the size z is the better one of (f, t) with the size k and (u, w) with the size j; a size of
+--                                 0 is none
+--     Choice n E C T D u w k      of the pairs of D that C allows, (u, w) has the shortest way on to a target of T, of k positions; k is 0
+--                                 exactly where none of them has a way
 --     RingChoice, HandleChoice    the choice of a base ring, and of a handle on the settled positions s
 --     Size E P T a k              k is the size of a nearest way, as a search yields it
+--     RingWay n E a b k f         the k positions f 0, f 1, .. are the way round of a shortest ring that begins with a, b: on from b to
+--                                 another neighbour of a, avoiding a
+--     RingSize n E a b k          k is the size of that way
 -- Assumes nothing.
 use Prim.Native.Nat.{ℕ, _≤_, _<_}
 use mathlib.Core.Path.{_≡_}
@@ -53,3 +57,9 @@ HandleChoice n g s D u w k = Choice n (Edge g) (Leaves (Edge g) s) (λ a b. Has 
 pub record Size (E : ℕ → ℕ → Type 0) (P T : ℕ → Type 0) (a k : ℕ) : Type 0 where
   pub at : ℕ → ℕ
   pub nearest : Nearest E P T a k at
+
+abbrev pub RingWay : ℕ → (ℕ → ℕ → Type 0) → ℕ → ℕ → ℕ → (ℕ → ℕ) → Type 0
+RingWay n E a b k f = Nearest E (Except (Below n) a) (Beside E a b) b k f
+
+abbrev pub RingSize : ℕ → (ℕ → ℕ → Type 0) → ℕ → ℕ → ℕ → Type 0
+RingSize n E a b k = Size E (Except (Below n) a) (Beside E a b) b k

@@ -6,9 +6,10 @@ ghost use Rattle.sets.specs.Sets.{Has};
 ghost use Rattle.graph.specs.Connected.{Except, Below, BiConnected};
 ghost use Rattle.graph.specs.Rows.{Edge, Rows};
 ghost use Rattle.graph.specs.Nearest.{Nearest};
-ghost use Rattle.breakdown.specs.Choice.{Beside, Before, Better, RingChoice, HandleChoice, Size};
-ghost use Rattle.breakdown.specs.Building.{row, Settled, Fresh, Extended, Building};
-ghost use Rattle.breakdown.specs.Answer.{Answer, Handled};
+ghost use Rattle.breakdown.specs.Choice.{RingWay, Before, Better, RingChoice, HandleChoice, Size, RingSize};
+ghost use Rattle.breakdown.specs.Building.{row, Settled, Fresh, Extended, BuildingOf};
+ghost use Rattle.breakdown.specs.Answer.{HandledOf, AnswerOf};
+ghost use Rattle.breakdown.specs.Part.{Places, Part};
 
 // Two joined positions, and how many positions the way has that leads on from the second. A size of 0 is no pair.
 struct Pair {
@@ -17,9 +18,9 @@ struct Pair {
     size: usize,
 }
 
-// The base ring and the handles. `order` has every position once: first the ring's, in their order round it, then those inside handle 0, inside
-// handle 1, and so on. The inside of handle i is at the places from `start[i]` up to `start[i + 1]`; its ends are `left[i]`, beside the first
-// inner position, and `right[i]`, beside the last. A ring of 0 is no breakdown.
+// The base ring and the handles. `order` has every position once: first the ring's, in their order round it, then those inside handle 0,
+// inside handle 1, and so on. The inside of handle i is at the places from `start[i]` up to `start[i + 1]`; its ends are `left[i]`, beside
+// the first inner position, and `right[i]`, beside the last. A ring of 0 is no breakdown.
 pub struct Breakdown {
     pub ring: usize,
     pub handles: usize,
@@ -31,7 +32,8 @@ pub struct Breakdown {
 
 // A shortest way to a target that avoids x.
 fn way_round(rows: &[u64; 64], n: usize, x: usize, targets: u64, from: usize) -> Route
-    requires { ⌜ Rows n (now rows) ⌝ ∗ ⌜ (x < n) × (from < n) ⌝ }
+    requires { ⌜ Rows n (now rows) ⌝ }
+    requires { ⌜ (x < n) × (from < n) ⌝ }
     ensures { λ r. ⌜ Nearest (Edge (now (rows .entry))) (Except (Below n) x) (Has targets) from (r .size) (row (r .at)) ⌝ }
 {
     graph::search(rows, sets::without(sets::below(n), x), targets, from)
@@ -59,16 +61,18 @@ fn better(best: Pair, u: usize, w: usize, size: usize) -> Pair
 
 // The way round of a cycle through the edge from a to b: on from b to another neighbour of a, avoiding a.
 fn ring_way(rows: &[u64; 64], n: usize, a: usize, b: usize) -> Route
-    requires { ⌜ Rows n (now rows) ⌝ ∗ ⌜ (a < n) × (b < n) ⌝ }
-    ensures { λ r. ⌜ Nearest (Edge (now (rows .entry))) (Except (Below n) a) (Beside (Edge (now (rows .entry))) a b) b (r .size) (row (r .at)) ⌝ }
+    requires { ⌜ Rows n (now rows) ⌝ }
+    requires { ⌜ (a < n) × (b < n) ⌝ }
+    ensures { λ r. ⌜ RingWay n (Edge (now (rows .entry))) a b (r .size) (row (r .at)) ⌝ }
 {
     way_round(rows, n, a, sets::without(rows[a], b), b)
 }
 
 // The size of that way.
 fn ring_size(rows: &[u64; 64], n: usize, a: usize, b: usize) -> usize
-    requires { ⌜ Rows n (now rows) ⌝ ∗ ⌜ (a < n) × (b < n) ⌝ }
-    ensures { λ r. ⌜ Size (Edge (now (rows .entry))) (Except (Below n) a) (Beside (Edge (now (rows .entry))) a b) b r ⌝ }
+    requires { ⌜ Rows n (now rows) ⌝ }
+    requires { ⌜ (a < n) × (b < n) ⌝ }
+    ensures { λ r. ⌜ RingSize n (Edge (now (rows .entry))) a b r ⌝ }
 {
     let route = ring_way(rows, n, a, b);
     route.size
@@ -76,7 +80,9 @@ fn ring_size(rows: &[u64; 64], n: usize, a: usize, b: usize) -> usize
 
 // The choice among the edges that begin before a, and those that begin at a.
 fn choose_ring_at(rows: &[u64; 64], n: usize, a: usize, best: Pair) -> Pair
-    requires { ⌜ Rows n (now rows) ⌝ ∗ ⌜ a < n ⌝ ∗ ⌜ RingChoice n (now rows) (Before a) (best .from) (best .to) (best .size) ⌝ }
+    requires { ⌜ Rows n (now rows) ⌝ }
+    requires { ⌜ a < n ⌝ }
+    requires { ⌜ RingChoice n (now rows) (Before a) (best .from) (best .to) (best .size) ⌝ }
     ensures { λ r. ⌜ RingChoice n (now (rows .entry)) (Before (a + 1)) (r .from) (r .to) (r .size) ⌝ }
 {
     let mut best = best;
@@ -109,17 +115,20 @@ fn choose_ring(rows: &[u64; 64], n: usize) -> Pair
 
 // The size of the way on of a handle that leaves the settled positions from u to w: from w to a settled position, avoiding u.
 fn handle_size(rows: &[u64; 64], n: usize, settled: u64, u: usize, w: usize) -> usize
-    requires { ⌜ Rows n (now rows) ⌝ ∗ ⌜ (u < n) × (w < n) ⌝ }
+    requires { ⌜ Rows n (now rows) ⌝ }
+    requires { ⌜ (u < n) × (w < n) ⌝ }
     ensures { λ r. ⌜ Size (Edge (now (rows .entry))) (Except (Below n) u) (Has settled) w r ⌝ }
 {
     let route = way_round(rows, n, u, settled, w);
     route.size
 }
 
-// The choice among the edges that leave the settled positions before u, and those that leave from u. No handle is shorter than one inner position
-// and an end.
+// The choice among the edges that leave the settled positions before u, and those that leave from u. No handle is shorter than one inner
+// position and an end.
 fn choose_handle_at(rows: &[u64; 64], n: usize, settled: u64, u: usize, best: Pair) -> Pair
-    requires { ⌜ Rows n (now rows) ⌝ ∗ ⌜ u < n ⌝ ∗ ⌜ HandleChoice n (now rows) settled (Before u) (best .from) (best .to) (best .size) ⌝ }
+    requires { ⌜ Rows n (now rows) ⌝ }
+    requires { ⌜ u < n ⌝ }
+    requires { ⌜ HandleChoice n (now rows) settled (Before u) (best .from) (best .to) (best .size) ⌝ }
     ensures { λ r. ⌜ HandleChoice n (now (rows .entry)) settled (Before (u + 1)) (r .from) (r .to) (r .size) ⌝ }
 {
     let mut best = best;
@@ -158,7 +167,8 @@ fn choose_handle(rows: &[u64; 64], n: usize, settled: u64) -> Pair
 
 // Puts the first k positions of `at` into the row from place m on, and settles them.
 fn extend(at: &[u8; 64], k: usize, m: usize, order: &mut [u8; 64], settled: &mut u64)
-    requires { ⌜ Settled m (now order) (now settled) ⌝ ∗ ⌜ Fresh (now at) k (now settled) ⌝ }
+    requires { ⌜ Settled m (now order) (now settled) ⌝ }
+    requires { ⌜ Fresh (now at) k (now settled) ⌝ }
     ensures { λ r. ⌜ Extended (now (at .entry)) k m (now (order .entry)) (now (order .exit)) (now (settled .exit)) ⌝ }
 {
     let mut i: usize = 0;
@@ -172,8 +182,12 @@ fn extend(at: &[u8; 64], k: usize, m: usize, order: &mut [u8; 64], settled: &mut
 
 // The base ring by the chosen pair (a, b): the way round from b, then a.
 fn lay_ring(rows: &[u64; 64], n: usize, pair: Pair, settled: &mut u64) -> Breakdown
-    requires { ⌜ Rows n (now rows) ⌝ ∗ ⌜ 0 < pair .size ⌝ ∗ ⌜ RingChoice n (now rows) (Edge (now rows)) (pair .from) (pair .to) (pair .size) ⌝ ∗ ⌜ now settled ≡ 0 ⌝ }
-    ensures { λ r. ⌜ Building n (Edge (now (rows .entry))) (r .ring) (r .handles) (r .order) (r .start) (r .left) (r .right) (now (settled .exit)) ⌝ ∗ ⌜ r .ring ≡ pair .size + 1 ⌝ }
+    requires { ⌜ Rows n (now rows) ⌝ }
+    requires { ⌜ 0 < pair .size ⌝ }
+    requires { ⌜ RingChoice n (now rows) (Edge (now rows)) (pair .from) (pair .to) (pair .size) ⌝ }
+    requires { ⌜ now settled ≡ 0 ⌝ }
+    ensures { λ r. ⌜ BuildingOf n (Edge (now (rows .entry))) r (now (settled .exit)) ⌝ }
+    ensures { λ r. ⌜ r .ring ≡ pair .size + 1 ⌝ }
 {
     let a = pair.from;
     let route = ring_way(rows, n, a, pair.to);
@@ -197,8 +211,13 @@ fn lay_ring(rows: &[u64; 64], n: usize, pair: Pair, settled: &mut u64) -> Breakd
 
 // One handle more, by the chosen pair.
 fn add_handle(rows: &[u64; 64], n: usize, pair: Pair, settled: &mut u64, b: Breakdown) -> Breakdown
-    requires { ⌜ Rows n (now rows) ⌝ ∗ ⌜ 0 < pair .size ⌝ ∗ ⌜ HandleChoice n (now rows) (now settled) (Edge (now rows)) (pair .from) (pair .to) (pair .size) ⌝ ∗ ⌜ Building n (Edge (now rows)) (b .ring) (b .handles) (b .order) (b .start) (b .left) (b .right) (now settled) ⌝ }
-    ensures { λ r. ⌜ Building n (Edge (now (rows .entry))) (r .ring) (r .handles) (r .order) (r .start) (r .left) (r .right) (now (settled .exit)) ⌝ ∗ ⌜ (r .ring ≡ b .ring) × (row (b .start) (b .handles) < row (r .start) (r .handles)) ⌝ }
+    requires { ⌜ Rows n (now rows) ⌝ }
+    requires { ⌜ 0 < pair .size ⌝ }
+    requires { ⌜ HandleChoice n (now rows) (now settled) (Edge (now rows)) (pair .from) (pair .to) (pair .size) ⌝ }
+    requires { ⌜ BuildingOf n (Edge (now rows)) b (now settled) ⌝ }
+    ensures { λ r. ⌜ BuildingOf n (Edge (now (rows .entry))) r (now (settled .exit)) ⌝ }
+    ensures { λ r. ⌜ r .ring ≡ b .ring ⌝ }
+    ensures { λ r. ⌜ row (b .start) (b .handles) < row (r .start) (r .handles) ⌝ }
 {
     let u = pair.from;
     let handles = b.handles;
@@ -240,8 +259,10 @@ fn nothing() -> Breakdown
 
 // The handles on a base ring, one after another, until every position is settled.
 fn add_handles(rows: &[u64; 64], n: usize, settled: &mut u64, b: Breakdown) -> Breakdown
-    requires { ⌜ Rows n (now rows) ⌝ ∗ ⌜ b .ring < n ⌝ ∗ ⌜ Building n (Edge (now rows)) (b .ring) (b .handles) (b .order) (b .start) (b .left) (b .right) (now settled) ⌝ }
-    ensures { λ r. ⌜ Handled n (Edge (now (rows .entry))) (r .ring) (r .handles) (r .order) (r .start) (r .left) (r .right) ⌝ }
+    requires { ⌜ Rows n (now rows) ⌝ }
+    requires { ⌜ b .ring < n ⌝ }
+    requires { ⌜ BuildingOf n (Edge (now rows)) b (now settled) ⌝ }
+    ensures { λ r. ⌜ HandledOf n (Edge (now (rows .entry))) r ⌝ }
 {
     let mut b = b;
     loop {
@@ -258,11 +279,11 @@ fn add_handles(rows: &[u64; 64], n: usize, settled: &mut u64, b: Breakdown) -> B
     }
 }
 
-// The breakdown of a floor, for every floor that is bi-connected and no ring; for any other a ring of 0. A base ring through every position leaves
-// nowhere to exchange racks: a shortest ring that long is the whole floor.
+// The breakdown of a floor, for every floor that is bi-connected and no ring; for any other a ring of 0. A base ring through every position
+// leaves nowhere to exchange racks: a shortest ring that long is the whole floor.
 pub fn break_down(rows: &[u64; 64], n: usize) -> Breakdown
     requires { ⌜ Rows n (now rows) ⌝ }
-    ensures { λ r. ⌜ Answer n (now (rows .entry)) (r .ring) (r .handles) (r .order) (r .start) (r .left) (r .right) ⌝ }
+    ensures { λ r. ⌜ AnswerOf n (now (rows .entry)) r ⌝ }
 {
     let pair = choose_ring(rows, n);
     if pair.size == 0 {
@@ -274,4 +295,18 @@ pub fn break_down(rows: &[u64; 64], n: usize) -> Breakdown
         return nothing();
     }
     add_handles(rows, n, &mut settled, b)
+}
+
+// The positions at the places from `from` up to `to` of a row, as a set.
+pub fn part(order: &[u8; 64], from: usize, to: usize) -> u64
+    requires { ⌜ Places (row (now order)) to ⌝ }
+    ensures { λ r. ⌜ Part (row (now (order .entry))) from to r ⌝ }
+{
+    let mut set: u64 = 0;
+    let mut i = from;
+    while i < to {
+        set = sets::with(set, order[i] as usize);
+        i += 1;
+    }
+    set
 }

@@ -12,20 +12,12 @@ use borrow.Author.Tests.{le-ltb}
 use lib.ListN.{length}
 use lib.Dec.{T, eqb, eqb→eq}
 use Rattle.answers.specs.Answer.{Answer, accepted, refused}
-use Rattle.field.specs.Bits.{bits, number, bitsOf, field, pairs, positions, pairBits, pad, padded, bytes, toBytes}
-use Rattle.field.specs.Units.{unitsLength, misfits, unclean}
-use Rattle.order.specs.Floor.{isPair, among, joined}
-use Rattle.order.specs.Order.{positionCount, edgeCount, rackCount, unitCount, floorOf, startsOf, goalsOf, orderOf, wrongLength, wrongPositions, paddingSet, some, badEdge, precedes, ascending, wrongEdges, repeats, wrongPlaces, wrongRacks, counts, orderAnswer}
-use Rattle.motion.specs.Arrangement.{occupied, vacant}
-use Rattle.motion.specs.Move.{onFloor, legalMove, goesTo, after, afterMove}
-use Rattle.motion.specs.Step.{every, ascends, leaves, enters, enteredOnce, led, legalStep}
+use Rattle.motion.specs.Step.{every}
 use Rattle.motion.proofs.StepTestsLaws.{every-iff}
-use Rattle.motion.specs.StepOf.{sort, insert}
-use Rattle.motion.specs.Replay.{replayFrom, replayMoves, replaySteps}
-use Rattle.motion.specs.Judgement.{misplaced, judged}
-use Rattle.plan.specs.Plan.{moveCount, planMoves, wrongPlanLength, planPaddingSet, planAnswer}
-use Rattle.timetable.specs.Timetable.{stepBits, allStepBits, timetableBits, timetableRecord, stepLength, stepCount, wrongSteps, stepParts, partsOf, wrongTimetableLength, stepPadSet, timetablePaddingSet, stepMoves, stepsOf, total, timetableAnswer}
-use Rattle.scheduling.specs.Making.{rackFrom, rackAt, ofRack, ofLeaving, stepFor, timed, greatest, inStep, movesIn, stepsFrom, madeSteps}
+use Rattle.plan.specs.Plan.{moveCount, planAnswer}
+use Rattle.timetable.specs.Timetable.{timetableRecord, timetableAnswer}
+use Rattle.timetable.proofs.Inhabited.{timetable-open}
+use Rattle.scheduling.proofs.MakerCases.{maker-open}
 use Rattle.scheduling.specs.Maker.{madeOf, makerAnswer, bufferAfter}
 use Rattle.floor.specs.FloorAnswer.{biConnected?, ring?, floorAnswer}
 use Rattle.planner.specs.Planner.{refusals, PlanMade}
@@ -54,7 +46,9 @@ unfolding sameList
 same-list [] [] t = refl
 same-list [] (y ∷ l) t = absurd t
 same-list (x ∷ k) [] t = absurd t
-same-list (x ∷ k) (y ∷ l) t = let h = both (eqb x y) (sameList k l) t in ap₂ (λ (z : ℕ) (r : List ℕ). z ∷ r) (eqb→eq x y (h .0)) (same-list k l (h .1))
+same-list (x ∷ k) (y ∷ l) t =
+    let h = both (eqb x y) (sameList k l) t in
+    ap₂ (λ (z : ℕ) (r : List ℕ). z ∷ r) (eqb→eq x y (h .0)) (same-list k l (h .1))
 
 same-answer : (a b : Answer) → T (sameAnswer a b) → a ≡ b
 unfolding sameAnswer
@@ -100,7 +94,7 @@ agrees-claims (plan-made order buffer a) t = let e = same-answer (refusals order
 
 -- the one computed test
 all-agree : T (every agrees starred)
-unfolding starred every agrees sameAnswer sameList planAnswer timetableAnswer refusals floorAnswer biConnected? ring? makerAnswer madeOf orderAnswer wrongLength misfits unitsLength unitCount wrongPositions paddingSet unclean pad wrongEdges some badEdge precedes ascending wrongRacks wrongPlaces repeats orderOf floorOf startsOf goalsOf counts positionCount edgeCount rackCount field number bitsOf bits pairs positions wrongPlanLength planPaddingSet moveCount planMoves judged misplaced replayMoves replaySteps replayFrom legalMove legalStep onFloor joined among isPair occupied vacant goesTo after afterMove ascends leaves enters enteredOnce led wrongTimetableLength wrongSteps stepLength stepCount timetablePaddingSet stepPadSet partsOf stepParts stepsOf stepMoves total timetableRecord timetableBits allStepBits stepBits toBytes bytes padded pairBits madeSteps timed stepFor ofRack ofLeaving rackAt rackFrom greatest stepsFrom movesIn inStep sort insert
+unfolding starred every agrees sameAnswer sameList refusals floorAnswer biConnected? ring? maker-open timetable-open
 all-agree = tt
 
 -- the one lemma

@@ -11,9 +11,10 @@
 -- Assumes nothing.
 use Prim.Native.Nat.{ℕ, _+_, _*_, _≤_}
 use mathlib.Core.Path.{_≡_}
-use mathlib.Core.List.{List, [], _∷_, _++_}
-use lib.ListN.{length, drop}
+use mathlib.Core.List.{List, [], _∷_}
+use lib.ListN.{length}
 use Rattle.answers.specs.Answer.{Answer, accepted, refused}
+use Rattle.field.specs.Writing.{written}
 use Rattle.plan.specs.Plan.{moveCount, planAnswer}
 use Rattle.timetable.specs.Timetable.{timetableAnswer}
 use Rattle.scheduling.specs.Maker.{makerAnswer, bufferAfter}
@@ -29,7 +30,7 @@ pub data Case : Type 0 where
 
 pub record Made (o p : List ℕ) (s : ℕ) (t B : List ℕ) : Type 0 where
   pub answer : makerAnswer o p (length B) ≡ accepted (s ∷ [])
-  pub buffer : bufferAfter o p B ≡ t ++ drop (length t) B
+  pub buffer : bufferAfter o p B ≡ written B 0 t
 
 abbrev pub Answers : List ℕ → List ℕ → Answer → Answer → List ℕ → Type 0
 Answers o B (refused n p) b B′ = (b ≡ refused n p) × (B′ ≡ B)

@@ -3,14 +3,15 @@
 --     Sized Fits a        the answer a is accepted with counts that fit, or refused with a number from 1 to 255 at a place below 2³²
 --     NoCounts, OneCount, StepsMoves, OffsetLength    the counts that fit, by function
 --     refuse-sized, passUp-sized, judged-sized        an answer made of sized answers is sized
---     misplaced-small, stopped-small                  a misplaced rack and the place where a replay stops are at most one above the list
+--     misplaced-small, Stopping                       a misplaced rack and the place where a replay stops are at most one above the list
 --     order-sized, floor-sized, planner-sized, made-sized, plan-sized, timetable-sized, maker-sized, step-sized
 --                         so are the answers of each function
 -- Assumes nothing.
-use Prim.Native.Nat.{ℕ, suc, _+_, _*_, _^_, _≤_, _<_}
+use Prim.Native.Nat.{ℕ, zero, suc, _+_, _*_, _^_, _≤_, _<_}
 use mathlib.Core.Path.{_≡_, refl, sym, ap, _∙_, subst}
 use mathlib.Core.Bool.{Bool, true, false, not, _||_}
 use mathlib.Core.List.{List, [], _∷_}
+use mathlib.Core.Logic.{_≢_}
 use native.Mathlib.Omega.{arith}
 use borrow.Author.Tests.{ltb-false}
 use lib.Dec.{T, ltb, eqb, lit<}
@@ -20,17 +21,23 @@ use Rattle.answers.proofs.AnswerLaws.{passUp-accepted}
 use Rattle.field.proofs.BitLaws.{field-lt}
 use Rattle.field.proofs.RecordLaws.{length-positions, length-pairs}
 use Rattle.field.proofs.UnitLaws.{or-right}
+use Rattle.order.specs.Floor.{Floor}
 use Rattle.order.specs.Order.{positionCount, edgeCount, rackCount, floorOf, startsOf, goalsOf, orderOf, wrongLength, wrongPositions, paddingSet, wrongEdges, wrongRacks, orderAnswer}
 use Rattle.motion.specs.Arrangement.{Arrangement}
+use Rattle.motion.specs.Move.{legalMove, moveFault, after, afterMove}
+use Rattle.motion.proofs.MoveLaws.{moveFault-none, moveFault-small}
+use Rattle.motion.specs.Step.{legalStep}
 use Rattle.motion.specs.Judgement.{misplaced, judged}
-use Rattle.motion.specs.Replay.{Replayed, ended, stopped, replayMoves, replaySteps}
+use Rattle.motion.specs.Replay.{Replayed, ended, stopped, replayMoves, stepFault, replaySteps}
+use Rattle.motion.proofs.StepDecision.{legalStep?}
 use Rattle.motion.proofs.Test.{cond-either}
-use Rattle.motion.proofs.Lawful.{Stops, replayMoves-stopped, replaySteps-stopped}
+use Rattle.motion.proofs.Lawful.{Stops, stops-some, stepFault-none, stepFault-small, replayMoves-stopped, replaySteps-stopped}
 use Rattle.floor.specs.FloorAnswer.{biConnected?, ring?, holds, floorAnswer}
 use Rattle.plan.specs.Plan.{moveCount, planMoves, wrongPlanLength, planPaddingSet, planAnswer}
 use Rattle.planner.specs.Planner.{refusals, PlanMade, turned-down, made}
 use Rattle.planner.proofs.PlannerLaws.{moves-few}
-use Rattle.timetable.specs.Timetable.{stepCount, partsOf, stepsOf, stepMoves, wrongTimetableLength, timetablePaddingSet, timetableAnswer, stepAnswer}
+use Rattle.timetable.specs.Timetable.{stepCount, partsOf, stepsOf, stepMoves, wrongTimetableLength, timetablePaddingSet, timetableAnswer}
+use Rattle.timetable.specs.Timetable.{stepAnswer}
 use Rattle.timetable.proofs.StepLaws.{length-parts}
 use Rattle.timetable.specs.ByteString.{ByteString}
 use Rattle.timetable.proofs.SizeLaws.{count-small, total-small, offset-small, length-small}
@@ -72,9 +79,35 @@ misplaced-small r (p ∷ A) [] = omega arith
 misplaced-small r (p ∷ A) (g ∷ G) =
     cond-either (λ (x : ℕ). x ≤ r + length (g ∷ G)) (eqb p g) (omega (arith, misplaced-small (suc r) A G)) (omega arith)
 
-pub stopped-small : {X : Type 0} {legal : Arrangement → X → Bool} {next : Arrangement → X → Arrangement} {i : ℕ} {A : Arrangement}
-    {xs : List X} {j : ℕ} → Stops legal next i A xs j → j ≤ i + length xs
-stopped-small s = omega (arith, s .number, ap length (s .parts), length-append (s .before) (s .bad ∷ s .rest))
+-- where a replay stops: its fault has a number of 8 bits, and its place is at most one above the list
+pub record Stopping (n f j : ℕ) : Type 0 where
+  pub some : 0 < f
+  pub few : f < 256
+  pub near : j ≤ 1 + n
+
+module _ {X : Type 0} (fault : Arrangement → X → ℕ) (legal : Arrangement → X → Bool) (next : Arrangement → X → Arrangement)
+    (none : (A : Arrangement) (x : X) → eqb (fault A x) 0 ≡ legal A x) (small : (A : Arrangement) (x : X) → fault A x ≤ 255) where
+  stopped-small : {A : Arrangement} {xs : List X} {f j : ℕ} → Stops fault legal next 1 A xs f j → Stopping (length xs) f j
+  stopped-small {f = f} s =
+      let is : f ≢ 0 = stops-some fault legal next none s in
+      record {
+        some = omega (arith, pos f is);
+        few = omega (arith, small (s .there) (s .bad), s .fault-is);
+        near = omega (arith, s .number, ap length (s .parts), length-append (s .before) (s .bad ∷ s .rest));
+      }
+    where
+      pos : (n : ℕ) → n ≢ 0 → 0 < n
+      pos zero d = absurd (d refl)
+      pos (suc n) d = omega arith
+
+moves-stopping : (F : Floor) (A : Arrangement) (ms : List (ℕ × ℕ)) (f j : ℕ) → replayMoves F A ms ≡ stopped f j → Stopping (length ms) f j
+moves-stopping F A ms f j e =
+    stopped-small (moveFault F) (legalMove F) afterMove (moveFault-none F) (moveFault-small F) (replayMoves-stopped F A ms f j .0 e)
+
+steps-stopping : (F : Floor) (A : Arrangement) (steps : List (List (ℕ × ℕ))) (f j : ℕ) → replaySteps (legalStep? F) A steps ≡ stopped f j
+    → Stopping (length steps) f j
+steps-stopping F A steps f j e =
+    stopped-small (stepFault (legalStep? F)) (legalStep F) after (stepFault-none F) (stepFault-small F) (replaySteps-stopped F A steps f j .0 e)
 
 module _ {Fits : List ℕ → Type 0} where
   pub refuse-sized : (t : Bool) (number place : ℕ) (a : Answer) → T (ltb 0 number) → T (ltb number 256) → place < 2 ^ 32
@@ -82,12 +115,14 @@ module _ {Fits : List ℕ → Type 0} where
   refuse-sized true number place a some few near rest = refuses (lit< some) (lit< few) near
   refuse-sized false number place a some few near rest = rest refl
 
-  pub judged-sized : (illegal off : ℕ) (G v : List ℕ) (x : Replayed) → T (ltb 0 illegal) → T (ltb illegal 256) → T (ltb 0 off)
-      → T (ltb off 256) → length G < 128 → ((j : ℕ) → x ≡ stopped j → j < 2 ^ 32) → Fits v → Sized Fits (judged illegal off G v x)
+  pub judged-sized : (off : ℕ) (G v : List ℕ) (x : Replayed) (n : ℕ) → T (ltb 0 off) → T (ltb off 256) → length G < 128
+      → ((f j : ℕ) → x ≡ stopped f j → Stopping n f j) → n < 2 ^ 22 → Fits v → Sized Fits (judged off G v x)
   unfolding judged
-  judged-sized illegal off G v (stopped j) some few some′ few′ goals near fits = refuses (lit< some) (lit< few) (near j refl)
-  judged-sized illegal off G v (ended A) some few some′ few′ goals near fits =
-      refuse-sized (not (eqb (misplaced 1 A G) 0)) off (misplaced 1 A G) (accepted v) some′ few′ (omega (arith, misplaced-small 1 A G))
+  judged-sized off G v (stopped f j) n some few goals stops short fits =
+      let t = stops f j refl in
+      refuses {number = f} {place = j} (t .some) (t .few) (omega (arith, t .near))
+  judged-sized off G v (ended A) n some few goals stops short fits =
+      refuse-sized (not (eqb (misplaced 1 A G) 0)) off (misplaced 1 A G) (accepted v) some few (omega (arith, misplaced-small 1 A G))
       (λ none. accepts fits)
 
 pub order-sized : (o : List ℕ) → Sized Any (orderAnswer o)
@@ -142,8 +177,9 @@ plan-sized o p =
     passUp-sized (orderAnswer o) _ (order-sized o)
     (λ v e. refuse-sized (wrongPlanLength p) 30 0 _ tt tt (lit< tt)
     (λ _. refuse-sized (planPaddingSet p) 31 0 _ tt tt (lit< tt)
-    (λ _. judged-sized 32 33 (goalsOf o) _ (replayMoves (floorOf o) (startsOf o) (planMoves p)) tt tt tt tt (goals-few o)
-    (λ j e. omega (arith, stopped-small (replayMoves-stopped (floorOf o) (startsOf o) (planMoves p) j .0 e), moves-listed p, count-few p))
+    (λ _. judged-sized 33 (goalsOf o) _ (replayMoves (floorOf o) (startsOf o) (planMoves p)) (length (planMoves p)) tt tt (goals-few o)
+    (moves-stopping (floorOf o) (startsOf o) (planMoves p))
+    (omega (arith, moves-listed p, count-few p))
     (one-count (count-few p)))))
 
 pub timetable-sized : (o s : List ℕ) → ByteString s → Sized StepsMoves (timetableAnswer o s)
@@ -152,8 +188,9 @@ timetable-sized o s b =
     passUp-sized (orderAnswer o) _ (order-sized o)
     (λ v e. refuse-sized (wrongTimetableLength s) 40 0 _ tt tt (lit< tt)
     (λ _. refuse-sized (timetablePaddingSet s) 41 0 _ tt tt (lit< tt)
-    (λ _. judged-sized 42 43 (goalsOf o) _ (replaySteps (floorOf o) (startsOf o) (stepsOf s)) tt tt tt tt (goals-few o)
-    (λ j e. omega (arith, stopped-small (replaySteps-stopped (floorOf o) (startsOf o) (stepsOf s) j .0 e), steps-listed s, count-small s))
+    (λ _. judged-sized 43 (goalsOf o) _ (replaySteps (legalStep? (floorOf o)) (startsOf o) (stepsOf s)) (length (stepsOf s)) tt tt (goals-few o)
+    (steps-stopping (floorOf o) (startsOf o) (stepsOf s))
+    (omega (arith, steps-listed s, count-small s))
     (steps-moves (count-small s) (total-small s b)))))
 
 pub maker-sized : (o p : List ℕ) (n : ℕ) → Sized OneCount (makerAnswer o p n)

@@ -3,23 +3,44 @@
 --
 --     Packs rest values Fits    counts that fit take at most 56 bits, and come back
 --     packed-back               so does the answer that has them
---     undone                    the one law: where the counts come back the packing of sized answers is undone
---     never-both                so an accepted and a refused answer never share a number
+--     tells                     the one law: the number of a sized answer tells it
+--     told-apart                one number tells one answer
 --     nothing-packs, plan-moves-pack, made-steps-pack, steps-moves-pack, offset-length-packs    each packing of `Packed`
---     order-check, floor-check, plan-make, plan-check, timetable-check, timetable-make, timetable-step    the law, for each function
---     uncounted-same            the order check's number is that of the answer without counts
+--     uncounted-sized, uncounted-same    an answer without its counts is sized, and has the same number where no counts are given
 -- Assumes nothing.
-use Prim.Native.Nat.{ℕ, _*_, _/_, _^_, _<_}
-use mathlib.Core.Path.{_≡_, refl, sym, ap, ap₂, _∙_, subst}
+use Prim.Native.Nat.{ℕ, _*_, _/_, _%_, _^_, _<_}
+use mathlib.Core.Path.{_≡_, refl, sym, ap, ap₂, _∙_}
 use mathlib.Core.List.{List, [], _∷_}
 use native.Mathlib.Nat.{mod-eq-of-lt}
 use native.Mathlib.Omega.{arith}
 use borrow.Author.Tests.{ne-eqb}
 use Rattle.answers.specs.Answer.{Answer, accepted, refused}
-use Rattle.order.specs.Order.{orderAnswer}
 use Rattle.controller.specs.Packed.{packed, nothing, oneCount, stepsAndMoves, lengthAndOffset}
-use Rattle.controller.specs.Unpacked.{numberIn, placeIn, planMovesIn, stepsIn, movesIn, offsetIn, lengthIn, nothingOf, planMovesOf, madeStepsOf, stepsAndMovesOf, offsetAndLengthOf, takenApart, uncounted, Undone, OrderCheckGives, FloorCheckGives, PlanMakeGives, PlanCheckGives, TimetableCheckGives, TimetableMakeGives, TimetableStepGives}
-use Rattle.controller.proofs.AnswerSizes.{Sized, accepts, refuses, NoCounts, no-counts, OneCount, one-count, StepsMoves, steps-moves, OffsetLength, offset-length, order-sized, floor-sized, made-sized, plan-sized, timetable-sized, maker-sized, step-sized}
+use Rattle.controller.specs.Unpacked.{
+  numberIn,
+  placeIn,
+  nothingOf,
+  planMovesOf,
+  madeStepsOf,
+  stepsAndMovesOf,
+  offsetAndLengthOf,
+  takenApart,
+  uncounted,
+  Tells,
+}
+use Rattle.controller.proofs.AnswerSizes.{
+  Sized,
+  accepts,
+  refuses,
+  NoCounts,
+  no-counts,
+  OneCount,
+  one-count,
+  StepsMoves,
+  steps-moves,
+  OffsetLength,
+  offset-length,
+}
 
 pub record Packs (rest : List ℕ → ℕ) (values : ℕ → List ℕ) (Fits : List ℕ → Type 0) : Type 0 where
   pub room : (v : List ℕ) → Fits v → rest v < 2 ^ 56
@@ -38,21 +59,13 @@ module _ {rest : List ℕ → ℕ} {values : ℕ → List ℕ} {Fits : List ℕ 
       let place-is : placeIn r ≡ place = rw above (mod-eq-of-lt near) in
       (omega arith, rw (number-is, place-is, ne-eqb number 0 (λ e. omega arith)) refl)
 
-  pub undone : {Given : Answer → Type 0} → ((a : Answer) → Given a → Sized Fits a) → Undone rest values Given
-  undone {Given} sized =
-      record {
-        fits = λ a g. packed-back a (sized a g) .0;
-        back = λ a g. packed-back a (sized a g) .1;
-        apart = λ a b g h e. sym (packed-back a (sized a g) .1) ∙ ap (takenApart values) e ∙ packed-back b (sized b h) .1;
-      }
+  -- what a function of the C interface shows: its number is the answer, packed, and the answer is sized
+  pub tells : {a : Answer} {r : ℕ} → Sized Fits a → r ≡ packed rest a → Tells rest values a r
+  tells {a} {r} sized is = record { number-is = is; comes-apart = ap (takenApart values) is ∙ packed-back a sized .1 }
 
-pub never-both : {rest : List ℕ → ℕ} {values : ℕ → List ℕ} {Given : Answer → Type 0} → Undone rest values Given
-    → (v : List ℕ) (number place : ℕ) → Given (accepted v) → Given (refused number place)
-    → packed rest (accepted v) ≡ packed rest (refused number place) → ⊥
-never-both u v number place g h e =
-    let same : accepted v ≡ refused number place = u .apart (accepted v) (refused number place) g h e in
-    let z : _≡_ {A = ℕ} 0 1 = cc in
-    omega arith
+-- so no two answers of a function share a number
+pub told-apart : {rest : List ℕ → ℕ} {values : ℕ → List ℕ} {a b : Answer} {r : ℕ} → Tells rest values a r → Tells rest values b r → a ≡ b
+told-apart t u = sym (t .comes-apart) ∙ u .comes-apart
 
 pub nothing-packs : Packs nothing nothingOf NoCounts
 nothing-packs = record { room = λ v f. omega arith; read = read }
@@ -67,13 +80,13 @@ plan-moves-pack = record { room = room; read = read }
     room (k ∷ []) (one-count few) = omega arith
 
     read : (v : List ℕ) → OneCount v → planMovesOf (oneCount v * 256) ≡ v
-    read (k ∷ []) (one-count few) = let k-is : planMovesIn (k * 256) ≡ k = omega arith in ap (λ (x : ℕ). x ∷ []) k-is
+    read (k ∷ []) (one-count few) = let k-is : k * 256 / 2 ^ 8 % 2 ^ 32 ≡ k = omega arith in ap (λ (x : ℕ). x ∷ []) k-is
 
 pub made-steps-pack : Packs oneCount madeStepsOf OneCount
 made-steps-pack = record { room = plan-moves-pack .room; read = read }
   where
     read : (v : List ℕ) → OneCount v → madeStepsOf (oneCount v * 256) ≡ v
-    read (k ∷ []) (one-count few) = let k-is : stepsIn (k * 256) ≡ k = omega arith in ap (λ (x : ℕ). x ∷ []) k-is
+    read (k ∷ []) (one-count few) = let k-is : k * 256 / 2 ^ 8 % 2 ^ 22 % 2 ^ 32 ≡ k = omega arith in ap (λ (x : ℕ). x ∷ []) k-is
 
 pub steps-moves-pack : Packs stepsAndMoves stepsAndMovesOf StepsMoves
 steps-moves-pack = record { room = room; read = read }
@@ -84,9 +97,9 @@ steps-moves-pack = record { room = room; read = read }
     read : (v : List ℕ) → StepsMoves v → stepsAndMovesOf (stepsAndMoves v * 256) ≡ v
     read (s ∷ k ∷ []) (steps-moves few few′) =
         let r = stepsAndMoves (s ∷ k ∷ []) * 256 in
-        let s-is : stepsIn r ≡ s = omega arith in
+        let s-is : r / 2 ^ 8 % 2 ^ 22 % 2 ^ 32 ≡ s = omega arith in
         let above : r / 2 ^ 30 ≡ k = omega arith in
-        let k-is : movesIn r ≡ k = rw above (mod-eq-of-lt (omega arith)) in
+        let k-is : r / 2 ^ 30 % 2 ^ 32 ≡ k = rw above (mod-eq-of-lt (omega arith)) in
         ap₂ (λ (x y : ℕ). x ∷ y ∷ []) s-is k-is
 
 pub offset-length-packs : Packs lengthAndOffset offsetAndLengthOf OffsetLength
@@ -98,41 +111,14 @@ offset-length-packs = record { room = room; read = read }
     read : (v : List ℕ) → OffsetLength v → offsetAndLengthOf (lengthAndOffset v * 256) ≡ v
     read (at ∷ n ∷ []) (offset-length near few) =
         let r = lengthAndOffset (at ∷ n ∷ []) * 256 in
-        let at-is : offsetIn r ≡ at = omega arith in
-        let n-is : lengthIn r ≡ n = omega arith in
+        let at-is : r / 2 ^ 24 ≡ at = omega arith in
+        let n-is : r / 2 ^ 8 % 2 ^ 16 ≡ n = omega arith in
         ap₂ (λ (x y : ℕ). x ∷ y ∷ []) at-is n-is
 
-sized-as : {Fits : List ℕ → Type 0} {a b : Answer} → a ≡ b → Sized Fits b → Sized Fits a
-sized-as {Fits} e sized = subst (λ (a : Answer). Sized Fits a) (sym e) sized
-
-uncounted-sized : {Fits : List ℕ → Type 0} {a : Answer} → Sized Fits a → Sized NoCounts (uncounted a)
+pub uncounted-sized : {Fits : List ℕ → Type 0} {a : Answer} → Sized Fits a → Sized NoCounts (uncounted a)
 uncounted-sized (accepts fits) = accepts no-counts
 uncounted-sized (refuses some few near) = refuses some few near
 
-pub uncounted-same : (o : List ℕ) → packed nothing (orderAnswer o) ≡ packed nothing (uncounted (orderAnswer o))
-uncounted-same o = same (orderAnswer o)
-  where
-    same : (a : Answer) → packed nothing a ≡ packed nothing (uncounted a)
-    same (accepted v) = refl
-    same (refused number place) = refl
-
-pub order-check : Undone nothing nothingOf OrderCheckGives
-order-check = undone nothing-packs (λ a g. sized-as (g .1) (uncounted-sized (order-sized (g .0))))
-
-pub floor-check : Undone nothing nothingOf FloorCheckGives
-floor-check = undone nothing-packs (λ a g. sized-as (g .1) (floor-sized (g .0)))
-
-pub plan-make : Undone oneCount planMovesOf PlanMakeGives
-plan-make = undone plan-moves-pack (λ a g. made-sized (g .3))
-
-pub plan-check : Undone oneCount planMovesOf PlanCheckGives
-plan-check = undone plan-moves-pack (λ a g. sized-as (g .2) (plan-sized (g .0) (g .1)))
-
-pub timetable-check : Undone stepsAndMoves stepsAndMovesOf TimetableCheckGives
-timetable-check = undone steps-moves-pack (λ a g. sized-as (g .3) (timetable-sized (g .0) (g .1) (g .2)))
-
-pub timetable-make : Undone oneCount madeStepsOf TimetableMakeGives
-timetable-make = undone made-steps-pack (λ a g. sized-as (g .3) (maker-sized (g .0) (g .1) (g .2)))
-
-pub timetable-step : Undone lengthAndOffset offsetAndLengthOf TimetableStepGives
-timetable-step = undone offset-length-packs (λ a g. sized-as (g .3) (step-sized (g .0) (g .1) (g .2)))
+pub uncounted-same : (a : Answer) → packed nothing a ≡ packed nothing (uncounted a)
+uncounted-same (accepted v) = refl
+uncounted-same (refused number place) = refl

@@ -1,5 +1,5 @@
--- The one number that a C caller gets, from include/wichteab.h, "Answers": "The low 8 bits of an answer are its number: 0 where the input is
--- accepted, else one of the refusals below". "The bits above are, for a refusal, its place, and where the input is accepted what the
+-- The one number that a C caller gets, from include/wichteab.h, "Answers": "The low 8 bits of an answer are its number: 0 where the input
+-- is accepted, else one of the refusals below". "The bits above are, for a refusal, its place, and where the input is accepted what the
 -- function's own description says."
 --
 --     packed rest a    the answer a as one number, where `rest` makes one number of the counts of an accepted input

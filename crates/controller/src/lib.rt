@@ -21,6 +21,7 @@ ghost use Rattle.scheduling.specs.Maker.{makerAnswer, bufferAfter};
 ghost use Rattle.timetable.specs.Timetable.{timetableAnswer, stepAnswer};
 ghost use Rattle.timetable.specs.RecordLength.{wholeTimetableLength};
 ghost use Rattle.controller.specs.Packed.{packed, nothing, oneCount, stepsAndMoves, lengthAndOffset};
+ghost use Rattle.controller.specs.Unpacked.{Tells, uncounted, nothingOf, planMovesOf, madeStepsOf, stepsAndMovesOf, offsetAndLengthOf};
 
 // A refusal as one number.
 fn refusal(fault: Fault, place: u32) -> u64
@@ -32,7 +33,7 @@ fn refusal(fault: Fault, place: u32) -> u64
 // Judges an order by 10 to 14.
 #[no_mangle]
 pub extern "C" fn wichteab_order_check(order: &[u8]) -> u64
-    ensures { λ r. ⌜ r ≡ packed nothing (orderAnswer (now (order .entry))) ⌝ }
+    ensures { λ r. ⌜ Tells nothing nothingOf (uncounted (orderAnswer (now (order .entry)))) r ⌝ }
 {
     match order::read(order) {
         OrderVerdict::Accepted(_) => 0,
@@ -43,10 +44,10 @@ pub extern "C" fn wichteab_order_check(order: &[u8]) -> u64
 // Judges an order by 10 to 14 and 20 to 22: whether its floor can be planned at all.
 #[no_mangle]
 pub extern "C" fn wichteab_floor_check(order: &[u8]) -> u64
-    ensures { λ r. ⌜ r ≡ packed nothing (floorAnswer (now (order .entry))) ⌝ }
+    ensures { λ r. ⌜ Tells nothing nothingOf (floorAnswer (now (order .entry))) r ⌝ }
 {
-    match floor::judge(order) {
-        FloorVerdict::Accepted => 0,
+    match floor::check(order) {
+        FloorVerdict::Accepted(_) => 0,
         FloorVerdict::Refused(fault, place) => refusal(fault, place),
     }
 }
@@ -54,7 +55,7 @@ pub extern "C" fn wichteab_floor_check(order: &[u8]) -> u64
 // Makes a plan for an order and writes it to the front of the buffer, judged by 10 to 14 and 20 to 23. Accepted, it gives the plan's moves.
 #[no_mangle]
 pub extern "C" fn wichteab_plan_make(order: &[u8], buffer: &mut [u8]) -> u64
-    ensures { λ r. ⌜ ((a : Answer) × (r ≡ packed oneCount a) × PlanMade (now (order .entry)) (now (buffer .entry)) a (now (buffer .exit))) ⌝ }
+    ensures { λ r. ⌜ ((a : Answer) × Tells oneCount planMovesOf a r × PlanMade (now (order .entry)) (now (buffer .entry)) a (now (buffer .exit))) ⌝ }
 {
     match planner::make(order, buffer) {
         PlannerVerdict::Planned(moves) => (moves as u64) * 256,
@@ -65,7 +66,7 @@ pub extern "C" fn wichteab_plan_make(order: &[u8], buffer: &mut [u8]) -> u64
 // Judges a plan for an order by 10 to 14 and 30 to 33. Accepted, it gives the plan's moves.
 #[no_mangle]
 pub extern "C" fn wichteab_plan_check(order: &[u8], plan: &[u8]) -> u64
-    ensures { λ r. ⌜ r ≡ packed oneCount (planAnswer (now (order .entry)) (now (plan .entry))) ⌝ }
+    ensures { λ r. ⌜ Tells oneCount planMovesOf (planAnswer (now (order .entry)) (now (plan .entry))) r ⌝ }
 {
     match plan::check(order, plan) {
         PlanVerdict::Accepted(moves) => (moves as u64) * 256,
@@ -76,7 +77,7 @@ pub extern "C" fn wichteab_plan_check(order: &[u8], plan: &[u8]) -> u64
 // Judges a timetable for an order by 10 to 14 and 40 to 43. Accepted, it gives the timetable's steps and moves.
 #[no_mangle]
 pub extern "C" fn wichteab_timetable_check(order: &[u8], timetable: &[u8]) -> u64
-    ensures { λ r. ⌜ r ≡ packed stepsAndMoves (timetableAnswer (now (order .entry)) (now (timetable .entry))) ⌝ }
+    ensures { λ r. ⌜ Tells stepsAndMoves stepsAndMovesOf (timetableAnswer (now (order .entry)) (now (timetable .entry))) r ⌝ }
 {
     match timetable::check(order, timetable) {
         TimetableVerdict::Accepted { steps, moves } => ((steps as u64) + (moves as u64) * 4194304)
@@ -89,7 +90,7 @@ pub extern "C" fn wichteab_timetable_check(order: &[u8], timetable: &[u8]) -> u6
 // the timetable's steps.
 #[no_mangle]
 pub extern "C" fn wichteab_timetable_make(order: &[u8], plan: &[u8], buffer: &mut [u8]) -> u64
-    ensures { λ r. ⌜ r ≡ packed oneCount (makerAnswer (now (order .entry)) (now (plan .entry)) (length (now (buffer .entry)))) ⌝ }
+    ensures { λ r. ⌜ Tells oneCount madeStepsOf (makerAnswer (now (order .entry)) (now (plan .entry)) (length (now (buffer .entry)))) r ⌝ }
     ensures { λ _. ⌜ now (buffer .exit) ≡ bufferAfter (now (order .entry)) (now (plan .entry)) (now (buffer .entry)) ⌝ }
 {
     match scheduling::make(order, plan, buffer) {
@@ -101,7 +102,7 @@ pub extern "C" fn wichteab_timetable_make(order: &[u8], plan: &[u8], buffer: &mu
 // Finds a step of a timetable, judged by 40, 41 and 45. Accepted, it gives the step's length and where it begins.
 #[no_mangle]
 pub extern "C" fn wichteab_timetable_step(timetable: &[u8], number: u64) -> u64
-    ensures { λ r. ⌜ r ≡ packed lengthAndOffset (stepAnswer (now (timetable .entry)) number) ⌝ }
+    ensures { λ r. ⌜ Tells lengthAndOffset offsetAndLengthOf (stepAnswer (now (timetable .entry)) number) r ⌝ }
 {
     match timetable::find_step(timetable, number as usize) {
         StepVerdict::Found { offset, len } => ((len as u64) + (offset as u64) * 65536) * 256,

@@ -14,7 +14,7 @@ use native.Mathlib.Omega.{arith}
 use lib.ListN.{length, take}
 use Rattle.answers.specs.Answer.{accepted}
 use Rattle.answers.specs.declared.Fault.{Fault}
-use Rattle.field.specs.Units.{unitsLength}
+use Rattle.field.specs.Units.{recordLength}
 use Rattle.timetable.specs.Timetable.{timetableAnswer}
 use Rattle.timetable.specs.RecordLength.{wholeTimetableLength}
 use Rattle.timetable.specs.Checking.{answerOfCheck}
@@ -26,7 +26,8 @@ use Rattle.planner.specs.Planner.{PlanMade, answerOf}
 use Rattle.planner.proofs.PlannerLaws.{moves-few}
 use Rattle.planner.specs.declared.PlannerVerdict.{PlannerVerdict}
 use Rattle.planner.specs.declared.PlannerVerdict.the-variants.{Planned, Refused as PlanRefused}
-use Rattle.delivery.specs.Delivery.{notReached, answered, Answers, planLength, planAlone, timetableAlone, Called, unplanned, untimed, checked, Delivers}
+use Rattle.delivery.specs.Delivery.{notReached, answered, Answers, planLength, planAlone, timetableAlone, Called, unplanned, untimed}
+use Rattle.delivery.specs.Delivery.{checked, Delivers}
 use Rattle.delivery.proofs.DeliveryLaws.{plan-within, length-within, delivered}
 
 pub both : {o P T : List ℕ} {a : Answers} {P′ T′ : List ℕ} → Called o P T a P′ T′ → Called o P T a P′ T′ × Delivers o P T a P′ T′
@@ -40,8 +41,8 @@ module _ {o P P′ : List ℕ} where
     pub few-moves : k < 2 ^ 22
     few-moves = moves-few (plan-made e h)
 
-    pub plan-ends : 3 + (12 * k + 7) / 8 ≤ length P′
-    unfolding planLength unitsLength
+    pub plan-ends : 3 + (6 * (2 * k) + 7) / 8 ≤ length P′
+    unfolding planLength recordLength
     plan-ends = plan-within (plan-made e h)
 
 pub timetable-ends : (T : List ℕ) {n : ℕ} → n ≡ wholeTimetableLength T → n ≤ length T
@@ -59,8 +60,9 @@ module _ {o P T P′ T′ : List ℕ} (k : ℕ) (plan : PlanMade o P (accepted (
       → Called o P T (record { planner = accepted (k ∷ []); maker = answered (answerOfMaker w); checker = notReached }) P′ T′
   refused-timetable e = rw e (untimed plan (rw alone at (sym answer ∙ ap answerOfMaker e)) (rw alone at left))
 
-  pub all-called : {s : ℕ} → w ≡ Accepted s
-      → (x : TimetableVerdict) (t : List ℕ) → answerOfCheck x ≡ timetableAnswer o t → t ≡ timetableAlone T′
-      → Called o P T (record { planner = accepted (k ∷ []); maker = answered (accepted (s ∷ [])); checker = answered (answerOfCheck x) }) P′ T′
+  pub all-called : {s : ℕ} → w ≡ Accepted s → (x : TimetableVerdict) (t : List ℕ) → answerOfCheck x ≡ timetableAnswer o t
+      → t ≡ timetableAlone T′
+      → Called o P T (record { planner = accepted (k ∷ []); maker = answered (accepted (s ∷ [])); checker = answered (answerOfCheck x) }) P′
+      T′
   all-called e x t ex et =
       checked plan (rw alone at (sym answer ∙ ap answerOfMaker e)) (rw alone at left) (ex ∙ ap (timetableAnswer o) et)

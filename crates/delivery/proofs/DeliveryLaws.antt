@@ -1,5 +1,6 @@
 -- Demand 3, from what the three calls answer and leave.
 --
+--     planRoom o         how long a plan buffer 23 asks for
 --     plan-within        a plan just written ends within its buffer
 --     length-within      so does the timetable that is found in a buffer
 --     plan-alone         the plan just written, alone
@@ -18,7 +19,7 @@ use lib.ListN.{length, take, drop, length-append}
 use lib.Seq.{take-at}
 use Rattle.answers.specs.Answer.{Answer, accepted, refused}
 use Rattle.answers.proofs.AnswerLaws.{passUp-accepted}
-use Rattle.field.specs.Units.{unitsLength}
+use Rattle.field.specs.Units.{recordLength}
 use Rattle.field.proofs.UnitLaws.{fitting}
 use Rattle.field.specs.Writing.{written}
 use Rattle.field.proofs.WritingLaws.{written-front}
@@ -36,7 +37,11 @@ use Rattle.floor.proofs.FloorLaws.{plannable-is}
 use Rattle.planner.specs.Moves.{Solves}
 use Rattle.planner.specs.Planner.{refusals, PlanMade, turned-down, made}
 use Rattle.planner.proofs.PlannerLaws.{unrefused, packed, plan-accepted}
-use Rattle.delivery.specs.Delivery.{Call, answered, Answers, planLength, planAlone, timetableAlone, planRoom, Called, unplanned, untimed, checked, Front, Timed, Delivered, Delivers}
+use Rattle.delivery.specs.Delivery.{Call, answered, Answers, planLength, planAlone, timetableAlone, Called, unplanned, untimed, checked, Timed, Delivered, Delivers}
+
+-- how long a plan buffer 23 asks for
+abbrev pub planRoom : List ℕ → ℕ
+planRoom o = 12 * (positionCount o * (positionCount o * positionCount o)) + 3
 
 never : {number place : ℕ} {v : List ℕ} → accepted v ≡ refused number place → ⊥
 never e = let z : _≡_ {A = ℕ} 0 1 = cc in omega arith
@@ -51,11 +56,11 @@ none-refuses o P can room =
 -- the plan of moves that solve an order which can be planned
 module _ (o : List ℕ) (can : Plannable o) (ms : List (ℕ × ℕ)) (solves : Solves o (positionCount o) ms) (P : List ℕ) where
   plan-long : length (planRecord ms) ≡ planLength (length ms)
-  unfolding planLength unitsLength wrongPlanLength
+  unfolding planLength recordLength wrongPlanLength
   plan-long =
       let right = packed o can ms solves in
-      fitting (planRecord ms) (moveCount (planRecord ms)) (right .length-right) .length-is
-      ∙ ap (λ (k : ℕ). unitsLength k) (right .count-is)
+      fitting (planRecord ms) (2 * moveCount (planRecord ms)) (right .length-right) .length-is
+      ∙ ap (λ (k : ℕ). recordLength (2 * k)) (right .count-is)
 
   written-within : planLength (length ms) ≤ length (written P 0 (planRecord ms))
   written-within =
@@ -66,12 +71,6 @@ module _ (o : List ℕ) (can : Plannable o) (ms : List (ℕ × ℕ)) (solves : S
   plan-alone =
       ap (take (planLength (length ms))) (written-front P (planRecord ms))
       ∙ take-at (planRecord ms) (drop (length (planRecord ms)) P) (planLength (length ms)) plan-long
-
-  plan-stands : planRoom o ≤ length P → Front (planRecord ms) P (written P 0 (planRecord ms))
-  unfolding planLength unitsLength
-  plan-stands room =
-      let most = solves .few in
-      record { fits = omega (arith, plan-long); is = written-front P (planRecord ms) }
 
 pub plan-within : {o P P′ : List ℕ} {k : ℕ} → PlanMade o P (accepted (k ∷ [])) P′ → planLength k ≤ length P′
 plan-within {o} {P} (made ms right solves) = written-within o (unrefused o (length P) right) ms solves P
@@ -118,7 +117,7 @@ module _ (o p : List ℕ) (k : ℕ) (right : planAnswer o p ≡ accepted (k ∷ 
           steps = m;
           made = refl;
           short = omega (arith, short, count);
-          stands = record { fits = omega (arith, short, count); is = e ∙ left .0 };
+          stands = e ∙ left .0 ∙ sym (written-front T (timetableRecord (madeOf o p)));
           accepts = ap answered (ec ∙ judged-as ∙ ap (λ (x : ℕ). accepted (x ∷ k ∷ [])) same);
         }
 
@@ -139,7 +138,7 @@ module _ (o P : List ℕ) (can : Plannable o) (room : planRoom o ≤ length P)
     planned = refl;
     few = solves .few;
     long = plan-long o can ms solves P;
-    stands = plan-stands o can ms solves P room;
+    stands = refl;
     replayed = rw (packed o can ms solves .moves-are) (solves .replayed);
     accepts = right;
     then = then;

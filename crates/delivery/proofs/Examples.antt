@@ -14,20 +14,17 @@ use native.Mathlib.Omega.{arith}
 use lib.ListN.{length}
 use lib.Dec.{lit≤}
 use Rattle.answers.specs.Answer.{accepted}
-use Rattle.field.specs.Bits.{bits, number, bitsOf, field, pairs, positions}
+use Rattle.field.specs.Bits.{bits, number, bitsOf, field}
 use Rattle.field.specs.Writing.{written}
-use Rattle.order.specs.Floor.{isPair, among, joined}
-use Rattle.order.specs.Order.{positionCount, edgeCount, rackCount, floorOf, startsOf, goalsOf}
-use Rattle.motion.specs.Arrangement.{occupied, vacant}
-use Rattle.motion.specs.Move.{onFloor, legalMove, goesTo, after, afterMove}
-use Rattle.motion.specs.Replay.{replayFrom, replayMoves}
+use Rattle.order.specs.Order.{positionCount}
 use Rattle.plan.specs.Plan.{planRecord}
-use Rattle.scheduling.specs.Making.{rackFrom, rackAt, ofRack, ofLeaving, stepFor, timed, greatest}
+use Rattle.plan.proofs.Examples.{plan-open}
+use Rattle.scheduling.proofs.MakerCases.{maker-open}
 use Rattle.scheduling.specs.Maker.{bufferAfter}
 use Rattle.floor.proofs.ExamplesLaws.{twoRacks, plannable-met}
 use Rattle.planner.specs.Moves.{Solves}
-use Rattle.delivery.specs.Delivery.{answered, Answers, Called, Delivered, planRoom}
-use Rattle.delivery.proofs.DeliveryLaws.{delivered, callable}
+use Rattle.delivery.specs.Delivery.{answered, Answers, Called, Delivered}
+use Rattle.delivery.proofs.DeliveryLaws.{planRoom, delivered, callable}
 
 abbrev pub order₁ : List ℕ
 order₁ = twoRacks
@@ -44,7 +41,7 @@ pub delivered₁ : (P T : List ℕ) {a : Answers} {P′ T′ : List ℕ} → 771
 delivered₁ P T h c = delivered order₁ P T c plannable-met (room₁ P h)
 
 pub solves₁ : Solves order₁ (positionCount order₁) moves₁
-unfolding positionCount edgeCount rackCount floorOf startsOf goalsOf field number bitsOf bits pairs positions replayMoves replayFrom legalMove onFloor joined among isPair occupied vacant goesTo after afterMove
+unfolding plan-open
 solves₁ = record {
   few = lit≤ tt;
   replayed = refl;
@@ -52,7 +49,8 @@ solves₁ = record {
 }
 
 pub called₁ : (P T : List ℕ) → 771 ≤ length P → 15 ≤ length T
-    → Called order₁ P T (record { planner = accepted (4 ∷ []); maker = answered (accepted (2 ∷ [])); checker = answered (accepted (2 ∷ 4 ∷ [])) })
+    → Called order₁ P T
+    (record { planner = accepted (4 ∷ []); maker = answered (accepted (2 ∷ [])); checker = answered (accepted (2 ∷ 4 ∷ [])) })
     (written P 0 (planRecord moves₁)) (bufferAfter order₁ (planRecord moves₁) T)
-unfolding startsOf edgeCount rackCount field number bitsOf bits positions timed stepFor ofRack ofLeaving rackAt rackFrom greatest goesTo after afterMove
+unfolding maker-open
 called₁ P T h g = callable order₁ P plannable-met (room₁ P h) moves₁ solves₁ T g 2 refl

@@ -8,19 +8,18 @@
 --     planAlone k P             the plan of k moves at the front of the buffer P, alone
 --     timetableAlone T          the timetable at the front of the buffer T, alone
 --     Called o P T a P′ T′      on the order o and the buffers P and T the three calls may answer a and leave P′ and T′ behind
---     Front r B B′              the record r stands at the front of the buffer B′, and behind it what stood there in B
 --     Timed o p k T m c T′      of the plan p of k moves the making rule's timetable is made, and accepted with the maker's steps and k moves
 --     Delivered o P T a P′ T′   the plan just written is accepted, and so is the timetable made of it
---     planRoom o                how long a plan buffer 23 asks for
 --     Delivers o P T a P′ T′    demand 3: every order that can be planned is delivered, given such a buffer
 --     callOfMaker, callOfCheck, answersOf    what the code answers, as these
 -- Assumes nothing.
 use Prim.Native.Nat.{ℕ, _+_, _*_, _≤_}
 use mathlib.Core.Path.{_≡_}
-use mathlib.Core.List.{List, [], _∷_, _++_}
-use lib.ListN.{length, take, drop}
+use mathlib.Core.List.{List, [], _∷_}
+use lib.ListN.{length, take}
 use Rattle.answers.specs.Answer.{Answer, accepted, refused}
-use Rattle.field.specs.Units.{unitsLength}
+use Rattle.field.specs.Units.{recordLength}
+use Rattle.field.specs.Writing.{written}
 use Rattle.order.specs.Order.{positionCount, floorOf, startsOf, goalsOf}
 use Rattle.motion.specs.Replay.{ended, replayMoves}
 use Rattle.plan.specs.Plan.{planMoves, planAnswer}
@@ -47,7 +46,7 @@ pub record Answers : Type 0 where
 
 -- "Plan: move count k in 22 bits, two spare zero bits, k moves, pad."
 unfoldable pub planLength : ℕ → ℕ
-planLength k = unitsLength k
+planLength k = recordLength (2 * k)
 
 unfoldable pub planAlone : ℕ → List ℕ → List ℕ
 planAlone k P = take (planLength k) P
@@ -74,11 +73,6 @@ pub data Called (o P T : List ℕ) : Answers → List ℕ → List ℕ → Type 
       → c ≡ timetableAnswer o (timetableAlone T′)
       → Called o P T (record { planner = accepted (k ∷ []); maker = answered (accepted (s ∷ [])); checker = answered c }) P′ T′
 
--- "Every record that the product writes begins at the first byte of the lent buffer, and the bytes after the record are unchanged."
-pub record Front (r B B′ : List ℕ) : Type 0 where
-  pub fits : length r ≤ length B
-  pub is : B′ ≡ r ++ drop (length r) B
-
 -- "From that plan, given a timetable buffer of at least 3 bytes more than three for each move, whatever it held before, the timetable maker
 -- writes the timetable that document 01's making rule gives, and the timetable checker accepts it, with exactly the maker's count of steps
 -- and the planner's count of moves."
@@ -86,7 +80,7 @@ pub record Timed (o p : List ℕ) (k : ℕ) (T : List ℕ) (m c : Call) (T′ : 
   pub steps : ℕ
   pub made : m ≡ answered (accepted (steps ∷ []))
   pub short : length (timetableRecord (madeOf o p)) ≤ 3 * k + 3
-  pub stands : Front (timetableRecord (madeOf o p)) T T′
+  pub stands : T′ ≡ written T 0 (timetableRecord (madeOf o p))
   pub accepts : c ≡ answered (accepted (steps ∷ k ∷ []))
 
 -- "the planner writes a plan of at most 8 × n × n × n one-rack moves: replayed from the starts, every move is legal at its turn, and after
@@ -97,18 +91,16 @@ pub record Delivered (o P T : List ℕ) (a : Answers) (P′ T′ : List ℕ) : T
   pub planned : a .planner ≡ accepted (moves ∷ [])
   pub few : moves ≤ 8 * (positionCount o * (positionCount o * positionCount o))
   pub long : length plan ≡ planLength moves
-  pub stands : Front plan P P′
+  pub stands : P′ ≡ written P 0 plan
   pub replayed : replayMoves (floorOf o) (startsOf o) (planMoves plan) ≡ ended (goalsOf o)
   pub accepts : planAnswer o plan ≡ accepted (moves ∷ [])
   pub then : 3 * moves + 3 ≤ length T → Timed o plan moves T (a .maker) (a .checker) T′
 
-abbrev pub planRoom : List ℕ → ℕ
-planRoom o = 12 * (positionCount o * (positionCount o * positionCount o)) + 3
-
 -- "For every well-formed order on a bi-connected floor of n positions, n from 4 to 64, that is not a single ring and has at least two
 -- vacant positions, given a plan buffer of at least 12 × n × n × n + 3 bytes, whatever it held before"
 abbrev pub Delivers : List ℕ → List ℕ → List ℕ → Answers → List ℕ → List ℕ → Type 0
-Delivers o P T a P′ T′ = Plannable o → planRoom o ≤ length P → Delivered o P T a P′ T′
+Delivers o P T a P′ T′ =
+    let n = positionCount o in Plannable o → 12 * (n * (n * n)) + 3 ≤ length P → Delivered o P T a P′ T′
 
 abbrev pub callOfMaker : MakerCall → Call
 callOfMaker NotReached = notReached

@@ -28,8 +28,10 @@ pub struct Delivery {
 // Makes the three calls in turn, as far as none refuses, with a buffer lent for the plan and one for the timetable. Each record is handed
 // on alone, from its buffer's first byte to the record's last.
 pub fn deliver(order: &[u8], plan: &mut [u8], timetable: &mut [u8]) -> Delivery
-    ensures called { λ r. ⌜ Called (now (order .entry)) (now (plan .entry)) (now (timetable .entry)) (answersOf r) (now (plan .exit)) (now (timetable .exit)) ⌝ }
-    ensures delivered { λ r. ⌜ Delivers (now (order .entry)) (now (plan .entry)) (now (timetable .entry)) (answersOf r) (now (plan .exit)) (now (timetable .exit)) ⌝ }
+    ensures called { λ r. ⌜ Called (now (order .entry)) (now (plan .entry)) (now (timetable .entry)) (answersOf r) (now (plan .exit))
+        (now (timetable .exit)) ⌝ }
+    ensures delivered { λ r. ⌜ Delivers (now (order .entry)) (now (plan .entry)) (now (timetable .entry)) (answersOf r)
+        (now (plan .exit)) (now (timetable .exit)) ⌝ }
 {
     let planned = planner::make(order, plan);
     let PlannerVerdict::Planned(moves) = planned else {
@@ -39,7 +41,7 @@ pub fn deliver(order: &[u8], plan: &mut [u8], timetable: &mut [u8]) -> Delivery
             check: CheckCall::NotReached,
         };
     };
-    let plan_end = 3 + (12 * moves + 7) / 8;
+    let plan_end = 3 + (6 * (2 * moves) + 7) / 8;
     let made = scheduling::make(order, &plan[..plan_end], timetable);
     let MakerVerdict::Accepted(steps) = made else {
         return Delivery {

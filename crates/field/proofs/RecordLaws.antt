@@ -17,16 +17,19 @@
 --     join                                  two runs of bits that follow each other
 --     padded-by                             the pad, by its length
 --     up-to-byte                            bits and their pad are whole bytes
+--     pair-positions                        a pair is two positions, one after the other
 --     rest-is                               the part of a byte string from byte k on
 -- Assumes nothing.
 use Prim.Native.Nat.{ℕ, zero, suc, _+_, _-_, _*_, _/_, _%_, _^_, _≤_, _<_}
 use mathlib.Core.Path.{_≡_, refl, sym, ap, ap₂, _∙_, subst}
 use mathlib.Core.List.{List, [], _∷_, _++_, append-assoc}
+use mathlib.Core.Logic.{_↔_}
 use native.Mathlib.Omega.{arith}
 use native.Mathlib.Nat.{mod-eq-of-lt, add-assoc, lt-of-lt-of-le, min-le-left, le-refl, zero-div}
 use lib.Pow.{pow-mono}
 use lib.ListN.{length, take, drop, replicate, length-append, length-take, length-drop, length-replicate, take-append-drop}
 use lib.Seq.{take-add, drop-drop, length-take-le, take-all, take-at, drop-at}
+use Rattle.field.specs.Bits.{PositionAt, PairAt}
 use Rattle.field.specs.Bits.{bits, number, bitsOf, field, positions, pairs, positionBits, pairBits, pad, padded, bytes, toBytes}
 use Rattle.field.specs.Bytes.{Below, none, more, Bytes, BelowPairs, more₂, none₂}
 use Rattle.field.proofs.BitLaws.{Bits, below-append, below-take, below-drop, length-bits, bits-are, number-bits, number-lt, bits-number, length-bitsOf, field-drop, field-lt, bits-field, field-at}
@@ -233,3 +236,14 @@ join s i w p q = ap₂ (λ (x y : List ℕ). x ++ y) p q ∙ sym (take-add i w (
 pub padded-by : (l : List ℕ) (k : ℕ) → pad (length l) ≡ k → padded l ≡ l ++ replicate k 0
 unfolding padded
 padded-by l k e = rw e refl
+
+-- a pair is two positions, one after the other
+pub pair-positions : (s : List ℕ) (j a b : ℕ)
+    → PairAt s (12 * j) a b ↔ (PositionAt s (6 * (2 * j)) a × PositionAt s (6 * (2 * j + 1)) b)
+pair-positions s j a b =
+    let first : 6 * (2 * j) ≡ 12 * j = omega arith in
+    let second : 6 * (2 * j + 1) ≡ 12 * j + 6 = omega arith in
+    rw (first, second) (
+      λ p. (record { is = p .first-is; below = p .first-below }, record { is = p .second-is; below = p .second-below }),
+      λ q. record { first-is = q .0 .is; second-is = q .1 .is; first-below = q .0 .below; second-below = q .1 .below },
+    )

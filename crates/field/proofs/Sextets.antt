@@ -2,16 +2,17 @@
 --
 --     sextet-0, -6, -4, -2    the position that begins at that bit of a byte
 --     head-count, head-spare  the count and the spare bits of a head of three bytes
---     pad-even, pad-odd       the pad after an even and an odd number of pairs
+--     pad-none, pad-2, -4, -6  the pad of no bits, or of two, four or six, behind q positions
 -- Assumes nothing.
 use Prim.Native.Nat.{ℕ, _+_, _-_, _*_, _/_, _%_, _^_, _≤_, _<_}
 use mathlib.Core.Path.{_≡_, refl, sym, ap, ap₂, _∙_}
 use mathlib.Core.List.{List}
 use native.Mathlib.Omega.{arith}
-use native.Mathlib.Nat.{mul-add-mod-self-left}
+use native.Mathlib.Nat.{div-one}
 use lib.ListN.{length, getD}
 use Rattle.field.specs.Bits.{field, number, pad}
 use Rattle.field.proofs.BitLaws.{field-in-byte, field-across, field-split}
+use Rattle.field.proofs.WholeBytes.{pad-after-whole}
 
 module _ (s : List ℕ) (i k : ℕ) where
   pub sextet-0 : i ≡ 8 * k → k < length s → getD s k 0 < 256 → field s i 6 ≡ getD s k 0 / 4
@@ -43,18 +44,31 @@ module _ (s : List ℕ) (h : 3 ≤ length s) where
   pub head-spare : field s 22 2 ≡ getD s 2 0 % 4
   head-spare = field-in-byte s 2 6 2 0 (omega arith) refl ∙ omega arith
 
-pub pad-even : (s : List ℕ) (k : ℕ) → k % 2 ≡ 0 → field s (12 * k) (pad (12 * k)) ≡ 0
-unfolding field number pad
-pad-even s k e =
-    let at : 12 * k ≡ 8 * (3 * (k / 2)) + 0 = omega arith in
-    let over : 12 * k % 8 ≡ 0 = ap (λ (i : ℕ). i % 8) at ∙ mul-add-mod-self-left 8 (3 * (k / 2)) 0 in
-    let none : (8 - 12 * k % 8) % 8 ≡ 0 = ap (λ (i : ℕ). (8 - i) % 8) over in
-    rw none refl
+-- the pad where the last position ends inside byte k, behind the first r bits of it
+pub pad-in-byte : (s : List ℕ) (q k r w : ℕ) → 6 * q ≡ 8 * k + r → pad r ≡ w → r + w ≡ 8 → k < length s
+    → field s (6 * q) (pad (6 * q)) ≡ getD s k 0 % 2 ^ w
+pad-in-byte s q k r w at left e h =
+    let same : pad (6 * q) ≡ w = ap pad at ∙ pad-after-whole k r ∙ left in
+    ap₂ (field s) at same ∙ field-in-byte s k r w 0 h (omega arith) ∙ ap (λ (x : ℕ). x % 2 ^ w) (div-one (getD s k 0))
 
-pub pad-odd : (s : List ℕ) (k : ℕ) → (k % 2 ≡ 0 → ⊥) → k / 2 * 3 + 1 < length s → field s (12 * k) (pad (12 * k)) ≡ getD s (k / 2 * 3 + 1) 0 % 16
-unfolding pad
-pad-odd s k e h =
-    let at : 12 * k ≡ 8 * (k / 2 * 3 + 1) + 4 = omega arith in
-    let over : 12 * k % 8 ≡ 4 = ap (λ (i : ℕ). i % 8) at ∙ mul-add-mod-self-left 8 (k / 2 * 3 + 1) 4 in
-    let four : (8 - 12 * k % 8) % 8 ≡ 4 = ap (λ (i : ℕ). (8 - i) % 8) over in
-    rw four (ap (λ (i : ℕ). field s i 4) at ∙ field-in-byte s (k / 2 * 3 + 1) 4 4 0 h refl ∙ omega arith)
+-- the pad where the last position ends with a byte
+pub pad-none : (s : List ℕ) (q : ℕ) → q % 4 ≡ 0 → field s (6 * q) (pad (6 * q)) ≡ 0
+unfolding field number pad
+pad-none s q e =
+    let at : 6 * q ≡ 8 * (q / 4 * 3) + 0 = omega arith in
+    let none : pad (6 * q) ≡ 0 = ap pad at ∙ pad-after-whole (q / 4 * 3) 0 in
+    ap (field s (6 * q)) none
+
+-- the pad behind the first, the second and the third of four positions
+module _ (s : List ℕ) (q at : ℕ) (begin : at ≡ q / 4 * 3) where
+  pub pad-2 : q % 4 ≡ 1 → at < length s → field s (6 * q) (pad (6 * q)) ≡ getD s at 0 % 4
+  unfolding pad
+  pad-2 e h = pad-in-byte s q at 6 2 (omega arith) refl refl h
+
+  pub pad-4 : (k : ℕ) → k ≡ at + 1 → q % 4 ≡ 2 → k < length s → field s (6 * q) (pad (6 * q)) ≡ getD s k 0 % 16
+  unfolding pad
+  pad-4 k n e h = pad-in-byte s q k 4 4 (omega arith) refl refl h
+
+  pub pad-6 : (k : ℕ) → k ≡ at + 2 → q % 4 ≡ 3 → k < length s → field s (6 * q) (pad (6 * q)) ≡ getD s k 0 % 64
+  unfolding pad
+  pad-6 k n e h = pad-in-byte s q k 2 6 (omega arith) refl refl h

@@ -1,12 +1,12 @@
--- Laws of records of units: each test from the facts, and the facts from each test.
+-- Laws of records of positions: each test from the facts, and the facts from each test.
 --
 --     or-left, or-right                       both tests of a disjunction fail where it fails
 --     misfits-short, misfits-not, fits        the length
---     Fitting s u, fitting                    what the length's test leaves
+--     Fitting s q, fitting                    what the length's test leaves
 --     unclean-spare, unclean-pad, clean       the spare and pad bits
---     Clean s u, cleanly                      what that test leaves
+--     Clean s q, cleanly                      what that test leaves
 --     pad-of-tail                             the pad, read from the tail, the part from the fourth byte on
---     tail-units, tail-room                   the units have room in the tail; they and their pad take all of it
+--     tail-units, tail-room                   the positions have room in the tail; they and their pad take all of it
 --     pad-after-head                          a head of three bytes changes nothing of the pad
 -- Assumes nothing.
 use Prim.Native.Nat.{ℕ, _+_, _-_, _*_, _/_, _%_, _≤_, _<_}
@@ -21,7 +21,7 @@ use lib.Dec.{ltb, eqb}
 use Rattle.field.specs.Bits.{field, pad}
 use Rattle.field.proofs.BitLaws.{field-drop}
 use Rattle.field.proofs.RecordLaws.{up-to-byte, rest-is}
-use Rattle.field.specs.Units.{unitsLength, misfits, unclean}
+use Rattle.field.specs.Units.{recordLength, misfits, unclean}
 
 -- both tests of a disjunction fail where it fails
 pub or-left : (a b : Bool) → (a || b) ≡ false → a ≡ false
@@ -32,68 +32,68 @@ pub or-right : (a b : Bool) → (a || b) ≡ false → b ≡ false
 or-right true b e = absurd (let z : _≡_ {A = ℕ} 0 1 = cc in omega arith)
 or-right false b e = e
 
-pub record Fitting (s : List ℕ) (u : ℕ) : Type 0 where
+pub record Fitting (s : List ℕ) (q : ℕ) : Type 0 where
   pub head-there : 3 ≤ length s
-  pub length-is : length s ≡ 3 + (12 * u + 7) / 8
+  pub length-is : length s ≡ 3 + (6 * q + 7) / 8
 
-module _ (s : List ℕ) (u : ℕ) where
-  pub misfits-short : length s < 3 → misfits s u ≡ true
+module _ (s : List ℕ) (q : ℕ) where
+  pub misfits-short : length s < 3 → misfits s q ≡ true
   unfolding misfits
   misfits-short h = simp (lt-ltb (length s) 3 h)
 
-  pub misfits-not : (length s ≡ 3 + (12 * u + 7) / 8 → ⊥) → misfits s u ≡ true
-  unfolding misfits unitsLength
-  misfits-not d = simp (ne-eqb (length s) (3 + (12 * u + 7) / 8) d, or-true)
+  pub misfits-not : (length s ≡ 3 + (6 * q + 7) / 8 → ⊥) → misfits s q ≡ true
+  unfolding misfits recordLength
+  misfits-not d = simp (ne-eqb (length s) (3 + (6 * q + 7) / 8) d, or-true)
 
-  pub fits : 3 ≤ length s → length s ≡ 3 + (12 * u + 7) / 8 → misfits s u ≡ false
-  unfolding misfits unitsLength
-  fits h e = simp (le-ltb (length s) 3 h, eq-eqb (length s) (3 + (12 * u + 7) / 8) e)
+  pub fits : 3 ≤ length s → length s ≡ 3 + (6 * q + 7) / 8 → misfits s q ≡ false
+  unfolding misfits recordLength
+  fits h e = simp (le-ltb (length s) 3 h, eq-eqb (length s) (3 + (6 * q + 7) / 8) e)
 
-  pub fitting : misfits s u ≡ false → Fitting s u
-  unfolding misfits unitsLength
+  pub fitting : misfits s q ≡ false → Fitting s q
+  unfolding misfits recordLength
   fitting e =
       let long = ltb (length s) 3 in
-      let right = eqb (length s) (3 + (12 * u + 7) / 8) in
+      let right = eqb (length s) (3 + (6 * q + 7) / 8) in
       record {
         head-there = ltb-false (length s) 3 (or-left long (not right) e);
-        length-is = eqb-true (length s) (3 + (12 * u + 7) / 8) (not-false right (or-right long (not right) e));
+        length-is = eqb-true (length s) (3 + (6 * q + 7) / 8) (not-false right (or-right long (not right) e));
       }
 
-  pub unclean-spare : (field s 22 2 ≡ 0 → ⊥) → unclean s u ≡ true
+  pub unclean-spare : (field s 22 2 ≡ 0 → ⊥) → unclean s q ≡ true
   unfolding unclean
   unclean-spare d = simp (ne-eqb (field s 22 2) 0 d)
 
-  pub unclean-pad : (field s (24 + 12 * u) (pad (12 * u)) ≡ 0 → ⊥) → unclean s u ≡ true
+  pub unclean-pad : (field s (24 + 6 * q) (pad (6 * q)) ≡ 0 → ⊥) → unclean s q ≡ true
   unfolding unclean
-  unclean-pad d = simp (ne-eqb (field s (24 + 12 * u) (pad (12 * u))) 0 d, or-true)
+  unclean-pad d = simp (ne-eqb (field s (24 + 6 * q) (pad (6 * q))) 0 d, or-true)
 
-  pub clean : field s 22 2 ≡ 0 → field s (24 + 12 * u) (pad (12 * u)) ≡ 0 → unclean s u ≡ false
+  pub clean : field s 22 2 ≡ 0 → field s (24 + 6 * q) (pad (6 * q)) ≡ 0 → unclean s q ≡ false
   unfolding unclean
-  clean a b = simp (eq-eqb (field s 22 2) 0 a, eq-eqb (field s (24 + 12 * u) (pad (12 * u))) 0 b)
+  clean a b = simp (eq-eqb (field s 22 2) 0 a, eq-eqb (field s (24 + 6 * q) (pad (6 * q))) 0 b)
 
   -- the pad, read from the tail
-  pub pad-of-tail : field (take (length s - 3) (drop 3 s)) (12 * u) (pad (12 * u)) ≡ field s (24 + 12 * u) (pad (12 * u))
-  pad-of-tail = rw (rest-is 3 s) (sym (field-drop s 3 (12 * u) (pad (12 * u))))
+  pub pad-of-tail : field (take (length s - 3) (drop 3 s)) (6 * q) (pad (6 * q)) ≡ field s (24 + 6 * q) (pad (6 * q))
+  pad-of-tail = rw (rest-is 3 s) (sym (field-drop s 3 (6 * q) (pad (6 * q))))
 
-  module _ (f : Fitting s u) where
-    pub tail-room : 12 * u + pad (12 * u) ≤ 8 * length (take (length s - 3) (drop 3 s))
-    tail-room = rw (rest-is 3 s, length-drop 3 s, up-to-byte (12 * u)) (omega arith)
+  module _ (f : Fitting s q) where
+    pub tail-room : 6 * q + pad (6 * q) ≤ 8 * length (take (length s - 3) (drop 3 s))
+    tail-room = rw (rest-is 3 s, length-drop 3 s, up-to-byte (6 * q)) (omega arith)
 
-    pub tail-units : 12 * u ≤ 8 * length (take (length s - 3) (drop 3 s))
+    pub tail-units : 6 * q ≤ 8 * length (take (length s - 3) (drop 3 s))
     tail-units = omega (arith, tail-room)
 
-pub record Clean (s : List ℕ) (u : ℕ) : Type 0 where
+pub record Clean (s : List ℕ) (q : ℕ) : Type 0 where
   pub spare-clear : field s 22 2 ≡ 0
-  pub pad-clear : field s (24 + 12 * u) (pad (12 * u)) ≡ 0
+  pub pad-clear : field s (24 + 6 * q) (pad (6 * q)) ≡ 0
 
-pub cleanly : (s : List ℕ) (u : ℕ) → unclean s u ≡ false → Clean s u
+pub cleanly : (s : List ℕ) (q : ℕ) → unclean s q ≡ false → Clean s q
 unfolding unclean
-cleanly s u e =
+cleanly s q e =
     let spare = eqb (field s 22 2) 0 in
-    let padding = eqb (field s (24 + 12 * u) (pad (12 * u))) 0 in
+    let padding = eqb (field s (24 + 6 * q) (pad (6 * q))) 0 in
     record {
       spare-clear = eqb-true (field s 22 2) 0 (not-false spare (or-left (not spare) (not padding) e));
-      pad-clear = eqb-true (field s (24 + 12 * u) (pad (12 * u))) 0 (not-false padding (or-right (not spare) (not padding) e));
+      pad-clear = eqb-true (field s (24 + 6 * q) (pad (6 * q))) 0 (not-false padding (or-right (not spare) (not padding) e));
     }
 
 -- a head of three bytes changes nothing of the pad

@@ -5,7 +5,7 @@ ghost use mathlib.Core.Bool.{not, false};
 ghost use Prim.Native.Nat.{_+_, _*_, _/_, _%_, _^_, _≤_, _<_};
 ghost use lib.ListN.{length};
 ghost use Rattle.field.specs.Bits.{field, pad, PositionAt, PairAt};
-ghost use Rattle.field.specs.Packing.{putPair};
+ghost use Rattle.field.specs.Packing.{putPosition, putPair};
 ghost use Rattle.field.specs.Units.{misfits, unclean};
 ghost use Rattle.field.specs.Writing.{written};
 ghost use Rattle.field.specs.Head.{headBytes};
@@ -94,43 +94,80 @@ pub fn spare_at_head(s: &[u8]) -> usize
     wide(s[2]) % 4
 }
 
-// The pad after k pairs, as a number: 0 where no pad bit is set. An odd number of pairs ends in the middle of a byte.
-pub fn pad_after(s: &[u8], k: usize) -> usize
-    requires { ⌜ 12 * k + pad (12 * k) ≤ 8 * length (now s) ⌝ }
-    ensures { λ r. ⌜ r ≡ field (now (s .entry)) (12 * k) (pad (12 * k)) ⌝ }
+// The pad after q positions, as a number: 0 where no pad bit is set. Four positions end with a byte; one, two or three of them leave
+// 2, 4 or 6 bits of the last byte that they begin.
+pub fn pad_after(s: &[u8], q: usize) -> usize
+    requires { ⌜ 6 * q + pad (6 * q) ≤ 8 * length (now s) ⌝ }
+    ensures { λ r. ⌜ r ≡ field (now (s .entry)) (6 * q) (pad (6 * q)) ⌝ }
 {
-    if k % 2 == 0 {
+    let end = q / 4 * 3;
+    let place = q % 4;
+    if place == 0 {
         return 0;
     }
-    wide(s[k / 2 * 3 + 1]) % 16
+    if place == 1 {
+        return wide(s[end]) % 4;
+    }
+    if place == 2 {
+        return wide(s[end + 1]) % 16;
+    }
+    wide(s[end + 2]) % 64
 }
 
-// Whether a byte string is as long as a record of u units.
-pub fn units_fit(s: &[u8], u: usize) -> bool
-    requires { ⌜ u < 2 ^ 32 ⌝ }
-    ensures { λ r. ⌜ r ≡ not (misfits (now (s .entry)) u) ⌝ }
+// Whether a byte string is as long as a record of q positions.
+pub fn units_fit(s: &[u8], q: usize) -> bool
+    requires { ⌜ q < 2 ^ 32 ⌝ }
+    ensures { λ r. ⌜ r ≡ not (misfits (now (s .entry)) q) ⌝ }
 {
     if s.len() < 3 {
         return false;
     }
-    if s.len() != 3 + (12 * u + 7) / 8 {
+    if s.len() != 3 + (6 * q + 7) / 8 {
         return false;
     }
     true
 }
 
-// Whether no spare or pad bit of a record of u units is set.
-pub fn units_clean(s: &[u8], u: usize) -> bool
-    requires { ⌜ misfits (now s) u ≡ false ⌝ }
-    ensures { λ r. ⌜ r ≡ not (unclean (now (s .entry)) u) ⌝ }
+// Whether no spare or pad bit of a record of q positions is set.
+pub fn units_clean(s: &[u8], q: usize) -> bool
+    requires { ⌜ misfits (now s) q ≡ false ⌝ }
+    ensures { λ r. ⌜ r ≡ not (unclean (now (s .entry)) q) ⌝ }
 {
     if spare_at_head(s) != 0 {
         return false;
     }
-    if pad_after(&s[3..], u) != 0 {
+    if pad_after(&s[3..], q) != 0 {
         return false;
     }
     true
+}
+
+// Writes the position p after the first q positions of a byte string, and the pad behind it.
+pub fn put_position(s: &mut [u8], q: usize, p: usize)
+    requires { ⌜ p < 64 ⌝ }
+    requires { ⌜ (6 * (q + 1) + 7) / 8 ≤ length (now s) ⌝ }
+    ensures { λ _. ⌜ now (s .exit) ≡ putPosition (now (s .entry)) q p ⌝ }
+{
+    let at = q / 4 * 3;
+    let place = q % 4;
+    if place == 0 {
+        s[at] = (p * 4) as u8;
+        return;
+    }
+    if place == 1 {
+        let begun = wide(s[at]);
+        s[at] = (begun / 4 * 4 + p / 16) as u8;
+        s[at + 1] = (p % 16 * 16) as u8;
+        return;
+    }
+    if place == 2 {
+        let begun = wide(s[at + 1]);
+        s[at + 1] = (begun / 16 * 16 + p / 4) as u8;
+        s[at + 2] = (p % 4 * 64) as u8;
+        return;
+    }
+    let begun = wide(s[at + 2]);
+    s[at + 2] = (begun / 64 * 64 + p) as u8;
 }
 
 // Writes the pair a, b after the first j pairs of a byte string, and the pad behind it.

@@ -28,8 +28,7 @@ use Rattle.graph.specs.Connected.{Ring}
 use Rattle.graph.specs.Rows.{Edge}
 use Rattle.graph.specs.EdgeCount.{rowSum, edgeCount}
 use Rattle.floor.specs.FloorAnswer.{Joins}
-use Rattle.floor.specs.JoinedRows.{joining, joinedRows}
-use Rattle.floor.proofs.JoinedRowsLaws.{rowsOf}
+use Rattle.order.specs.Tables.{joining, joinedRows, rowsOf}
 use Rattle.floor.proofs.FloorRows.{joining-edge, biConnected-rows}
 
 pub record Raised (g h : List ℕ) (q p : ℕ) : Type 0 where

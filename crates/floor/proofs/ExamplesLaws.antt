@@ -11,14 +11,14 @@ use mathlib.Core.Path.{_≡_, refl}
 use mathlib.Core.List.{List, [], _∷_}
 use Rattle.answers.specs.Answer.{accepted, refused}
 use Rattle.field.specs.Bits.{bitsOf, bits, number, field, pairs, positions, pad}
-use Rattle.field.specs.Units.{unitsLength, misfits, unclean}
+use Rattle.field.specs.Units.{recordLength, misfits, unclean}
 use Rattle.order.specs.Floor.{isPair, among, joined}
 use Rattle.order.specs.Order.{positionCount, edgeCount, rackCount, unitCount, floorOf, startsOf, goalsOf, orderOf, wrongLength, wrongPositions, paddingSet, some, badEdge, precedes, ascending, wrongEdges, repeats, wrongPlaces, wrongRacks, counts, orderAnswer}
 use Rattle.graph.specs.Connected.{BiConnected, Ring}
 use Rattle.graph.specs.Rows.{Edge}
 use Rattle.graph.specs.EdgeCount.{edgeCount as edgesIn}
 use Rattle.floor.specs.FloorAnswer.{biConnected?, ring?, floorAnswer}
-use Rattle.floor.proofs.JoinedRowsLaws.{rowsOf}
+use Rattle.order.specs.Tables.{rowsOf}
 use Rattle.floor.specs.Plannable.{Plannable}
 use Rattle.floor.proofs.FloorLaws.{plannable, plannable-rows}
 use Rattle.floor.specs.CaseBookOrders.{threeInRing, threeRacks, pathOfFour}
@@ -42,7 +42,7 @@ pub floors-judged :
     × (floorAnswer pathOfFour ≡ refused 21 0)
     × (floorAnswer pathOfThree ≡ refused 20 0)
     × (floorAnswer turnedEdge ≡ refused 13 0)
-unfolding floorAnswer biConnected? ring? joined among isPair orderAnswer wrongLength misfits unitsLength unitCount wrongPositions paddingSet unclean pad wrongEdges some badEdge precedes ascending wrongRacks wrongPlaces repeats orderOf floorOf startsOf goalsOf counts positionCount edgeCount rackCount field number bitsOf bits pairs positions
+unfolding floorAnswer biConnected? ring? joined among isPair orderAnswer wrongLength misfits recordLength unitCount wrongPositions paddingSet unclean pad wrongEdges some badEdge precedes ascending wrongRacks wrongPlaces repeats orderOf floorOf startsOf goalsOf counts positionCount edgeCount rackCount field number bitsOf bits pairs positions
 floors-judged = (refl, refl, refl, refl, refl, refl)
 
 pub plannable-met : Plannable twoRacks

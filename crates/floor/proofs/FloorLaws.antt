@@ -29,7 +29,7 @@ use Rattle.graph.specs.Rows.{Edge}
 use Rattle.graph.specs.EdgeCount.{rowSum, edgeCount}
 use Rattle.graph.proofs.EdgeCountLaws.{biConnected-edges}
 use Rattle.floor.specs.FloorAnswer.{biConnected?, ring?, holds, floorAnswer}
-use Rattle.floor.proofs.JoinedRowsLaws.{rowsOf}
+use Rattle.order.specs.Tables.{rowsOf}
 use Rattle.floor.proofs.FloorRows.{floor-rows, biConnected-rows}
 use Rattle.floor.proofs.EdgesCounted.{edges-counted, ring-rows}
 use Rattle.floor.specs.Plannable.{Plannable}

@@ -8,9 +8,9 @@
 --     biConnected-rows                   bi-connected by the rows is bi-connected
 --     joined-other                       an edge joins two different positions
 --     floor-rows                         the rows of a floor that 13 passes are what crates/graph asks for
---     filled-is, filled-rows             what the edges of an accepted order's tail fill are those rows
+--     filled-is, filled-rows             what an accepted order is decoded to are those rows
 -- Assumes nothing.
-use Prim.Native.Nat.{ℕ, _-_, _^_, _≤_, _<_}
+use Prim.Native.Nat.{ℕ, _^_, _≤_, _<_}
 use mathlib.Core.Path.{_≡_, sym, ap, subst, _∙_}
 use mathlib.Core.Bool.{false, not, or-comm}
 use mathlib.Core.List.{List, [], _∷_}
@@ -18,15 +18,14 @@ use mathlib.Core.Logic.{_↔_, _≢_, _⊎_, inl, inr, ⊎-elim}
 use native.Mathlib.Omega.{arith}
 use lib.Bits.{bitOr}
 use lib.Dec.{T, eqb}
-use lib.ListN.{length, take, drop, getD, replicate, length-set, length-replicate}
+use lib.ListN.{length, getD, replicate, length-set, length-replicate}
 use lib.Seq.{getD-set-same, getD-set-other}
-use Rattle.field.specs.Bits.{pairs}
 use Rattle.field.specs.Bytes.{BelowPairs, none₂, more₂}
 use Rattle.field.proofs.UnitLaws.{or-left}
 use Rattle.order.specs.Floor.{Floor, isPair, among, joined}
 use Rattle.order.specs.Order.{floorOf, some, badEdge, ascending, wrongEdges}
 use Rattle.order.proofs.EdgeLaws.{good-among}
-use Rattle.order.proofs.TailLaws.{tail-edges}
+use Rattle.order.proofs.TablesLaws.{decoded-rows}
 use Rattle.motion.proofs.Test.{and-parts, or-parts, eqb-parts, equal?}
 use Rattle.tables.proofs.TableLaws.{passed, zeros-at}
 use Rattle.tables.specs.Accepted.{OrderGave}
@@ -38,8 +37,7 @@ use Rattle.graph.specs.Walk.Walk.{alone, step}
 use Rattle.graph.specs.Connected.{BiConnected}
 use Rattle.graph.specs.Rows.{Edge, Rows}
 use Rattle.floor.specs.FloorAnswer.{Joins}
-use Rattle.floor.specs.JoinedRows.{joining, joinedRows}
-use Rattle.floor.proofs.JoinedRowsLaws.{rowsOf}
+use Rattle.order.specs.Tables.{joining, joinedRows, rowsOf, decodedRows}
 
 module _ {E D : ℕ → ℕ → Type 0} (more : (a b : ℕ) → E a b → D a b) where
   pub walk-along : {P : ℕ → Type 0} {a b k : ℕ} → Walk E P a b k → Walk D P a b k
@@ -155,10 +153,9 @@ module _ (F : Floor) (small : BelowPairs 64 (F .edges)) where
           other = λ a b h e. joined-other a (subst (λ (p : ℕ). T (joined F a p)) (sym e) (edge-joins a b h));
         }
 
-module _ (o : List ℕ) (n e m : ℕ) (gave : OrderGave o n e m) (g : List ℕ) (filled : g ≡ joinedRows (replicate 64 0) (pairs (take (length o - 3) (drop 3 o)) 0 e)) where
+module _ (o : List ℕ) (n e m : ℕ) (gave : OrderGave o n e m) (g : List ℕ) (filled : g ≡ decodedRows o) where
   pub filled-is : g ≡ rowsOf (floorOf o)
-  unfolding rowsOf
-  filled-is = filled ∙ ap (joinedRows (replicate 64 0)) (tail-edges o e m (gave .edges-are) (gave .racks-are))
+  filled-is = filled ∙ decoded-rows o (gave .right)
 
   pub filled-rows : Rows n g
   filled-rows =

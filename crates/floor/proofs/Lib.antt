@@ -1,7 +1,5 @@
-pub mod RowLaws
 pub mod Layers
 pub mod EdgesCounted
 pub mod ExamplesLaws
 pub mod FloorLaws
 pub mod FloorRows
-pub mod JoinedRowsLaws

@@ -140,7 +140,8 @@ module _ (g : List ℕ) (a n : ℕ) where
       (λ l. by-cases (decLt q r) (λ m. least-three p q r l m hr e f i)
       (λ m. by-cases (decLt p r) (λ k. least-three p r q k (omega arith) hq e i f) (λ k. least-three r p q (omega arith) l hq i e f)))
       (λ l. by-cases (decLt p r) (λ m. least-three q p r (omega arith) m hr f e i)
-      (λ m. by-cases (decLt q r) (λ k. least-three q r p k (omega arith) hp f i e) (λ k. least-three r q p (omega arith) (omega arith) hp i f e)))
+      (λ m. by-cases (decLt q r) (λ k. least-three q r p k (omega arith) hp f i e)
+      (λ k. least-three r q p (omega arith) (omega arith) hp i f e)))
 
 pub rowsSum-least : (g : List ℕ) (m n : ℕ) → ((a : ℕ) → a < m → 2 ≤ rowSum g a n) → 2 * m ≤ rowsSum g m n
 unfolding rowsSum
@@ -182,7 +183,8 @@ module _ {n : ℕ} {g : List ℕ} (rows : Rows n g) (bi : BiConnected n (Edge g)
       let one = walk-starts (way .walk) (x .first) in
       let y = third a (one .to) in
       let hy = y .small in
-      let round = bi .without (one .to) (rows .inside a (one .to) (one .edge) .1) a (y .at) (record { there = below; other = rows .other a (one .to) (one .edge) })
+      let round = bi .without (one .to) (rows .inside a (one .to) (one .edge) .1) a (y .at)
+      (record { there = below; other = rows .other a (one .to) (one .edge) })
       (record { there = omega arith; other = λ e. y .second (sym e) }) in
       let two = walk-starts (round .walk) (y .first) in
       record { one = one .to; two = two .to; first = one .edge; second = two .edge; differ = λ e. two .there .other (sym e) }
@@ -190,7 +192,8 @@ module _ {n : ℕ} {g : List ℕ} (rows : Rows n g) (bi : BiConnected n (Edge g)
   pub biConnected-degree : (a : ℕ) → a < n → 2 ≤ rowSum g a n
   biConnected-degree a below =
       let t = biConnected-neighbours a below in
-      rowSum-least-two g a n (t .one) (t .two) (rows .inside a (t .one) (t .first) .1) (rows .inside a (t .two) (t .second) .1) (t .differ) (t .first) (t .second)
+      rowSum-least-two g a n (t .one) (t .two) (rows .inside a (t .one) (t .first) .1) (rows .inside a (t .two) (t .second) .1)
+      (t .differ) (t .first) (t .second)
 
   pub biConnected-edges : n ≤ edgeCount g n
   biConnected-edges =

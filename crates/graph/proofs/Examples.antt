@@ -62,7 +62,8 @@ abbrev pub rowsTest : ℕ → List ℕ → Bool
 rowsTest n g = both (leb n 64) (rest-right n g)
 
 pub rows-tested : (n : ℕ) (g : List ℕ) → T (rowsTest n g) → Rows n g
-rows-tested n g t = record { small = leb→le n 64 (both-left (leb n 64) (rest-right n g) t); inside = inside; symmetric = symmetric; other = other }
+rows-tested n g t =
+    record { small = leb→le n 64 (both-left (leb n 64) (rest-right n g) t); inside = inside; symmetric = symmetric; other = other }
   where
     line : (a : ℕ) → a < n → T (row-right n g a)
     line = every-at n (row-right n g) (both-right (leb (length g) n) (every n (row-right n g)) (both-right (leb n 64) (rest-right n g) t))
@@ -74,13 +75,17 @@ rows-tested n g t = record { small = leb→le n 64 (both-left (leb n 64) (rest-r
     below a b e =
         by-cases (decLt a n) (λ l. l)
         (λ l.
-        let short = leb→le (length g) n (both-left (leb (length g) n) (every n (row-right n g)) (both-right (leb n 64) (rest-right n g) t)) in
+        let short = leb→le (length g) n (both-left (leb (length g) n) (every n (row-right n g))
+        (both-right (leb n 64) (rest-right n g) t)) in
         absurd (has-none b (subst (λ (x : ℕ). Has x b) (List·getD-eq-default g 0 (omega arith)) e)))
 
     inside : (a b : ℕ) → Edge g a b → (a < n) × (b < n)
     inside a b e =
-        let l = below a b e in
-        (l, has-below n (getD g a 0) b (ltb→lt (getD g a 0) (2 ^ n) (both-left (ltb (getD g a 0) (2 ^ n)) (every n (pair-right g a)) (more a l))) e)
+        let l = below a b e in (
+          l,
+          has-below n (getD g a 0) b (ltb→lt (getD g a 0) (2 ^ n) (both-left (ltb (getD g a 0) (2 ^ n))
+              (every n (pair-right g a)) (more a l))) e,
+        )
 
     symmetric : (a b : ℕ) → Edge g a b → Edge g b a
     symmetric a b e =
@@ -92,7 +97,8 @@ rows-tested n g t = record { small = leb→le n 64 (both-left (leb n 64) (rest-r
     other : (a b : ℕ) → Edge g a b → a ≡ b → ⊥
     other a b e same =
         let l = below a b e in
-        let none = eqb→eq (bit (getD g a 0) a) 0 (both-left (eqb (bit (getD g a 0) a) 0) (both (ltb (getD g a 0) (2 ^ n)) (every n (pair-right g a))) (line a l)) in
+        let none = eqb→eq (bit (getD g a 0) a) 0 (both-left (eqb (bit (getD g a 0) a) 0)
+        (both (ltb (getD g a 0) (2 ^ n)) (every n (pair-right g a))) (line a l)) in
         let on : bit (getD g a 0) a ≡ 1 = ap (λ (x : ℕ). bit (getD g a 0) x) same ∙ e in
         clash none on
       where

@@ -1,11 +1,13 @@
 -- Laws of the levels of a breadth-first search: the state of `spread`, from its first level to its answer.
 --
 --     levels-none                    no level is right of itself
---     Spreading E P T G d l s x      d levels are made, s is the last of them, and x is what is not reached yet; no level but the last has a position of G
+--     Spreading E P T G d l s x      d levels are made, s is the last of them, and x is what is not reached yet; no level but the last has
+--                                    a position of G
 --     spreading-begin                the first level
 --     spreading-room                 there is room for another, where something is not reached yet
 --     spreading-next                 the next level: what touches the last and was not reached yet
---     spread-none, spread-met, spread-stop    the answer where no target is free, where the last level has a position of G, and where no next one is
+--     spread-none, spread-met, spread-stop    the answer where no target is free, where the last level has a position of G, and where no
+--                                             next one is
 --     State, Answer, begin-none, begin, found, room, stop, next    the same with the sets as words
 --     Around, around-begin, around-next, around-end   the state of `around`
 -- Assumes nothing.
@@ -100,7 +102,9 @@ module _ {E : ℕ → ℕ → Type 0} {P T : ℕ → Type 0} where
               record {
                 level = 0;
                 before = some;
-                on = subst (λ (y : ℕ). Has y v) (sym (level-here l 0 s (omega arith) 0 refl)) (is-first v .1 (walk-first walk, subst T same is));
+                on =
+                    subst (λ (y : ℕ). Has y v) (sym (level-here l 0 s (omega arith) 0 refl))
+                    (is-first v .1 (walk-first walk, subst T same is));
               };
           apart = λ i j v hi hj on on′. omega arith;
           down = λ i v h on. absurd (none-before i h);
@@ -119,12 +123,14 @@ module _ {E : ℕ → ℕ → Type 0} {P T : ℕ → Type 0} where
           near = λ e v p h. absurd (h (is v .1 p));
         }
 
-    pub spreading-begin : (l : List ℕ) (s x f : ℕ) → length l ≡ 64 → f < 2 ^ 64 → 0 < s → ((v : ℕ) → P v → Has f v) → ((v : ℕ) → Has s v ↔ (P v × T v))
+    pub spreading-begin : (l : List ℕ) (s x f : ℕ) → length l ≡ 64 → f < 2 ^ 64 → 0 < s → ((v : ℕ) → P v → Has f v)
+        → ((v : ℕ) → Has s v ↔ (P v × T v))
         → ((v : ℕ) → Has x v ↔ (P v × (T v → ⊥))) → ((v : ℕ) → P v → T v ⊎ (T v → ⊥)) → Spreading E P T G 1 (set l 0 s) s x
     spreading-begin l s x f long word some free first left decide =
         let at = has-some s some in
         let none-first = ones-less (at .0) 0 s (λ p h. absurd (has-none p h)) (at .1) (has-none (at .0)) in
-        let parts = ones-parts f s x (λ p h. free p (first p .0 h .0)) (λ p h. free p (left p .0 h .0)) (λ p h i. left p .0 i .1 (first p .0 h .1)) in
+        let parts = ones-parts f s x (λ p h. free p (first p .0 h .0)) (λ p h. free p (left p .0 h .0))
+        (λ p h i. left p .0 i .1 (first p .0 h .1)) in
         let most = ones-most 64 f (λ p h. has-below 64 f p word h) in
         record {
           long = length-set l 0 s ∙ long;
@@ -192,7 +198,8 @@ module _ {E : ℕ → ℕ → Type 0} {P T : ℕ → Type 0} where
               within = state .within;
               gone = λ e v t k walk is h. state .unseen v h (rest v t k walk is);
               near = λ e v p h.
-                  ⊎-elim (λ left. absurd (h left)) (λ q. (q .level + 1, state .levels .near (q .level) v (q .before) (q .on))) (state .all v p);
+                  ⊎-elim (λ left. absurd (h left)) (λ q. (q .level + 1, state .levels .near (q .level) v (q .before) (q .on)))
+                  (state .all v p);
             }
           where
             seen-missed : (v : ℕ) → G v → Seen l d v → ⊥
@@ -219,7 +226,8 @@ module _ {E : ℕ → ℕ → Type 0} {P T : ℕ → Type 0} where
         kept i v h = subst (λ (y : ℕ). Has y v) (sym (level-other l d s′ i (omega arith)))
 
         seen-kept : {k v : ℕ} → k ≤ d → Seen l k v → Seen (set l d s′) k v
-        seen-kept {k} {v} le q = let b = q .before in record { level = q .level; before = q .before; on = kept (q .level) v (omega arith) (q .on) }
+        seen-kept {k} {v} le q =
+            let b = q .before in record { level = q .level; before = q .before; on = kept (q .level) v (omega arith) (q .on) }
 
         -- a position of the new level, and its neighbour on the last
         near-new : (v : ℕ) → Has s′ v → Near E P T v (d + 1)
@@ -228,7 +236,8 @@ module _ {E : ℕ → ℕ → Type 0} {P T : ℕ → Type 0} where
             let t = n .0 in
             let some = state .some in
             let level : d - 1 + 1 ≡ d = omega arith in
-            let before = state .levels .near (d - 1) (t .at) (omega arith) (subst (λ (y : ℕ). Has y (t .at)) (sym (state .last)) (t .there)) in
+            let before = state .levels .near (d - 1) (t .at) (omega arith)
+            (subst (λ (y : ℕ). Has y (t .at)) (sym (state .last)) (t .there)) in
             near-step (state .within v (n .1)) (t .edge) (subst (Near E P T (t .at)) level before)
 
         full-new : (v t k : ℕ) → Walk E P v t k → T t → k ≡ d + 1 → Seen (set l d s′) (d + 1) v
@@ -247,7 +256,8 @@ module _ {E : ℕ → ℕ → Type 0} {P T : ℕ → Type 0} where
             (λ free. record { level = d; before = omega arith; on = fresh a (next a .1 (record { at = w; there = on; edge = e }, free)) })
             (λ seen. seen-more (d + 1) (omega arith) (seen-kept (omega arith) seen))
             (state .all a p))
-            (λ h. seen-more (d + 1) (omega arith) (seen-kept {k = q .level + 1 + 1} (omega arith) (lift (state .levels) a w (q .level) p e (omega arith) (q .on))))
+            (λ h. seen-more (d + 1) (omega arith) (seen-kept {k = q .level + 1 + 1} (omega arith)
+            (lift (state .levels) a w (q .level) p e (omega arith) (q .on))))
 
         -- the new level is apart from those before it
         new-apart : (i v : ℕ) → i < d → Has (getD l i 0) v → Has s′ v → ⊥
@@ -279,7 +289,9 @@ module _ {E : ℕ → ℕ → Type 0} {P T : ℕ → Type 0} where
                   let level : d - 1 ≡ i = omega arith in
                   record {
                     at = t .at;
-                    there = kept i (t .at) (omega arith) (subst (λ (j : ℕ). Has (getD l j 0) (t .at)) level (subst (λ (y : ℕ). Has y (t .at)) (sym (state .last)) (t .there)));
+                    there =
+                        kept i (t .at) (omega arith) (subst (λ (j : ℕ). Has (getD l j 0) (t .at)) level
+                        (subst (λ (y : ℕ). Has y (t .at)) (sym (state .last)) (t .there)));
                     edge = t .edge;
                   })
                   (λ e.
@@ -303,7 +315,11 @@ module _ {E : ℕ → ℕ → Type 0} {P T : ℕ → Type 0} where
                   let before = q .before in
                   by-cases (ℕ-discrete (q .level) d)
                   (λ e. left v .0 h .1 (here (q .level) v e (q .on)))
-                  (λ e. state .unseen v (left v .0 h .0) (record { level = q .level; before = omega arith; on = old (q .level) v (omega arith) (q .on) }));
+                  (λ e. state .unseen v (left v .0 h .0) (record {
+                    level = q .level;
+                    before = omega arith;
+                    on = old (q .level) v (omega arith) (q .on);
+                  }));
               all = λ v p.
                   ⊎-elim
                   (λ free.
@@ -331,10 +347,12 @@ module _ (g : List ℕ) (free targets goal : ℕ) where
 
   pub begin-none : (l : List ℕ) (x : ℕ) → bitAnd free targets ≡ 0 → ((p : ℕ) → Has x p ↔ (Has free p × (Has targets p → ⊥))) → Answer l 0 x
   begin-none l x none left =
-      let apart : (v : ℕ) → Has free v → Has targets v → ⊥ = λ v f t. has-none v (subst (λ (y : ℕ). Has y v) none (has-and free targets v .1 (f, t))) in
+      let apart : (v : ℕ) → Has free v → Has targets v → ⊥ = λ v f t. has-none v
+      (subst (λ (y : ℕ). Has y v) none (has-and free targets v .1 (f, t))) in
       spread-none l x apart (λ v. (λ h. left v .0 h .0, λ f. left v .1 (f, apart v f)))
 
-  pub begin : (l : List ℕ) (x : ℕ) → length l ≡ 64 → free < 2 ^ 64 → bitAnd free targets ≢ 0 → ((p : ℕ) → Has x p ↔ (Has free p × (Has targets p → ⊥)))
+  pub begin : (l : List ℕ) (x : ℕ) → length l ≡ 64 → free < 2 ^ 64 → bitAnd free targets ≢ 0
+      → ((p : ℕ) → Has x p ↔ (Has free p × (Has targets p → ⊥)))
       → State 1 (set l 0 (bitAnd free targets)) (bitAnd free targets) x
   begin l x long word some left =
       spreading-begin l (bitAnd free targets) x free long word (omega arith) (λ v f. f) (has-and free targets) left
@@ -377,12 +395,14 @@ module _ (g : List ℕ) (symmetric : Symmetric (Edge g)) where
   pub around-begin : (s : ℕ) → Around g s 0 s
   around-begin s = record { part = λ v h. h; sound = λ v h. absurd (has-none v h); full = λ v w h not e. absurd (not h) }
 
-  pub around-next : (s r q w q′ : ℕ) → Has q w → ((p : ℕ) → Has q′ p ↔ (Has q p × (p ≢ w))) → Around g s r q → Around g s (bitOr r (getD g w 0)) q′
+  pub around-next : (s r q w q′ : ℕ) → Has q w → ((p : ℕ) → Has q′ p ↔ (Has q p × (p ≢ w))) → Around g s r q
+      → Around g s (bitOr r (getD g w 0)) q′
   around-next s r q w q′ on less a =
       record {
         part = λ v h. a .part v (less v .0 h .0);
         sound = λ v h.
-            ⊎-elim (λ i. a .sound v i) (λ i. record { at = w; there = a .part w on; edge = symmetric w v i }) (has-or r (getD g w 0) v .0 h);
+            ⊎-elim (λ i. a .sound v i) (λ i. record { at = w; there = a .part w on; edge = symmetric w v i })
+            (has-or r (getD g w 0) v .0 h);
         full = λ v u h not e.
             has-or r (getD g w 0) v .1
             (by-cases (ℕ-discrete u w)

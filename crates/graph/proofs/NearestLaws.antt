@@ -65,5 +65,6 @@ module _ {E : ℕ → ℕ → Type 0} {P T : ℕ → Type 0} {a k : ℕ} {f : �
       walk-segment f 0 i (λ q x y. p .inside q (omega arith)) (λ q x y. p .joined q (omega arith)) in
       let same : 0 + i ≡ i = omega arith in
       let short : k ≤ suc i =
-      r .shortest (f i) (suc i) (subst (λ (x : ℕ). Walk E P x (f i) (suc i)) (p .first) (subst (λ (q : ℕ). Walk E P (f 0) (f q) (suc i)) same walk)) is in
+      r .shortest (f i) (suc i) (subst (λ (x : ℕ). Walk E P x (f i) (suc i)) (p .first)
+      (subst (λ (q : ℕ). Walk E P (f 0) (f q) (suc i)) same walk)) is in
       omega arith

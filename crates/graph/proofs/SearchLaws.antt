@@ -70,7 +70,8 @@ module _ (g l : List ℕ) (d a : ℕ) where
       least : d - 1 ≡ d - 1 - 0
       least = omega arith
 
-  module _ (down : (i v : ℕ) → i + 1 < d → Has (getD l (i + 1) 0) v → Touches (Edge g) (getD l i 0) v) (f : List ℕ) (v k : ℕ) (t : Tracing (Edge g) l d a f v k)
+  module _ (down : (i v : ℕ) → i + 1 < d → Has (getD l (i + 1) 0) v → Touches (Edge g) (getD l i 0) v) (f : List ℕ) (v k : ℕ)
+      (t : Tracing (Edge g) l d a f v k)
       (more : k < d) where
     -- on the next level there is a neighbour
     pub tracing-some : 0 < bitAnd (getD g v 0) (getD l (d - 1 - k) 0)
@@ -79,7 +80,8 @@ module _ (g l : List ℕ) (d a : ℕ) where
         let n = down (d - 1 - k) v (omega arith) (subst (λ (i : ℕ). Has (getD l i 0) v) level (t .on)) in
         has-positive _ (n .at) (has-and (getD g v 0) (getD l (d - 1 - k) 0) (n .at) .1 (n .edge, n .there))
 
-    pub tracing-step : (w : ℕ) → k < 64 → w < 64 → Has (bitAnd (getD g v 0) (getD l (d - 1 - k) 0)) w → Tracing (Edge g) l d a (set f k w) w (k + 1)
+    pub tracing-step : (w : ℕ) → k < 64 → w < 64 → Has (bitAnd (getD g v 0) (getD l (d - 1 - k) 0)) w
+        → Tracing (Edge g) l d a (set f k w) w (k + 1)
     tracing-step w fits small has =
         let both = has-and (getD g v 0) (getD l (d - 1 - k) 0) w .0 has in
         let some = t .some in
@@ -118,7 +120,8 @@ module _ (g l : List ℕ) (d a : ℕ) where
   tracing-end f v k done t =
       record { first = t .first; joined = λ i h. t .joined i (omega arith); level = λ i h. t .level i (omega arith) }
 
-module _ {E : ℕ → ℕ → Type 0} {P T G : ℕ → Type 0} {l : List ℕ} {a d x : ℕ} (only : (p : ℕ) → G p ↔ (p ≡ a)) (s : Spread E P T G l d x) where
+module _ {E : ℕ → ℕ → Type 0} {P T G : ℕ → Type 0} {l : List ℕ} {a d x : ℕ} (only : (p : ℕ) → G p ↔ (p ≡ a))
+    (s : Spread E P T G l d x) where
   pub met-at : 0 < d → Has (getD l (d - 1) 0) a
   met-at some = let m = s .met some in subst (Has (getD l (d - 1) 0)) (only (m .at) .0 (m .goal)) (m .last)
 
@@ -193,7 +196,8 @@ pub empty-test : {A : Type 0} (x : ℕ) → (x ≡ 0) ↔ A → (eqb x 0 ≡ tru
 empty-test x same = (λ e. same .0 (eqb→eq x 0 (subst T (sym e) tt)), λ a. ap (λ (y : ℕ). eqb y 0) (same .1 a))
 
 -- the same positions, as a set and as a predicate: they hang together or they do not
-pub whole-set : {P : ℕ → Type 0} (g : List ℕ) (f : ℕ) → ((p : ℕ) → Has f p ↔ P p) → (r : Bool) → (r ≡ true) ↔ Whole (Edge g) (Has f) → (r ≡ true) ↔ Whole (Edge g) P
+pub whole-set : {P : ℕ → Type 0} (g : List ℕ) (f : ℕ) → ((p : ℕ) → Has f p ↔ P p) → (r : Bool) → (r ≡ true)
+    ↔ Whole (Edge g) (Has f) → (r ≡ true) ↔ Whole (Edge g) P
 whole-set g f same r says = says-same (whole-same (λ p. same p .0) (λ p. same p .1)) (whole-same (λ p. same p .1) (λ p. same p .0)) says
 
 pub except-is : (n x b f p : ℕ) → Has b p ↔ (p < n) → Has f p ↔ (Has b p × (p ≢ x)) → Has f p ↔ Except (Below n) x p

@@ -1,5 +1,6 @@
--- The state of a breadth-first search that goes backwards from its targets, level by level. A level is a set: level i has the positions from which
--- a shortest walk to a target has i + 1 positions. Over an edge relation E, a set P of free positions and a set T of targets; l are the levels.
+-- The state of a breadth-first search that goes backwards from its targets, level by level. A level is a set: level i has the positions
+-- from which a shortest walk to a target has i + 1 positions. Over an edge relation E, a set P of free positions and a set T of targets; l
+-- are the levels.
 --
 --     Near E P T v k             a walk of k positions leads from v to a target
 --     Within x k                 the number x is not 0 and is at most k
@@ -7,8 +8,9 @@
 --     Touches E s v              an edge joins v to a position of the set s
 --     Levels E P T d l           the first d levels are right
 --     Met G l d                  the last of d levels has a position of G
---     Spread E P T G l d x       the levels were made until one has a position of G, the last of d; or, with d = 0, until there were no more, and x
---                                is what was never reached
+--     Spread E P T G l d x       the levels were made until one has a position of G, the last of d; or, with d = 0, until there were no
+--                                more, and x is what was never reached
+--     Descent E l d a            a is on the last of d levels, and each level but the first has an edge down from each of its positions
 --     Traced E l d a f           the positions f go down d levels from a to the first
 -- Assumes nothing.
 use Prim.Native.Nat.{ℕ, _+_, _-_, _≤_, _<_}
@@ -56,6 +58,13 @@ pub record Spread (E : ℕ → ℕ → Type 0) (P T G : ℕ → Type 0) (l : Lis
   pub within : (v : ℕ) → Has x v → P v
   pub gone : d ≡ 0 → (v t k : ℕ) → Walk E P v t k → T t → Has x v → ⊥
   pub near : d ≡ 0 → (v : ℕ) → P v → (Has x v → ⊥) → (k : ℕ) × Near E P T v k
+
+pub record Descent (E : ℕ → ℕ → Type 0) (l : List ℕ) (d a : ℕ) : Type 0 where
+  pub some : 0 < d
+  pub few : d ≤ 64
+  pub small : a < 64
+  pub on : Has (getD l (d - 1) 0) a
+  pub down : (i v : ℕ) → i + 1 < d → Has (getD l (i + 1) 0) v → Touches E (getD l i 0) v
 
 pub record Traced (E : ℕ → ℕ → Type 0) (l : List ℕ) (d a : ℕ) (f : List ℕ) : Type 0 where
   pub first : getD f 0 0 ≡ a

@@ -1,7 +1,7 @@
 -- What a search from one position to the nearest of a set of targets yields.
 --
---     Nearest E P T a k f    k is 0 exactly where no walk inside P leads from a to a target of T; else the k positions f 0, f 1, .. are a path from
---                            a to a target, and no walk from a to a target has fewer
+--     Nearest E P T a k f    k is 0 exactly where no walk inside P leads from a to a target of T; else the k positions f 0, f 1, .. are a
+--                            path from a to a target, and no walk from a to a target has fewer
 -- Assumes nothing.
 use Prim.Native.Nat.{ℕ, _-_, _≤_, _<_}
 use mathlib.Core.Path.{_≡_}

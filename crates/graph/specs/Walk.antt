@@ -1,7 +1,8 @@
--- Walks on a floor, over an edge relation and a set of allowed positions. Document 01, "The floor": "A floor has n positions, numbered from 0, and
--- edges between pairs of them." In the field's terms the floor is a graph, a position a vertex.
+-- Walks on a floor, over an edge relation and a set of allowed positions. Document 01, "The floor": "A floor has n positions, numbered from
+-- 0, and edges between pairs of them." In the field's terms the floor is a graph, a position a vertex.
 --
---     Walk E P a b k     a walk along edges of E from a to b, k positions counted with repetition, each of them (both ends too) allowed by P
+--     Walk E P a b k     a walk along edges of E from a to b, k positions counted with repetition, each of them, both ends too,
+--                        allowed by P
 --     Way E P a b        some walk leads from a to b
 --     Symmetric E        an edge joins both ways
 --     Path E P a b k f   the k positions f 0, f 1, .. are a walk from a to b and no two of them are the same

@@ -1,5 +1,5 @@
-// The floor as a graph: one breadth-first search, and the decisions that rest on it. A floor is a row of sets: `rows[a]` has the positions that
-// edges join to a.
+// The floor as a graph: one breadth-first search, and the decisions that rest on it. A floor is a row of sets: `rows[a]` has the positions
+// that edges join to a.
 ghost use mathlib.Core.Bool.{true};
 ghost use mathlib.Core.Logic.{_↔_};
 ghost use mathlib.Core.Path.{_≡_};
@@ -10,7 +10,7 @@ ghost use Rattle.graph.specs.Walk.{Symmetric};
 ghost use Rattle.graph.specs.Connected.{Whole, Connected, ConnectedWithout, BiConnected, Ring};
 ghost use Rattle.graph.specs.EdgeCount.{edgeCount};
 ghost use Rattle.graph.specs.Rows.{Edge, Rows};
-ghost use Rattle.graph.specs.Levels.{Touches, Levels, Spread, Traced};
+ghost use Rattle.graph.specs.Levels.{Touches, Spread, Descent, Traced};
 ghost use Rattle.graph.specs.Nearest.{Nearest};
 
 // The positions that edges join to a position of the set.
@@ -34,10 +34,11 @@ struct Reach {
     left: u64,
 }
 
-// Breadth-first from the targets, level by level, until a level has a position of the goal or there is nothing more to reach. Each level but the
-// first is what touches the one before it and was not reached yet.
+// Breadth-first from the targets, level by level, until a level has a position of the goal or there is nothing more to reach. Each level
+// but the first is what touches the one before it and was not reached yet.
 fn spread(rows: &[u64; 64], free: u64, targets: u64, goal: u64, levels: &mut [u64; 64]) -> Reach
-    requires { ⌜ Symmetric (Edge (now rows)) ⌝ ∗ ⌜ length (now levels) ≡ 64 ⌝ }
+    requires { ⌜ Symmetric (Edge (now rows)) ⌝ }
+    requires { ⌜ length (now levels) ≡ 64 ⌝ }
     ensures { λ r. ⌜ Spread (Edge (now (rows .entry))) (Has free) (Has targets) (Has goal) (now (levels .exit)) (r .depth) (r .left) ⌝ }
 {
     let mut fresh = free & targets;
@@ -63,7 +64,7 @@ fn spread(rows: &[u64; 64], free: u64, targets: u64, goal: u64, levels: &mut [u6
 
 // From `from`, which is on the last of `depth` levels, down to the first: the lowest position joined on each.
 fn trace(rows: &[u64; 64], levels: &[u64; 64], depth: usize, from: usize) -> [u8; 64]
-    requires { ⌜ (0 < depth) × (depth ≤ 64) × (from < 64) × Has (getD (now levels) (depth - 1) 0) from ⌝ ∗ ⌜ ((i v : ℕ) → i + 1 < depth → Has (getD (now levels) (i + 1) 0) v → Touches (Edge (now rows)) (getD (now levels) i 0) v) ⌝ }
+    requires { ⌜ Descent (Edge (now rows)) (now levels) depth from ⌝ }
     ensures { λ r. ⌜ Traced (Edge (now (rows .entry))) (now (levels .entry)) depth from r ⌝ }
 {
     let mut path = [0u8; 64];
@@ -84,9 +85,11 @@ pub struct Route {
     pub at: [u8; 64],
 }
 
-// A shortest way from `from` to the nearest of the targets, both ends included, through free positions alone. None, exactly where there is no way.
+// A shortest way from `from` to the nearest of the targets, both ends included, through free positions alone. None, exactly where there is
+// no way.
 pub fn search(rows: &[u64; 64], free: u64, targets: u64, from: usize) -> Route
-    requires { ⌜ Symmetric (Edge (now rows)) ⌝ ∗ ⌜ from < 64 ⌝ }
+    requires { ⌜ Symmetric (Edge (now rows)) ⌝ }
+    requires { ⌜ from < 64 ⌝ }
     ensures { λ r. ⌜ Nearest (Edge (now (rows .entry))) (Has free) (Has targets) from (r .size) (λ i. getD (r .at) i 0) ⌝ }
 {
     let mut levels = [0u64; 64];
@@ -126,7 +129,8 @@ pub fn is_connected(rows: &[u64; 64], n: usize) -> bool
 
 // Is the floor connected when x is taken away?
 pub fn is_connected_without(rows: &[u64; 64], n: usize, x: usize) -> bool
-    requires { ⌜ Rows n (now rows) ⌝ ∗ ⌜ x < n ⌝ }
+    requires { ⌜ Rows n (now rows) ⌝ }
+    requires { ⌜ x < n ⌝ }
     ensures { λ r. ⌜ (r ≡ true) ↔ ConnectedWithout n (Edge (now (rows .entry))) x ⌝ }
 {
     is_whole(rows, sets::without(sets::below(n), x))
@@ -152,7 +156,8 @@ pub fn is_biconnected(rows: &[u64; 64], n: usize) -> bool
 
 // Is the floor a ring? `e` is the number of its edges.
 pub fn is_ring(rows: &[u64; 64], n: usize, e: usize) -> bool
-    requires { ⌜ Rows n (now rows) ⌝ ∗ ⌜ e ≡ edgeCount (now rows) n ⌝ }
+    requires { ⌜ Rows n (now rows) ⌝ }
+    requires { ⌜ e ≡ edgeCount (now rows) n ⌝ }
     ensures { λ r. ⌜ (r ≡ true) ↔ Ring n (Edge (now (rows .entry))) (edgeCount (now (rows .entry)) n) ⌝ }
 {
     if e != n {

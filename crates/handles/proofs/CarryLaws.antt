@@ -4,16 +4,17 @@
 --     Free at e y i          what may move while the rack stands at place i: the places before e without y and place i
 --     free-has               that as a set
 --     two-vacant             two vacancies are the only ones
---     Carrying               the state of `carry`: the rack stands at place i, or at v where i is e; y is vacant; every vacancy is at a place before e
+--     Carrying               the state of `carry`: the rack stands at place i, or at v where i is e; y is vacant; every vacancy is at a
+--                            place before e
 --     among-more, among-floor    what is in the stage is at a place before e; what is there is on the floor
 --     off                    a position of the stage is none of the handle
 --     carrying-begin         the first state
 --     carry-edge, carry-next    the next position of the rack: beside it; free
 --     carry-reaches          from there a walk leads to a vacancy that is not y
---     carry-held, carry-beside    the rack and y stay while the next position is cleared
+--     carry-movable          the rack stays while the next position is cleared, and can move there
 --     carrying-step          the next state
---     carry-away             the rack moved from v to y
---     carry-undoing, carry-fits    what else was moved can be taken back, and there is room for that
+--     carry-last, carry-away    the rack can move from v to y; it is moved
+--     carry-undoing, carry-entries, carry-space    what else was moved can be taken back: the log has it, and there is room for that
 -- Assumes nothing.
 use Prim.Native.Nat.{ℕ, suc, _+_, _-_, _*_, _≤_, _<_}
 use mathlib.Core.Path.{_≡_, refl, sym, ap, subst, _∙_}
@@ -30,18 +31,20 @@ use Rattle.graph.proofs.ConnectedLaws.{whole-same}
 use Rattle.graph.specs.Rows.{Edge}
 use Rattle.breakdown.specs.Breakdown.{Among, Between}
 use Rattle.breakdown.proofs.StageLaws.{Both, whole-left, whole-right}
-use Rattle.moving.specs.Went.{Same}
-use Rattle.moving.specs.Went.Back.{done}
-use Rattle.moving.proofs.WentLaws.{same-refl}
-use Rattle.moving.specs.Journey.{row, onto, Fits, Room, Journey, JourneyIn}
-use Rattle.moving.specs.Journey.Trail.{start}
-use Rattle.moving.proofs.JourneyLaws.{journey-trail, fits-anew, room-then, room-less}
-use Rattle.moving.specs.Turned.{carried, Undoing}
-use Rattle.moving.proofs.BackLaws.{back-from, back-carried, carried-there, carried-left, carried-other}
-use Rattle.moving.specs.Cleared.{Reaches, Cleared}
-use Rattle.settling.specs.Table.{Table}
-use Rattle.settling.proofs.TableLaws.{table-other}
-use Rattle.settling.specs.Lane.{Lane}
+use Rattle.shunting.specs.Went.{Same}
+use Rattle.shunting.specs.Went.Back.{done}
+use Rattle.shunting.proofs.WentLaws.{same-refl}
+use Rattle.shunting.specs.declared.State.{State}
+use Rattle.shunting.specs.Journey.{row, onto, Trail, Space, Journey, JourneyIn}
+use Rattle.shunting.specs.Journey.Trail.{start}
+use Rattle.shunting.proofs.JourneyLaws.{journey-trail, space-then, space-less}
+use Rattle.shunting.specs.Undone.{carried, Entries, Undoing}
+use Rattle.shunting.proofs.BackLaws.{back-from, back-carried, carried-there, carried-left, carried-other}
+use Rattle.shunting.specs.Turned.{Movable, Passed}
+use Rattle.shunting.specs.Cleared.{Reaches, Cleared}
+use Rattle.shunting.specs.Table.{Table}
+use Rattle.shunting.proofs.TableLaws.{table-other}
+use Rattle.handles.specs.Lane.{HandleOn, BesideEnd, After}
 use Rattle.handles.proofs.StageLaws.{apart, between-among, among-between}
 
 pub carry-rounds : (n i q : ℕ) → q ≤ i → 0 < n → n * (i - q) + ((n - 1) + 1) ≡ n * (i + 1 - q)
@@ -76,11 +79,16 @@ free-has a b c ha hb hc p = (
   λ f. hc p .1 (hb p .1 (ha p .1 (among-between (f .there)), f .other), f .away),
 )
 
-pub two-vacant : {n : ℕ} {h : ℕ → ℕ} → Table n h → (a b p : ℕ) → a ≢ b → a < n → b < n → p < n → h a ≡ 0 → h b ≡ 0 → h p ≡ 0 → (p ≡ a) ⊎ (p ≡ b)
+pub two-vacant : {n : ℕ} {h : ℕ → ℕ} → Table n h → (a b p : ℕ) → a ≢ b → a < n → b < n → p < n → h a ≡ 0 → h b ≡ 0
+    → h p ≡ 0 → (p ≡ a) ⊎ (p ≡ b)
 two-vacant t a b p differ la lb lp za zb zp =
     ⊎-elim
-    (λ x. ⊎-elim (λ y. inl (x ∙ sym y)) (λ y. ⊎-elim (λ z. inr (x ∙ sym z)) (λ z. absurd (differ (y ∙ sym z))) (t .only b lb zb)) (t .only a la za))
-    (λ x. ⊎-elim (λ y. ⊎-elim (λ z. absurd (differ (y ∙ sym z))) (λ z. inr (x ∙ sym z)) (t .only b lb zb)) (λ y. inl (x ∙ sym y)) (t .only a la za))
+    (λ x. ⊎-elim
+    (λ y. inl (x ∙ sym y))
+    (λ y. ⊎-elim (λ z. inr (x ∙ sym z)) (λ z. absurd (differ (y ∙ sym z))) (t .only b lb zb)) (t .only a la za))
+    (λ x. ⊎-elim
+    (λ y. ⊎-elim (λ z. absurd (differ (y ∙ sym z))) (λ z. inr (x ∙ sym z)) (t .only b lb zb))
+    (λ y. inl (x ∙ sym y)) (t .only a la za))
     (t .only p lp zp)
 
 pub record Carrying (n : ℕ) (at : ℕ → ℕ) (e v y q : ℕ) (h cur : ℕ → ℕ) (i : ℕ) : Type 0 where
@@ -92,22 +100,22 @@ pub record Carrying (n : ℕ) (at : ℕ → ℕ) (e v y q : ℕ) (h cur : ℕ �
   pub there : i < e → cur (at i) ≡ h (at q)
   pub end : e ≤ i → cur v ≡ h (at q)
 
-module _ {n : ℕ} {E : ℕ → ℕ → Type 0} {at : ℕ → ℕ} {s e u v : ℕ} (lane : Lane n E at s e u v) (y : ℕ) (stage : Among at s y) (beside : v ≢ y) where
+module _ {n : ℕ} {E : ℕ → ℕ → Type 0} {at : ℕ → ℕ} {s e u v y : ℕ} (lane : HandleOn n E at s e u v) (near : BesideEnd E at s u v y) where
   pub among-more : {p : ℕ} → Among at s p → Among at e p
   among-more a = let b = a .before in let inner = lane .handle .inner in record { place = a .place; before = omega arith; is = a .is }
 
   pub among-floor : {p : ℕ} → Among at e p → p < n
   among-floor a = let b = a .before in let within = lane .within in subst (λ (q : ℕ). q < n) (a .is) (lane .below (a .place) (omega arith))
 
-  -- a position of the stage stands at no place of the handle
+  -- a position of the (near .there) stands at no place of the handle
   pub off : {p : ℕ} → Among at s p → (i : ℕ) → s ≤ i → i < e → p ≢ at i
   off a i le lt z =
       let b = a .before in
       let within = lane .within in
       apart lane (a .place) i (omega arith) (omega arith) (omega arith) (a .is ∙ z)
 
-  pub carrying-begin : (q : ℕ) (h : ℕ → ℕ) → q < e → Table n h → h v ≡ 0 → h y ≡ 0 → Carrying n at e v y q h h q
-  carrying-begin q h lt t zv zy =
+  pub carrying-begin : {q : ℕ} {h : ℕ → ℕ} → q < e → Table n h → h v ≡ 0 → h y ≡ 0 → Carrying n at e v y q h h q
+  carrying-begin {q} lt t zv zy =
       record {
         from = omega arith;
         most = omega arith;
@@ -115,8 +123,8 @@ module _ {n : ℕ} {E : ℕ → ℕ → Type 0} {at : ℕ → ℕ} {s e u v : �
         beside = zy;
         below = λ p l z. ⊎-elim
             (λ x. subst (Among at e) (sym x) end)
-            (λ x. subst (Among at e) (sym x) (among-more stage))
-            (two-vacant t v y p beside (among-floor end) (among-floor (among-more stage)) l zv zy z);
+            (λ x. subst (Among at e) (sym x) (among-more (near .there)))
+            (two-vacant t v y p (near .right) (among-floor end) (among-floor (among-more (near .there))) l zv zy z);
         there = λ l. refl;
         end = λ l. absurd (none l);
       }
@@ -127,37 +135,42 @@ module _ {n : ℕ} {E : ℕ → ℕ → Type 0} {at : ℕ → ℕ} {s e u v : �
       none : e ≤ q → ⊥
       none l = omega arith
 
-  module _ (q i next : ℕ) (h cur : ℕ → ℕ) (from : s ≤ q) (more : i < e) (rack : h (at q) ≢ 0) (state : Carrying n at e v y q h cur i)
-      (after : (i + 1 < e → next ≡ at (i + 1)) × (e ≤ i + 1 → next ≡ v)) where
+  module _ {q i next : ℕ} {h cur : ℕ → ℕ} (from : s ≤ q) (more : i < e) (rack : h (at q) ≢ 0) (state : Carrying n at e v y q h cur i)
+      (after : After at e v i next) where
     low : s ≤ i
     low = let f = state .from in omega arith
 
     pub carry-edge : E (at i) next
     carry-edge =
         by-cases (decLt (i + 1) e)
-        (λ l. subst (E (at i)) (sym (after .0 l)) (lane .handle .joined i low l))
+        (λ l. subst (E (at i)) (sym (after .inner l)) (lane .handle .joined i low l))
         (λ l.
         let last : e - 1 ≡ i = omega arith in
-        subst (E (at i)) (sym (after .1 (omega arith))) (subst (λ (j : ℕ). E (at j) v) last (lane .handle .last)))
+        subst (E (at i)) (sym (after .last (omega arith))) (subst (λ (j : ℕ). E (at j) v) last (lane .handle .last)))
 
     pub carry-next : Free at e y i next
     carry-next =
         by-cases (decLt (i + 1) e)
-        (λ l. subst (Free at e y i) (sym (after .0 l))
+        (λ l. subst (Free at e y i) (sym (after .inner l))
         (let within = lane .within in
         record {
           there = record { place = i + 1; before = l; is = refl };
-          other = λ z. off stage (i + 1) (let x = low in omega arith) l (sym z);
+          other = λ z. off (near .there) (i + 1) (let x = low in omega arith) l (sym z);
           away = apart lane (i + 1) i (omega arith) (omega arith) (omega arith);
         }))
-        (λ l. subst (Free at e y i) (sym (after .1 (omega arith)))
-        (record { there = among-more (lane .handle .right); other = beside; away = off (lane .handle .right) i low more }))
+        (λ l. subst (Free at e y i) (sym (after .last (omega arith)))
+        (record { there = among-more (lane .handle .right); other = (near .right); away = off (lane .handle .right) i low more }))
 
-    pub carry-reaches : {P : ℕ → Type 0} → Symmetric E → u ≢ y → ((p : ℕ) → Free at e y i p → P p) → Reaches E P cur next
-    carry-reaches sy left into =
+    pub carry-reaches : {P : ℕ → Type 0} → Symmetric E → ((p : ℕ) → Free at e y i p → P p) → Reaches E P cur next
+    carry-reaches sy into =
         let z = table-other (state .table) y in
         let vacancy : Free at e y i (z .0) =
-        record { there = state .below (z .0) (z .1) (z .3); other = z .2; away = λ x. rack (sym (state .there more) ∙ ap cur (sym x) ∙ z .3) } in
+        record {
+          there = state .below (z .0) (z .1) (z .3);
+          other = z .2;
+          away = λ x. rack (sym (state .there more) ∙ ap cur (sym x) ∙ z .3);
+        }
+        in
         let way = whole next (z .0) carry-next vacancy in
         record { to = z .0; size = way .size; walk = walk-inside into (way .walk); vacant = z .3 }
       where
@@ -165,8 +178,9 @@ module _ {n : ℕ} {E : ℕ → ℕ → Type 0} {at : ℕ → ℕ} {s e u v : �
         split : Whole E (Both (Both (Except (Among at s) y) (Between at s i)) (Between at (i + 1) e))
         split =
             whole-right at s e u v (i + 1) sy (lane .handle) (let l = low in omega arith)
-            (whole-left at s e u v i sy (lane .handle) (omega arith) (lane .robust .without y stage) (record { there = lane .handle .left; other = left }))
-            (inl (record { there = lane .handle .right; other = beside }))
+            (whole-left at s e u v i sy (lane .handle) (omega arith) (lane .robust .without y (near .there))
+            (record { there = lane .handle .left; other = near .left }))
+            (inl (record { there = lane .handle .right; other = (near .right) }))
 
         -- another place of the handle
         inner : {p : ℕ} (j : ℕ) → s ≤ j → j < e → j ≢ i → at j ≡ p → Free at e y i p
@@ -175,7 +189,7 @@ module _ {n : ℕ} {E : ℕ → ℕ → Type 0} {at : ℕ → ℕ} {s e u v : �
             subst (Free at e y i) is
             (record {
               there = record { place = j; before = lt; is = refl };
-              other = λ z. off stage j le lt (sym z);
+              other = λ z. off (near .there) j le lt (sym z);
               away = apart lane j i (omega arith) (omega arith) ne;
             })
 
@@ -201,30 +215,40 @@ module _ {n : ℕ} {E : ℕ → ℕ → Type 0} {at : ℕ → ℕ} {s e u v : �
         whole : Whole E (Free at e y i)
         whole = whole-same to back split
 
-    module _ (P : ℕ → Type 0) (free : (p : ℕ) → P p → Free at e y i p) (mid : ℕ → ℕ) (cleared : Cleared P next cur mid) where
-      pub carry-held : mid (at i) ≡ h (at q)
+    module _ {P : ℕ → Type 0} {mid : ℕ → ℕ} (free : (p : ℕ) → P p → Free at e y i p) (cleared : Cleared P next cur mid) where
+      carry-held : mid (at i) ≡ h (at q)
       carry-held = cleared .outside (at i) (λ x. free (at i) x .away refl) ∙ state .there more
 
-      pub carry-beside : mid y ≡ 0
+      carry-beside : mid y ≡ 0
       carry-beside = cleared .outside y (λ x. free y x .other refl) ∙ state .beside
 
-      pub carrying-step : (cur′ : ℕ → ℕ) → Table n cur′ → ((p : ℕ) → p ≢ at i → p ≢ next → cur′ p ≡ mid p) → cur′ next ≡ mid (at i)
-          → Carrying n at e v y q h cur′ (i + 1)
-      carrying-step cur′ table same entered =
+      pub carry-movable : n ≤ 64 → Movable (at i) next mid
+      carry-movable small =
+          let within = lane .within in
+          record {
+            leaves = (let b = lane .below i (omega arith) in omega arith);
+            enters = (let b = among-floor (carry-next .there) in omega arith);
+            held = λ z. rack (sym carry-held ∙ z);
+            vacant = cleared .vacant;
+          }
+
+      pub carrying-step : {cur′ : ℕ → ℕ} → Table n cur′ → Passed (at i) next mid cur′ → Carrying n at e v y q h cur′ (i + 1)
+      carrying-step {cur′} table passed =
           record {
             from = (let f = state .from in omega arith);
             most = omega arith;
             table = table;
-            beside = same y (off stage i low more) (λ z. carry-next .other (sym z)) ∙ carry-beside;
+            beside = passed .others y (off (near .there) i low more) (λ z. carry-next .other (sym z)) ∙ carry-beside;
             below = λ p l z. low-down p l z (lane .every p l);
-            there = λ l. ap cur′ (sym (after .0 l)) ∙ entered ∙ carry-held;
-            end = λ l. ap cur′ (sym (after .1 l)) ∙ entered ∙ carry-held;
+            there = λ l. ap cur′ (sym (after .inner l)) ∙ passed .entered ∙ carry-held;
+            end = λ l. ap cur′ (sym (after .last l)) ∙ passed .entered ∙ carry-held;
           }
         where
           -- a place from e on holds what it held
           behind : (p : ℕ) → (Among at e p → ⊥) → cur′ p ≡ cur p
           behind p none =
-              same p (λ z. none (record { place = i; before = more; is = sym z })) (λ z. none (subst (Among at e) (sym z) (carry-next .there)))
+              passed .others p (λ z. none (record { place = i; before = more; is = sym z }))
+              (λ z. none (subst (Among at e) (sym z) (carry-next .there)))
               ∙ cleared .outside p (λ x. none (free p x .there))
 
           low-down : (p : ℕ) → p < n → cur′ p ≡ 0 → Among at n p → Among at e p
@@ -237,33 +261,51 @@ module _ {n : ℕ} {E : ℕ → ℕ → Type 0} {at : ℕ → ℕ} {s e u v : �
               λ x. let d = x .before in apart lane (x .place) (a .place) (omega arith) b (omega arith) (x .is ∙ sym (a .is)) in
               state .below p l (sym (behind p none) ∙ z))
 
-  module _ (q i : ℕ) (h cur : ℕ → ℕ) (rack : h (at q) ≢ 0) (gone : e ≤ i) (state : Carrying n at e v y q h cur i) where
-    pub carry-away : (cur′ : ℕ → ℕ) → ((p : ℕ) → p ≢ v → p ≢ y → cur′ p ≡ cur p) → cur′ v ≡ 0 → cur′ y ≡ cur v → Same cur′ (carried (h (at q)) y cur)
-    carry-away cur′ same left entered p =
+  module _ {q i : ℕ} {h cur : ℕ → ℕ} (rack : h (at q) ≢ 0) (gone : e ≤ i) (state : Carrying n at e v y q h cur i) where
+    pub carry-last : n ≤ 64 → Movable v y cur
+    carry-last small =
+        record {
+          leaves = (let b = among-floor (among-more (lane .handle .right)) in omega arith);
+          enters = (let b = among-floor (among-more (near .there)) in omega arith);
+          held = λ z. rack (sym (state .end gone) ∙ z);
+          vacant = state .beside;
+        }
+
+    pub carry-away : {cur′ : ℕ → ℕ} → Passed v y cur cur′ → Same cur′ (carried (h (at q)) y cur)
+    carry-away {cur′} passed p =
         by-cases (ℕ-discrete p y)
-        (λ x. subst (λ (z : ℕ). cur′ z ≡ carried (h (at q)) y cur z) (sym x) (entered ∙ state .end gone ∙ sym (carried-there (h (at q)) y cur)))
+        (λ x. subst (λ (z : ℕ). cur′ z ≡ carried (h (at q)) y cur z) (sym x)
+        (passed .entered ∙ state .end gone ∙ sym (carried-there (h (at q)) y cur)))
         (λ x. by-cases (ℕ-discrete p v)
-        (λ z. ap cur′ z ∙ left ∙ sym (carried-left (h (at q)) y cur p x (ap cur z ∙ state .end gone)))
-        (λ z. same p z x ∙ sym (carried-other (h (at q)) y cur p x (λ w. z (sole p w)))))
+        (λ z. ap cur′ z ∙ passed .left ∙ sym (carried-left (h (at q)) y cur p x (ap cur z ∙ state .end gone)))
+        (λ z. passed .others p z x ∙ sym (carried-other (h (at q)) y cur p x (λ w. z (sole p w)))))
       where
         -- no other position holds the rack
         sole : (p : ℕ) → cur p ≡ h (at q) → p ≡ v
         sole p w = state .table .one p v (λ z. rack (sym w ∙ z)) (w ∙ sym (state .end gone))
 
--- The journey to v, one move more, and then the journey taken back.
-pub carry-undoing : {g : List ℕ} {m c : ℕ} {h l t h′ l′ t′ h″ l″ t″ : List ℕ} {w w′ j′ w″ j″ : ℕ} (r y : ℕ) → Symmetric (Edge g)
-    → (a : JourneyIn (λ p. y ≢ p) g m c h l t w 0 h′ l′ t′ w′ j′) → Journey g m 1 h′ l′ t′ w′ j′ h″ l″ t″ w″ j″ → Same (row h″) (carried r y (row h′))
-    → Undoing g h″ l″ 0 j′ (onto (a .journey .trip .moves) []) (carried r y (row h))
-carry-undoing {h = h} r y sy a b same =
-    record {
-      trail = journey-trail b 0 (onto (a .journey .trip .moves) []) (omega arith) (a .journey .trail 0 [] (omega arith) start);
-      back = back-from same (back-carried sy r y (a .within) (a .journey .trip .went) (done (same-refl (carried r y (row h)))));
-    }
+-- The journey to v, one move more, and then the journey taken back. The log was begun anew.
+module _ {g : List ℕ} {c : ℕ} {x x′ : State} {l t l′ t′ : List ℕ} (anew : x .logged ≡ 0) where
+  pub carry-undoing : {x″ : State} {l″ t″ : List ℕ} (r y : ℕ) → Symmetric (Edge g) → (a : JourneyIn (λ p. y ≢ p) g c x l t x′ l′ t′)
+      → Journey g 1 x′ l′ t′ x″ l″ t″ → Same (row (x″ .racks)) (carried r y (row (x′ .racks)))
+      → Undoing g (x″ .racks) l″ 0 (x′ .logged) (onto (a .journey .trip .moves) []) (carried r y (row (x .racks)))
+  carry-undoing r y sy a b same =
+      record {
+        trail =
+            journey-trail b 0 (onto (a .journey .trip .moves) []) (omega arith)
+            (a .journey .trail 0 [] (omega arith) (subst (λ (j : ℕ). Trail l 0 j []) (sym anew) start));
+        back = back-from same (back-carried sy r y (a .within) (a .journey .trip .went) (done (same-refl (carried r y (row (x .racks))))));
+      }
 
-pub carry-fits : {g : List ℕ} {m c d : ℕ} {h l t h′ l′ t′ h″ l″ t″ : List ℕ} {w w′ j′ w″ j″ : ℕ} → Room h l t w d → c + (1 + c) ≤ d → c ≤ 8256
-    → Journey g m c h l t w 0 h′ l′ t′ w′ j′ → Journey g m 1 h′ l′ t′ w′ j′ h″ l″ t″ w″ j″ → Fits h″ l″ t″ w″ 0 (j′ - 0)
-carry-fits {c = c} {l = l} {l′ = l′} {j′ = j′} room le few a b =
-    let made = a .logged in
-    let most = a .trip .few in
-    let there = room-then {l = l} (room-less (c + (1 + c)) le room) (a .log) (a .trip) in
-    fits-anew (j′ - 0) (omega arith) (omega arith) (room-then {l = l′} there (b .log) (b .trip))
+  pub carry-entries : c ≤ 8256 → Journey g c x l t x′ l′ t′ → Entries 0 (x′ .logged)
+  carry-entries few a =
+      let made = a .logged in
+      let most = a .trip .few in
+      record { ordered = omega arith; within = omega arith }
+
+  pub carry-space : {x″ : State} {l″ t″ : List ℕ} {d : ℕ} → Space x t d → c + (1 + c) ≤ d → Journey g c x l t x′ l′ t′
+      → Journey g 1 x′ l′ t′ x″ l″ t″ → Space x″ t″ (x′ .logged - 0)
+  carry-space space le a b =
+      let made = a .logged in
+      let most = a .trip .few in
+      space-less (x′ .logged - 0) (omega arith) (space-then (space-then (space-less (c + (1 + c)) le space) (a .trip)) (b .trip))

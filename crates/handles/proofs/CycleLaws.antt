@@ -1,7 +1,7 @@
 -- Laws of the cycle through a handle, and of a position beside the handle's right end.
 --
---     lane-stage, lane-floor, lane-order    the stage ends before the floor does; the rows' words hold the floor; so do the row's places
---     lane-apart           different places have different positions
+--     lane-stage, lane-floor, lane-places    the stage ends before the floor does; the rows' words hold the floor; and so the stage
+--     apart lane           different places have different positions
 --     lane-new             a place from s on is none of the stage's positions
 --     stage-below          the stage's positions are on the floor; left-below, right-below, its ends
 --     stage-in, stage-out  the stage as a set and as the places before s
@@ -25,19 +25,24 @@ use Rattle.graph.specs.Rows.{Edge, Rows}
 use Rattle.graph.specs.Nearest.{Nearest}
 use Rattle.graph.proofs.NearestLaws.{nearest-found}
 use Rattle.breakdown.specs.Breakdown.{Among, Between}
+use Rattle.breakdown.specs.Part.{Places, Part}
 use Rattle.breakdown.proofs.StageLaws.{among, Two, robust-neighbours}
-use Rattle.moving.specs.Journey.{row}
-use Rattle.settling.specs.Lane.{Lane, Closed}
+use Rattle.shunting.specs.Journey.{row}
+use Rattle.handles.specs.Lane.{HandleOn, BesideEnd, Closed, Copied}
+use Rattle.handles.proofs.StageLaws.{apart, between-among, among-between}
 
-module _ {n : ℕ} {g : List ℕ} {at : ℕ → ℕ} {s e u v : ℕ} (rows : Rows n g) (lane : Lane n (Edge g) at s e u v) where
+module _ {n : ℕ} {g : List ℕ} {at : ℕ → ℕ} {s e u v : ℕ} (rows : Rows n g) (lane : HandleOn n (Edge g) at s e u v) where
   pub lane-stage : s < n
   lane-stage = let i = lane .handle .inner in let w = lane .within in omega arith
 
   pub lane-floor : (p : ℕ) → p < n → p < 64
   lane-floor p l = let small = rows .small in omega arith
 
-  pub lane-order : (i : ℕ) → i < n → at i < 64
-  lane-order i l = lane-floor (at i) (lane .below i l)
+  pub lane-places : Places at s
+  lane-places =
+      let stage = lane-stage in
+      let small = rows .small in
+      record { most = omega arith; below = λ i l. lane-floor (at i) (lane .below i (omega arith)) }
 
   pub stage-below : (p : ℕ) → Among at s p → p < n
   stage-below p a = let l = a .before in let w = lane-stage in subst (λ (q : ℕ). q < n) (a .is) (lane .below (a .place) (omega arith))
@@ -48,18 +53,15 @@ module _ {n : ℕ} {g : List ℕ} {at : ℕ → ℕ} {s e u v : ℕ} (rows : Row
   pub right-below : v < n
   right-below = stage-below v (lane .handle .right)
 
-  pub lane-apart : (i j : ℕ) → i < n → j < n → i ≢ j → at i ≢ at j
-  lane-apart i j hi hj other = by-cases (decLt i j) (λ l. lane .distinct i j l hj) (λ l e. lane .distinct j i (omega arith) hi (sym e))
-
   pub lane-new : (i p : ℕ) → s ≤ i → i < n → Among at s p → at i ≢ p
-  lane-new i p le l a same = let b = a .before in lane-apart i (a .place) l (omega arith) (omega arith) (same ∙ sym (a .is))
+  lane-new i p le l a same = let b = a .before in apart lane i (a .place) l (omega arith) (omega arith) (same ∙ sym (a .is))
 
-  module _ (stage : ℕ) (has : (p : ℕ) → Has stage p ↔ Between at 0 s p) where
+  module _ (stage : ℕ) (has : Part at 0 s stage) where
     pub stage-in : (p : ℕ) → Among at s p → Has stage p
-    stage-in p a = has p .1 (record { place = a .place; from = omega arith; before = a .before; is = a .is })
+    stage-in p a = has p .1 (among-between a)
 
     pub stage-out : (p : ℕ) → Has stage p → Among at s p
-    stage-out p h = let b = has p .0 h in record { place = b .place; before = b .before; is = b .is }
+    stage-out p h = between-among (has p .0 h)
 
     -- two neighbours of v in the stage
     neighbours : Two (Edge g) (Among at s) v
@@ -75,9 +77,9 @@ module _ {n : ℕ} {g : List ℕ} {at : ℕ → ℕ} {s e u v : ℕ} (rows : Row
         subst (Two (Edge g) (Among at s)) (lane .handle .right .is)
         (robust-neighbours (at k) (at (x .at)) (at (y .at)) (lane .robust) (λ p z. rows .other p p z refl)
         (among at s k hk) (among at s (x .at) (omega arith)) (among at s (y .at) (omega arith))
-        (lane-apart k (x .at) (omega arith) (omega arith) (x .first))
-        (lane-apart k (y .at) (omega arith) (omega arith) (y .first))
-        (lane-apart (x .at) (y .at) (omega arith) (omega arith) (y .second)))
+        (apart lane k (x .at) (omega arith) (omega arith) (x .first))
+        (apart lane k (y .at) (omega arith) (omega arith) (y .first))
+        (apart lane (x .at) (y .at) (omega arith) (omega arith) (y .second)))
 
     module _ (rest : ℕ) (without : (p : ℕ) → Has rest p ↔ (Has (bitAnd (row g v) stage) p × (p ≢ u))) where
       pub beside-some : 0 < rest
@@ -90,11 +92,11 @@ module _ {n : ℕ} {g : List ℕ} {at : ℕ → ℕ} {s e u v : ℕ} (rows : Row
           found : (p : ℕ) → Edge g v p → Among at s p → p ≢ u → 0 < rest
           found p edge there other = has-positive rest p (without p .1 (has-and (row g v) stage p .1 (edge, stage-in p there), other))
 
-      pub beside-is : (r : ℕ) → Has rest r → Among at s r × (u ≢ r) × (v ≢ r) × Edge g v r
+      pub beside-is : (r : ℕ) → Has rest r → BesideEnd (Edge g) at s u v r
       beside-is r h =
           let x = without r .0 h in
           let y = has-and (row g v) stage r .0 (x .0) in
-          (stage-out r (y .1), λ e. x .1 (sym e), rows .other v r (y .0), y .0)
+          record { there = stage-out r (y .1); left = λ e. x .1 (sym e); right = rows .other v r (y .0); edge = y .0 }
 
     module _ (t size : ℕ) (f : ℕ → ℕ) (only : (p : ℕ) → Has t p ↔ (p ≡ u)) (nearest : Nearest (Edge g) (Has stage) (Has t) v size f) where
       pub route-some : 0 < size
@@ -109,7 +111,9 @@ module _ {n : ℕ} {g : List ℕ} {at : ℕ → ℕ} {s e u v : ℕ} (rows : Row
       route-two =
           let some = route-some in
           by-cases (ℕ-discrete size 1)
-          (λ e. let zero : size - 1 ≡ 0 = omega arith in absurd (lane .handle .ends (sym route-last ∙ ap f zero ∙ nearest .path some .first)))
+          (λ e.
+          let zero : size - 1 ≡ 0 = omega arith in
+          absurd (lane .handle .ends (sym route-last ∙ ap f zero ∙ nearest .path some .first)))
           (λ e. omega arith)
 
       on : (i : ℕ) → i < size → Among at s (f i)
@@ -136,16 +140,15 @@ module _ {n : ℕ} {g : List ℕ} {at : ℕ → ℕ} {s e u v : ℕ} (rows : Row
           (λ i j l h e. nearest .path route-some .distinct i j l h
           (sym (seat-is i (decLt i size) (omega arith)) ∙ ap at e ∙ seat-is j (decLt j size) h))
 
-      module _ (first cycle : ℕ → ℕ) (copied : (j : ℕ) → j < e - s → first (0 + j) ≡ at (s + j))
-          (behind : (j : ℕ) → j < size → cycle (e - s + j) ≡ f (0 + j)) (before : (j : ℕ) → j < e - s → cycle j ≡ first j) where
+      module _ {none first cycle : ℕ → ℕ} (copied : Copied at s 0 none first (e - s)) (behind : Copied f 0 (e - s) first cycle size) where
         inner : (j : ℕ) → j < e - s → cycle j ≡ at (s + j)
-        inner j l = let zero : j ≡ 0 + j = omega arith in before j l ∙ ap first zero ∙ copied j l
+        inner j l = let zero : j ≡ 0 + j = omega arith in behind .before j l ∙ ap first zero ∙ copied .copied j l
 
         later : (j : ℕ) → e - s ≤ j → j < e - s + size → cycle j ≡ f (j - (e - s))
         later j le l =
             let same : j ≡ e - s + (j - (e - s)) = omega arith in
             let zero : 0 + (j - (e - s)) ≡ j - (e - s) = omega arith in
-            ap cycle same ∙ behind (j - (e - s)) (omega arith) ∙ ap f zero
+            ap cycle same ∙ behind .copied (j - (e - s)) (omega arith) ∙ ap f zero
 
         ends : cycle (e - s + size - 1) ≡ u
         ends =

@@ -4,13 +4,11 @@
 --     square-less, square-three, square-four, square-most    n * n against n * (n - 1), n * (n - 3), 4 * n and 4096
 --     fetch-bound              two clearings and a carrying are within the bound
 --     place-bound              opening, fetching, bringing, clearing and turning are
---     region-in, region-out    the region as a set
---     region-below             is on the floor
---     fetch-already, fetch-cleared    the rack is in the stage, with a vacancy, with v vacant
---     fetch-reaches-beside     from y a walk inside the region leads to a vacancy
---     fetch-reaches-end        from v one inside the region without y
---     fetch-kept               clearing in the region keeps the state
---     fetch-beside             y stays vacant while v is cleared
+--     lane-four                a floor with a handle has four positions
+--     end-below, end-inside    the region without y, as a set, is on the floor, and inside the region
+--     end-reaches              from v a walk inside it leads to a vacancy
+--     end-beside               y stays vacant while v is cleared
+--     fetch-already            the rack is in the stage already
 --     fetch-place              where the rack is not in the stage, it is inside the handle
 --     fetch-carried            carried to y it is in the stage
 -- Assumes nothing.
@@ -22,23 +20,23 @@ use mathlib.Core.Logic.{_↔_, _≢_, by-cases, inl, inr, ⊎-elim}
 use native.Mathlib.Decide.{decLt}
 use native.Mathlib.Nat.{mul-suc, mul-le-mul}
 use native.Mathlib.Omega.{arith}
-use lib.Bits.{bitOr}
 use Rattle.sets.specs.Sets.{Has}
-use Rattle.sets.proofs.SetLaws.{has-or}
 use Rattle.graph.specs.Connected.{Except}
 use Rattle.graph.proofs.WalkLaws.{walk-inside}
 use Rattle.graph.specs.Rows.{Edge, Rows}
 use Rattle.breakdown.specs.Breakdown.{Among, Between}
+use Rattle.breakdown.specs.Part.{Part}
 use Rattle.breakdown.proofs.StageLaws.{Both, whole-right}
-use Rattle.moving.specs.Went.{Same}
-use Rattle.moving.specs.Turned.{carried}
-use Rattle.moving.proofs.BackLaws.{carried-there, carried-other}
-use Rattle.moving.specs.Cleared.{Reaches, Vacancy, Cleared}
-use Rattle.settling.specs.Table.{Table}
-use Rattle.settling.proofs.TableLaws.{table-other}
-use Rattle.settling.specs.Lane.{Lane, Placing, Fetched}
-use Rattle.handles.proofs.CycleLaws.{lane-stage, lane-new, stage-below, stage-in, stage-out}
-use Rattle.handles.proofs.PlaceLaws.{Region, placing-kept, placing-cleared, placing-vacant, rack-some, rack-other}
+use Rattle.shunting.specs.Went.{Same}
+use Rattle.shunting.specs.Undone.{carried}
+use Rattle.shunting.proofs.BackLaws.{carried-there, carried-other}
+use Rattle.shunting.specs.Cleared.{Inside, Reaches, Vacancy, Cleared}
+use Rattle.shunting.specs.Table.{Table}
+use Rattle.shunting.proofs.TableLaws.{table-other}
+use Rattle.handles.specs.Lane.{HandleOn, BesideEnd, Placing, Fetched}
+use Rattle.handles.proofs.CycleLaws.{lane-stage, lane-new, stage-in, stage-out}
+use Rattle.handles.proofs.StageLaws.{Region, region-below, region-vacant, placing-stays}
+use Rattle.handles.proofs.PlaceLaws.{rack-some, rack-other}
 
 -- a test that failed
 pub fails : {b : Bool} {P : Type 0} → (b ≡ true) ↔ P → b ≡ false → P → ⊥
@@ -64,87 +62,68 @@ square-four n some = let e : 4 ≤ n = omega arith in let r : n ≤ n = omega ar
 pub square-most : (n : ℕ) → n ≤ 64 → n * n ≤ 4096
 square-most n l = mul-le-mul l l
 
-pub fetch-bound : (n : ℕ) → 3 < n → (n - 1) + (n - 1) + (2 * (n * (n - 3)) + 1) ≤ 2 * (n * n)
+pub fetch-bound : (n : ℕ) → 3 < n → 2 * (n - 1) + (2 * (n * (n - 3)) + 1) ≤ 2 * (n * n)
 fetch-bound n l = let e = square-three n (omega arith) in omega arith
 
 pub place-bound : (n : ℕ) → 3 < n → (n - 1) + (2 * (n * n) + (n * (n - 1) + ((n - 1) + n))) ≤ 4 * (n * n)
 place-bound n l = let e = square-less n (omega arith) in let f = square-four n l in omega arith
 
-module _ {n : ℕ} {g : List ℕ} {at : ℕ → ℕ} {s e u v : ℕ} (rows : Rows n g) (lane : Lane n (Edge g) at s e u v) where
+module _ {n : ℕ} {g : List ℕ} {at : ℕ → ℕ} {s e u v : ℕ} (rows : Rows n g) (lane : HandleOn n (Edge g) at s e u v) where
   pub lane-four : 3 < n
   lane-four = let a = lane-stage rows lane in let b = lane .three in omega arith
 
-  module _ (k stage rest : ℕ) (has : (p : ℕ) → Has stage p ↔ Between at 0 s p) (behind : (p : ℕ) → Has rest p ↔ Between at (s + k) e p) where
-    pub region-in : (p : ℕ) → Region at s e k p → Has (bitOr stage rest) p
-    region-in p x = has-or stage rest p .1 (⊎-elim (λ a. inl (stage-in rows lane stage has p a)) (λ b. inr (behind p .1 b)) x)
+  -- the right end cleared with the position beside it held
+  module _ {y : ℕ} (k region free : ℕ) (near : BesideEnd (Edge g) at s u v y) (has : (p : ℕ) → Has region p ↔ Region at s e k p)
+      (without : (p : ℕ) → Has free p ↔ (Has region p × (p ≢ y))) where
+    pub end-below : Inside n free
+    end-below p x = region-below lane k p (has p .0 (without p .0 x .0))
 
-    pub region-out : (p : ℕ) → Has (bitOr stage rest) p → Region at s e k p
-    region-out p x = ⊎-elim (λ a. inl (stage-out rows lane stage has p a)) (λ b. inr (behind p .0 b)) (has-or stage rest p .0 x)
+    pub end-inside : (p : ℕ) → Has free p → Region at s e k p
+    end-inside p x = has p .0 (without p .0 x .0)
 
-    pub region-below : (p : ℕ) → Has (bitOr stage rest) p → p < n
-    region-below p x =
-        ⊎-elim
-        (λ a. stage-below rows lane p a)
-        (λ b. let l = b .before in let w = lane .within in subst (λ (q : ℕ). q < n) (b .is) (lane .below (b .place) (omega arith)))
-        (region-out p x)
+    pub end-reaches : {T h : ℕ → ℕ} → Placing n at T s e k h → Reaches (Edge g) (Has free) h v
+    end-reaches placing =
+        let z = table-other (placing .table) y in
+        let here : Except (Among at s) y v = record { there = lane .handle .right; other = near .right } in
+        let whole =
+        whole-right at s e u v (s + k) (rows .symmetric) (lane .handle) (omega arith) (lane .robust .without y (near .there)) here
+        in
+        let way =
+        whole v (z .0) (inl here)
+        (⊎-elim (λ a. inl (record { there = a; other = z .2 })) (λ b. inr b) (region-vacant lane placing (z .0) (z .1) (z .3)))
+        in
+        record { to = z .0; size = way .size; walk = walk-inside inside (way .walk); vacant = z .3 }
+      where
+        inside : (p : ℕ) → Both (Except (Among at s) y) (Between at (s + k) e) p → Has free p
+        inside p x =
+            ⊎-elim
+            (λ a. without p .1 (has p .1 (inl (a .there)), a .other))
+            (λ b.
+            let l = b .before in
+            let f = b .from in
+            let w = lane .within in
+            without p .1
+            (has p .1 (inr b), λ same. lane-new rows lane (b .place) y (omega arith) (omega arith) (near .there) (b .is ∙ same)))
+            x
 
-    pub fetch-reaches-beside : {h : ℕ → ℕ} (y : ℕ) → Among at s y → Vacancy (Among at s) h → Reaches (Edge g) (Has (bitOr stage rest)) h y
-    fetch-reaches-beside y there z =
-        let whole = whole-right at s e u v (s + k) (rows .symmetric) (lane .handle) (omega arith) (lane .robust .whole) (lane .handle .right) in
-        let way = whole y (z .at) (inl there) (inl (z .there)) in
-        record { to = z .at; size = way .size; walk = walk-inside region-in (way .walk); vacant = z .vacant }
+    pub end-beside : {h h′ : ℕ → ℕ} → Cleared (Has free) v h h′ → h y ≡ 0 → h′ y ≡ 0
+    end-beside cleared vacant = cleared .outside y (λ x. without y .0 x .1 refl) ∙ vacant
 
-    module _ (y : ℕ) (there : Among at s y) (other : v ≢ y) (free : ℕ) (without : (p : ℕ) → Has free p ↔ (Has (bitOr stage rest) p × (p ≢ y))) where
-      pub fetch-reaches-end : {T h : ℕ → ℕ} → Placing n at T s e k h → Reaches (Edge g) (Has free) h v
-      fetch-reaches-end placing =
-          let z = table-other (placing .table) y in
-          let whole = whole-right at s e u v (s + k) (rows .symmetric) (lane .handle) (omega arith) (lane .robust .without y there)
-          (record { there = lane .handle .right; other = other }) in
-          let way = whole v (z .0) (inl (record { there = lane .handle .right; other = other }))
-          (⊎-elim (λ a. inl (record { there = a; other = z .2 })) (λ b. inr b) (placing-vacant rows lane placing (z .0) (z .1) (z .3))) in
-          record { to = z .0; size = way .size; walk = walk-inside inside (way .walk); vacant = z .3 }
-        where
-          inside : (p : ℕ) → Both (Except (Among at s) y) (Between at (s + k) e) p → Has free p
-          inside p x =
-              ⊎-elim
-              (λ a. without p .1 (region-in p (inl (a .there)), a .other))
-              (λ b.
-              let l = b .before in
-              let f = b .from in
-              let w = lane .within in
-              without p .1 (region-in p (inr b), λ same. lane-new rows lane (b .place) y (omega arith) (omega arith) there (b .is ∙ same)))
-              x
-
-      pub fetch-below : (p : ℕ) → Has free p → p < n
-      fetch-below p x = region-below p (without p .0 x .0)
-
-      pub fetch-kept-end : {T h h′ : ℕ → ℕ} → Placing n at T s e k h → Table n h′ → Cleared (Has free) v h h′ → Placing n at T s e k h′
-      fetch-kept-end placing table cleared =
-          placing-cleared rows lane placing (Has free) (λ p x. region-out p (without p .0 x .0)) table (cleared .outside)
-
-      pub fetch-beside : {h h′ : ℕ → ℕ} → Cleared (Has free) v h h′ → h y ≡ 0 → h′ y ≡ 0
-      fetch-beside cleared vacant = cleared .outside y (λ x. without y .0 x .1 refl) ∙ vacant
-
-    pub fetch-kept : {T h h′ : ℕ → ℕ} (p : ℕ) → Placing n at T s e k h → Table n h′ → Cleared (Has (bitOr stage rest)) p h h′
-        → Placing n at T s e k h′
-    fetch-kept p placing table cleared = placing-cleared rows lane placing (Has (bitOr stage rest)) region-out table (cleared .outside)
-
-  module _ {T : ℕ → ℕ} {k : ℕ} {h : ℕ → ℕ} (stage : ℕ) (has : (p : ℕ) → Has stage p ↔ Between at 0 s p)
+  module _ {T : ℕ → ℕ} {k : ℕ} {h : ℕ → ℕ} (stage : ℕ) (has : Part at 0 s stage)
       (placing : Placing n at T s e k h) (more : k < e - s) where
-    pub fetch-already : (p : ℕ) → h p ≡ T (at (e - k - 1)) → Has stage p → Vacancy (Among at s) h → Fetched n at T s e k (T (at (e - k - 1))) h
-    fetch-already p is there z = record { placing = placing; from = p; in-stage = stage-out rows lane stage has p there; there = is; vacancy = z }
+    pub fetch-already : (p : ℕ) → h p ≡ T (at (e - k - 1)) → Has stage p → Vacancy (Among at s) h
+        → Fetched n at T s e k (T (at (e - k - 1))) h
+    fetch-already p is there z =
+        record { placing = placing; from = p; in-stage = stage-out rows lane stage has p there; there = is; vacancy = z }
 
-    pub fetch-cleared : (p : ℕ) → h p ≡ T (at (e - k - 1)) → Has stage p → h v ≡ 0 → Fetched n at T s e k (T (at (e - k - 1))) h
-    fetch-cleared p is there vacant = fetch-already p is there (record { at = v; there = lane .handle .right; vacant = vacant })
-
-    pub fetch-place : (p : ℕ) → p < n → h p ≡ T (at (e - k - 1)) → (Has stage p → ⊥) → (i : ℕ) × (s ≤ i) × (i < e) × (at i ≡ p)
+    pub fetch-place : (p : ℕ) → p < n → h p ≡ T (at (e - k - 1)) → (Has stage p → ⊥) → Between at s e p
     fetch-place p l is away =
         let a = lane .every p l in
         let la = a .before in
         by-cases (decLt (a .place) s)
         (λ y. absurd (away (stage-in rows lane stage has p (record { place = a .place; before = y; is = a .is }))))
         (λ y. by-cases (decLt (a .place) e)
-        (λ z. (a .place, omega arith, z, a .is))
+        (λ z. record { place = a .place; from = omega arith; before = z; is = a .is })
         (λ z. absurd (rack-other rows lane placing more (a .place) la (omega arith)
         (sym (placing .behind (a .place) (omega arith) la) ∙ ap h (a .is) ∙ is))))
 
@@ -159,7 +138,7 @@ module _ {n : ℕ} {g : List ℕ} {at : ℕ → ℕ} {s e u v : ℕ} (rows : Row
         let inner = lane .handle .inner in
         record {
           placing =
-              placing-kept rows lane placing table
+              placing-stays placing table
               (λ j l. kept (at (s + j)) (lane-new rows lane (s + j) y (omega arith) (omega arith) there)
               (λ z. rack-other rows lane placing more (e - k + j) (omega arith) (omega arith) (sym (placing .stacked j l) ∙ z)))
               (λ j le l. kept (at j) (lane-new rows lane j y (omega arith) l there)

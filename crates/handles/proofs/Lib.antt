@@ -5,3 +5,4 @@ pub mod PlaceLaws
 pub mod FetchLaws
 pub mod SettleLaws
 pub mod Examples
+pub mod LaneExamples

@@ -1,9 +1,5 @@
 -- Laws of the state while racks are stacked into a handle, and of one rack put into it.
 --
---     Region at s e k          the stage and the handle's places behind the stack
---     placing-kept             racks moved where neither the stack nor what lies behind the handle stands
---     placing-cleared          racks moved inside the region
---     placing-vacant           a vacancy is in the region
 --     rack-some, rack-there, rack-held    the next rack is one, and stands on the floor
 --     rack-other               no other place has it in the goal
 --     placing-turned           the cycle turned by one: one rack more is stacked
@@ -11,7 +7,7 @@
 --     place-from               once fetched the rack stands in the stage
 --     place-below, place-brought    it is brought to u
 --     place-below-rest, place-cleared, place-held, place-reaches    v is cleared with u held
---     cycle-below, cycle-vacancy    the cycle is on the floor, and v on it is vacant
+--     cycle-simple, cycle-round, cycle-vacancy    the cycle is one of different positions, has its edges, and v on it is vacant
 -- Assumes nothing.
 use Prim.Native.Nat.{ℕ, _+_, _-_, _≤_, _<_}
 use mathlib.Core.Path.{_≡_, refl, sym, ap, subst, _∙_}
@@ -24,96 +20,36 @@ use Rattle.graph.specs.Connected.{Robust}
 use Rattle.graph.proofs.ConnectedLaws.{whole-same}
 use Rattle.graph.proofs.WalkLaws.{walk-inside}
 use Rattle.graph.specs.Rows.{Edge, Rows}
-use Rattle.breakdown.specs.Breakdown.{Among, Between}
-use Rattle.breakdown.proofs.StageLaws.{Both}
-use Rattle.moving.specs.Turned.{Turned}
-use Rattle.moving.specs.Cleared.{Reaches, Vacancy, Cleared, Brought}
-use Rattle.settling.specs.Table.{Table}
-use Rattle.settling.proofs.TableLaws.{table-rack}
-use Rattle.settling.specs.Lane.{Lane, Closed, Placing, Fetched}
-use Rattle.handles.proofs.CycleLaws.{lane-apart, lane-new, stage-below, stage-in, stage-out}
-
-abbrev pub Region : (ℕ → ℕ) → ℕ → ℕ → ℕ → ℕ → Type 0
-Region at s e k = Both (Among at s) (Between at (s + k) e)
+use Rattle.breakdown.specs.Breakdown.{Among}
+use Rattle.breakdown.specs.Part.{Part}
+use Rattle.shunting.specs.Turned.{Simple, Round, Turnable, Turned}
+use Rattle.shunting.specs.Cleared.{Reaches, Vacancy, Cleared, Brought}
+use Rattle.shunting.specs.Table.{Table, Stands}
+use Rattle.shunting.proofs.TableLaws.{table-rack}
+use Rattle.handles.specs.Lane.{HandleOn, Closed, Placing, Fetched}
+use Rattle.handles.proofs.CycleLaws.{lane-new, stage-below, stage-in, stage-out}
+use Rattle.handles.proofs.StageLaws.{apart, placing-kept}
 
 -- the position that has the rack is not vacant
 pub rack-held : {r x : ℕ} → r ≢ 0 → x ≡ r → x ≢ 0
 rack-held some is zero = some (sym is ∙ zero)
 
-module _ {n : ℕ} {g : List ℕ} {at : ℕ → ℕ} {s e u v : ℕ} (rows : Rows n g) (lane : Lane n (Edge g) at s e u v) where
+module _ {n : ℕ} {g : List ℕ} {at : ℕ → ℕ} {s e u v : ℕ} (rows : Rows n g) (lane : HandleOn n (Edge g) at s e u v) where
   module _ {T : ℕ → ℕ} {k : ℕ} {h : ℕ → ℕ} (placing : Placing n at T s e k h) where
-    pub placing-kept : {h′ : ℕ → ℕ} → Table n h′ → ((j : ℕ) → j < k → h′ (at (s + j)) ≡ h (at (s + j)))
-        → ((j : ℕ) → e ≤ j → j < n → h′ (at j) ≡ h (at j))
-        → Placing n at T s e k h′
-    placing-kept table stack behind =
-        record {
-          table = table;
-          goal = placing .goal;
-          filled = placing .filled;
-          few = placing .few;
-          stacked = λ j l. stack j l ∙ placing .stacked j l;
-          behind = λ j le l. behind j le l ∙ placing .behind j le l;
-        }
-
-    outside : (i : ℕ) → s ≤ i → i < n → (s + k ≤ i → i < e → ⊥) → Region at s e k (at i) → ⊥
-    outside i le l other x =
-        let within = lane .within in
-        ⊎-elim
-        (λ a. lane-new rows lane i (at i) le l a refl)
-        (λ b.
-        let f = b .from in
-        let bb = b .before in
-        by-cases (ℕ-discrete (b .place) i)
-        (λ same. other (omega arith) (omega arith))
-        (λ differ. lane-apart rows lane (b .place) i (omega arith) l differ (b .is)))
-        x
-
-    pub placing-cleared : {h′ : ℕ → ℕ} (P : ℕ → Type 0) → ((p : ℕ) → P p → Region at s e k p) → Table n h′ → ((q : ℕ) → (P q → ⊥) → h′ q ≡ h q)
-        → Placing n at T s e k h′
-    placing-cleared P inside table same =
-        let within = lane .within in
-        let inner = lane .handle .inner in
-        let few = placing .few in
-        placing-kept table
-        (λ j l. same (at (s + j)) (λ x. outside (s + j) (omega arith) (omega arith) (λ a b. omega arith) (inside (at (s + j)) x)))
-        (λ j le l. same (at j) (λ x. outside j (omega arith) l (λ a b. omega arith) (inside (at j) x)))
-
-    pub placing-vacant : (x : ℕ) → x < n → h x ≡ 0 → Region at s e k x
-    placing-vacant x l vacant =
-        let a = lane .every x l in
-        let la = a .before in
-        let few = placing .few in
-        let inner = lane .handle .inner in
-        let within = lane .within in
-        by-cases (decLt (a .place) s)
-        (λ y. inl (record { place = a .place; before = y; is = a .is }))
-        (λ y. by-cases (decLt (a .place) (s + k))
-        (λ z.
-        let i = a .place - s in
-        let here : s + i ≡ a .place = omega arith in
-        absurd (placing .filled (e - k + i) (omega arith) (omega arith)
-        (sym (placing .stacked i (omega arith)) ∙ ap (λ (p : ℕ). h (at p)) here ∙ ap h (a .is) ∙ vacant)))
-        (λ z. by-cases (decLt (a .place) e)
-        (λ w. inr (record { place = a .place; from = omega arith; before = w; is = a .is }))
-        (λ w. absurd (placing .filled (a .place) (omega arith) la
-        (sym (placing .behind (a .place) (omega arith) la) ∙ ap h (a .is) ∙ vacant)))))
-
     module _ (more : k < e - s) where
       pub rack-some : T (at (e - k - 1)) ≢ 0
       rack-some = let within = lane .within in placing .filled (e - k - 1) (omega arith) (omega arith)
 
-      pub rack-there : (p : ℕ) × (p < n) × (h p ≡ T (at (e - k - 1)))
-      rack-there =
-          let some = rack-some in
+      pub rack-there : {r : ℕ} → r ≡ T (at (e - k - 1)) → Stands n r h
+      rack-there {r} is =
           let most = placing .goal .most (at (e - k - 1)) in
-          table-rack (placing .table) (T (at (e - k - 1)))
-          (by-cases (ℕ-discrete (T (at (e - k - 1))) 0) (λ z. absurd (some z)) (λ z. omega arith)) most
+          table-rack (placing .table) r (by-cases (ℕ-discrete r 0) (λ z. absurd (rack-some (sym is ∙ z))) (λ z. omega arith)) (omega arith)
 
       -- no other place of the handle or behind it has that rack in the goal
       pub rack-other : (i : ℕ) → i < n → i ≢ e - k - 1 → T (at i) ≢ T (at (e - k - 1))
       rack-other i l other same =
           let within = lane .within in
-          lane-apart rows lane (e - k - 1) i (omega arith) l (λ z. other (sym z))
+          apart lane (e - k - 1) i (omega arith) l (λ z. other (sym z))
           (placing .goal .one (at (e - k - 1)) (at i) rack-some (sym same))
 
       pub placing-turned : {cycle h′ : ℕ → ℕ} {size : ℕ} → Closed n (Edge g) at s e u v cycle size → h u ≡ T (at (e - k - 1))
@@ -148,10 +84,10 @@ module _ {n : ℕ} {g : List ℕ} {at : ℕ → ℕ} {s e u v : ℕ} (rows : Row
               let inner = lane .handle .inner in
               let within = lane .within in
               by-cases (decLt i (e - s))
-              (λ x. lane-apart rows lane (s + i) j (omega arith) l (omega arith) (sym (cl .inner i x) ∙ same))
+              (λ x. apart lane (s + i) j (omega arith) l (omega arith) (sym (cl .inner i x) ∙ same))
               (λ x. lane-new rows lane j (cycle i) (omega arith) l (cl .stage i (omega arith) small) (sym same))
 
-  module _ (stage : ℕ) (has : (p : ℕ) → Has stage p ↔ Between at 0 s p) where
+  module _ (stage : ℕ) (has : Part at 0 s stage) where
     pub stage-robust : Robust (Edge g) (Has stage)
     stage-robust =
         record {
@@ -177,16 +113,17 @@ module _ {n : ℕ} {g : List ℕ} {at : ℕ → ℕ} {s e u v : ℕ} (rows : Row
 
     pub place-brought : {T h h′ : ℕ → ℕ} {k from to : ℕ} → Placing n at T s e k h → Table n h′ → Brought (Has stage) from to h h′
         → Placing n at T s e k h′
-    place-brought placing table b = placing-cleared placing (Has stage) (λ p x. inl (stage-out rows lane stage has p x)) table (b .outside)
+    place-brought placing table b = placing-kept lane placing (λ p x. inl (stage-out rows lane stage has p x)) table (b .outside)
 
     -- v cleared with u held
     module _ (rest : ℕ) (without : (p : ℕ) → Has rest p ↔ (Has stage p × (p ≢ u))) where
       pub place-below-rest : (p : ℕ) → Has rest p → p < n
       place-below-rest p h = place-below p (without p .0 h .0)
 
-      pub place-cleared : {T h h′ : ℕ → ℕ} {k : ℕ} → Placing n at T s e k h → Table n h′ → Cleared (Has rest) v h h′ → Placing n at T s e k h′
+      pub place-cleared : {T h h′ : ℕ → ℕ} {k : ℕ} → Placing n at T s e k h → Table n h′ → Cleared (Has rest) v h h′
+          → Placing n at T s e k h′
       place-cleared placing table cl =
-          placing-cleared placing (Has rest) (λ p x. inl (stage-out rows lane stage has p (without p .0 x .0))) table (cl .outside)
+          placing-kept lane placing (λ p x. inl (stage-out rows lane stage has p (without p .0 x .0))) table (cl .outside)
 
       pub place-held : {h h′ : ℕ → ℕ} → Cleared (Has rest) v h h′ → h′ u ≡ h u
       place-held cl = cl .outside u (λ x. without u .0 x .1 refl)
@@ -198,15 +135,29 @@ module _ {n : ℕ} {g : List ℕ} {at : ℕ → ℕ} {s e u v : ℕ} (rows : Row
           let way = stage-robust .without u (stage-in rows lane stage has u (lane .handle .left)) v (z .at)
           (record { there = stage-in rows lane stage has v (lane .handle .right); other = λ x. lane .handle .ends (sym x) })
           (record { there = z .there; other = away }) in
-          record { to = z .at; size = way .size; walk = walk-inside (λ p x. without p .1 (x .there, x .other)) (way .walk); vacant = z .vacant }
+          record {
+            to = z .at;
+            size = way .size;
+            walk = walk-inside (λ p x. without p .1 (x .there, x .other)) (way .walk);
+            vacant = z .vacant;
+          }
 
   module _ {cycle : ℕ → ℕ} {size : ℕ} (cl : Closed n (Edge g) at s e u v cycle size) where
-    pub cycle-below : (i : ℕ) → i < size → cycle i < n
-    cycle-below i l =
-        let within = lane .within in
-        by-cases (decLt i (e - s))
-        (λ x. subst (λ (p : ℕ). p < n) (sym (cl .inner i x)) (lane .below (s + i) (omega arith)))
-        (λ x. stage-below rows lane (cycle i) (cl .stage i (omega arith) l))
+    pub cycle-simple : Simple cycle size
+    cycle-simple =
+        let small = rows .small in
+        let short = cl .short in
+        record { short = omega arith; below = λ i l. (let b = below i l in omega arith); distinct = cl .distinct }
+      where
+        below : (i : ℕ) → i < size → cycle i < n
+        below i l =
+            let within = lane .within in
+            by-cases (decLt i (e - s))
+            (λ x. subst (λ (p : ℕ). p < n) (sym (cl .inner i x)) (lane .below (s + i) (omega arith)))
+            (λ x. stage-below rows lane (cycle i) (cl .stage i (omega arith) l))
 
-    pub cycle-vacancy : {P : ℕ → Type 0} {h k : ℕ → ℕ} → Cleared P v h k → (i : ℕ) × (i < size) × (k (cycle i) ≡ 0)
-    cycle-vacancy {k = k} x = let long = cl .long in (e - s, omega arith, ap k (cl .turns) ∙ x .vacant)
+    pub cycle-round : Round cycle size g
+    cycle-round = record { joined = cl .joined; closed = cl .closed }
+
+    pub cycle-vacancy : {P : ℕ → Type 0} {h k : ℕ → ℕ} → Cleared P v h k → Turnable cycle size k
+    cycle-vacancy {k = k} x = let long = cl .long in (e - s, record { before = omega arith; vacant = ap k (cl .turns) ∙ x .vacant })

@@ -17,7 +17,7 @@
 use Prim.Native.Nat.{ℕ, zero, suc, _+_, _-_, _*_, _≤_, _<_}
 use mathlib.Core.Path.{_≡_, refl, sym, ap, subst, _∙_}
 use mathlib.Core.List.{List}
-use mathlib.Core.Logic.{_≢_, by-cases}
+use mathlib.Core.Logic.{by-cases}
 use native.Mathlib.Decide.{decLt}
 use native.Mathlib.Nat.{mul-suc, mul-comm, add-mul}
 use native.Mathlib.Numerals.{add-one}
@@ -26,10 +26,11 @@ use lib.ListN.{length}
 use Rattle.graph.specs.Walk.{Symmetric}
 use Rattle.breakdown.specs.Breakdown.{Breakdown}
 use Rattle.breakdown.proofs.StageLaws.{stage-within, stage-robust}
-use Rattle.moving.specs.Journey.{row, Room, Trip}
-use Rattle.moving.proofs.JourneyLaws.{trip-none, trip-more, trip-append, room-then, room-less}
-use Rattle.settling.specs.Table.{Table}
-use Rattle.settling.specs.Lane.{Lane, Placing}
+use Rattle.shunting.specs.declared.State.{State}
+use Rattle.shunting.specs.Journey.{row, Room, Trip}
+use Rattle.shunting.proofs.JourneyLaws.{trip-none, trip-more, trip-append, room-then, room-less}
+use Rattle.shunting.specs.Table.{Table}
+use Rattle.handles.specs.Lane.{HandleOn, Agreed, Filled, Placing}
 
 pub down-up : (i : ℕ) → 0 < i → i - 1 + 1 ≡ i
 down-up i some = omega arith
@@ -48,32 +49,32 @@ times-less a k c l =
     let f = times-next (a - (k + 1)) c in
     omega arith
 
-pub record Settling (g : List ℕ) (m n : ℕ) (at T : ℕ → ℕ) (s e k : ℕ) (h₀ l₀ t₀ : List ℕ) (w₀ : ℕ) (h l t : List ℕ) (w : ℕ) : Type 0 where
-  pub placing : Placing n at T s e k (row h)
-  pub trip : Trip g m (k * (4 * (n * n))) h₀ t₀ w₀ h t w
+pub record Settling (g : List ℕ) (n : ℕ) (at T : ℕ → ℕ) (s e k : ℕ) (x₀ : State) (l₀ t₀ : List ℕ) (x : State) (l t : List ℕ) : Type 0 where
+  pub placing : Placing n at T s e k (row (x .racks))
+  pub trip : Trip g (k * (4 * (n * n))) x₀ t₀ x t
   pub log : length l ≡ length l₀
-  pub room : Room h l t w ((e - s - k) * (4 * (n * n)))
+  pub room : Room x l t ((e - s - k) * (4 * (n * n)))
 
-pub settling-begin : {g : List ℕ} {m n : ℕ} {at T : ℕ → ℕ} {s e : ℕ} {h l t : List ℕ} {w : ℕ} → Placing n at T s e 0 (row h)
-    → Room h l t w ((e - s) * (4 * (n * n))) → Settling g m n at T s e 0 h l t w h l t w
-settling-begin {n = n} {s = s} {e = e} {h = h} {l = l} {t = t} {w = w} placing room =
+pub settling-begin : {g : List ℕ} {n : ℕ} {at T : ℕ → ℕ} {s e : ℕ} {x : State} {l t : List ℕ} → Placing n at T s e 0 (row (x .racks))
+    → Room x l t ((e - s) * (4 * (n * n))) → Settling g n at T s e 0 x l t x l t
+settling-begin {n = n} {s = s} {e = e} {x = x} {l = l} {t = t} placing room =
     record {
       placing = placing;
-      trip = trip-more (0 * (4 * (n * n))) (omega arith) (trip-none h t w);
+      trip = trip-more (0 * (4 * (n * n))) (omega arith) (trip-none x t);
       log = refl;
-      room = subst (λ (x : ℕ). Room h l t w (x * (4 * (n * n)))) (let none : e - s ≡ e - s - 0 = omega arith in none) room;
+      room = subst (λ (c : ℕ). Room x l t (c * (4 * (n * n)))) (let none : e - s ≡ e - s - 0 = omega arith in none) room;
     }
 
-module _ {g : List ℕ} {m n : ℕ} {at T : ℕ → ℕ} {s e k : ℕ} {h₀ l₀ t₀ : List ℕ} {w₀ : ℕ} {h l t : List ℕ} {w : ℕ}
-    (z : Settling g m n at T s e k h₀ l₀ t₀ w₀ h l t w) where
-  pub settling-room : k < e - s → Room h l t w (4 * (n * n))
-  settling-room more = let x = times-less (e - s) k (4 * (n * n)) more in room-less (4 * (n * n)) (omega arith) (z .room)
+module _ {g : List ℕ} {n : ℕ} {at T : ℕ → ℕ} {s e k : ℕ} {x₀ x : State} {l₀ t₀ l t : List ℕ}
+    (z : Settling g n at T s e k x₀ l₀ t₀ x l t) where
+  pub settling-room : k < e - s → Room x l t (4 * (n * n))
+  settling-room more = let y = times-less (e - s) k (4 * (n * n)) more in room-less (4 * (n * n)) (omega arith) (z .room)
 
-  pub settling-next : {h′ l′ t′ : List ℕ} {w′ : ℕ} → k < e - s → Trip g m (4 * (n * n)) h t w h′ t′ w′ → Placing n at T s e (k + 1) (row h′)
-      → length l′ ≡ length l → Settling g m n at T s e (k + 1) h₀ l₀ t₀ w₀ h′ l′ t′ w′
+  pub settling-next : {x′ : State} {l′ t′ : List ℕ} → k < e - s → Trip g (4 * (n * n)) x t x′ t′
+      → Placing n at T s e (k + 1) (row (x′ .racks)) → length l′ ≡ length l → Settling g n at T s e (k + 1) x₀ l₀ t₀ x′ l′ t′
   settling-next more trip placing log =
-      let x = times-less (e - s) k (4 * (n * n)) more in
-      let y = times-next k (4 * (n * n)) in
+      let y = times-less (e - s) k (4 * (n * n)) more in
+      let w = times-next k (4 * (n * n)) in
       record {
         placing = placing;
         trip = trip-more ((k + 1) * (4 * (n * n))) (omega arith) (trip-append (z .trip) trip);
@@ -84,21 +85,20 @@ module _ {g : List ℕ} {m n : ℕ} {at T : ℕ → ℕ} {s e k : ℕ} {h₀ l�
   all : e - s ≤ k → k ≡ e - s
   all done = let few = z .placing .few in omega arith
 
-  pub settling-trip : e - s ≤ k → Trip g m ((e - s) * (4 * (n * n))) h₀ t₀ w₀ h t w
-  settling-trip done = subst (λ (x : ℕ). Trip g m (x * (4 * (n * n))) h₀ t₀ w₀ h t w) (all done) (z .trip)
+  pub settling-trip : e - s ≤ k → Trip g ((e - s) * (4 * (n * n))) x₀ t₀ x t
+  settling-trip done = subst (λ (c : ℕ). Trip g (c * (4 * (n * n))) x₀ t₀ x t) (all done) (z .trip)
 
-  pub settling-end : s ≤ e → e - s ≤ k → (j : ℕ) → s ≤ j → j < n → row h (at j) ≡ T (at j)
+  pub settling-end : s ≤ e → e - s ≤ k → Agreed at T (row (x .racks)) s n
   settling-end some done j le l =
       let same = all done in
       by-cases (decLt j e)
-      (λ x.
+      (λ y.
       let here : s + (j - s) ≡ j = omega arith in
       let there : e - k + (j - s) ≡ j = omega arith in
-      ap (λ (i : ℕ). row h (at i)) (sym here) ∙ z .placing .stacked (j - s) (omega arith) ∙ ap (λ (i : ℕ). T (at i)) there)
-      (λ x. z .placing .behind j (omega arith) l)
+      ap (λ (i : ℕ). row (x .racks) (at i)) (sym here) ∙ z .placing .stacked (j - s) (omega arith) ∙ ap (λ (i : ℕ). T (at i)) there)
+      (λ y. z .placing .behind j (omega arith) l)
 
-pub settled-already : {n : ℕ} {at T : ℕ → ℕ} {s e : ℕ} {h : ℕ → ℕ} → Placing n at T s e 0 h → ((j : ℕ) → s ≤ j → j < e → h (at j) ≡ T (at j))
-    → (j : ℕ) → s ≤ j → j < n → h (at j) ≡ T (at j)
+pub settled-already : {n : ℕ} {at T : ℕ → ℕ} {s e : ℕ} {h : ℕ → ℕ} → Placing n at T s e 0 h → Agreed at T h s e → Agreed at T h s n
 settled-already {e = e} placing same j le l = by-cases (decLt j e) (λ x. same j le x) (λ x. placing .behind j (omega arith) l)
 
 module _ {n : ℕ} {E : ℕ → ℕ → Type 0} {ring c : ℕ} {at start left right : ℕ → ℕ} (sy : Symmetric E)
@@ -117,7 +117,7 @@ module _ {n : ℕ} {E : ℕ → ℕ → Type 0} {ring c : ℕ} {at start left ri
   pub starts-few : n ≤ 64 → (i : ℕ) → i ≤ c → i < 64
   starts-few small i l = let from = starts-from i l in let within = starts-within i l in let three = b .ring-three in omega arith
 
-  pub lane-of : (i : ℕ) → i < c → Lane n E at (start i) (start (i + 1)) (left i) (right i)
+  pub lane-of : (i : ℕ) → i < c → HandleOn n E at (start i) (start (i + 1)) (left i) (right i)
   lane-of i l =
       record {
         robust = stage-robust sy b i (omega arith);
@@ -130,32 +130,33 @@ module _ {n : ℕ} {E : ℕ → ℕ → Type 0} {ring c : ℕ} {at start left ri
       }
 
 -- Handles from i on are settled.
-pub record Handling (g : List ℕ) (m n ring : ℕ) (at start T : ℕ → ℕ) (i : ℕ) (h₀ t₀ : List ℕ) (w₀ : ℕ) (h l t : List ℕ) (w : ℕ) : Type 0 where
-  pub table : Table n (row h)
-  pub settled : (j : ℕ) → start i ≤ j → j < n → row h (at j) ≡ T (at j)
-  pub trip : Trip g m ((n - start i) * (4 * (n * n))) h₀ t₀ w₀ h t w
-  pub room : Room h l t w ((start i - ring) * (4 * (n * n)))
+pub record Handling (g : List ℕ) (n : ℕ) (at start T : ℕ → ℕ) (i : ℕ) (x₀ : State) (t₀ : List ℕ) (x : State) (l t : List ℕ) : Type 0 where
+  pub table : Table n (row (x .racks))
+  pub settled : Agreed at T (row (x .racks)) (start i) n
+  pub trip : Trip g ((n - start i) * (4 * (n * n))) x₀ t₀ x t
+  pub room : Room x l t ((start i - start 0) * (4 * (n * n)))
 
-pub handling-begin : {g : List ℕ} {m n ring : ℕ} {at start T : ℕ → ℕ} {i : ℕ} {h l t : List ℕ} {w : ℕ} → start i ≡ n → Table n (row h)
-    → Room h l t w ((n - ring) * (4 * (n * n))) → Handling g m n ring at start T i h t w h l t w
-handling-begin {n = n} {ring = ring} {start = start} {i = i} {h = h} {l = l} {t = t} {w = w} stops table room =
+pub handling-begin : {g : List ℕ} {n ring : ℕ} {at start T : ℕ → ℕ} {i : ℕ} {x : State} {l t : List ℕ} → start 0 ≡ ring → start i ≡ n
+    → Table n (row (x .racks)) → Room x l t ((n - ring) * (4 * (n * n))) → Handling g n at start T i x t x l t
+handling-begin {n = n} {ring} {start = start} {i = i} {x = x} {l = l} {t = t} begins stops table room =
+    let same : n - ring ≡ start i - start 0 = omega arith in
     record {
       table = table;
       settled = λ j le l. absurd (none j le l);
-      trip = trip-more ((n - start i) * (4 * (n * n))) (omega arith) (trip-none h t w);
-      room = subst (λ (x : ℕ). Room h l t w ((x - ring) * (4 * (n * n)))) (sym stops) room;
+      trip = trip-more ((n - start i) * (4 * (n * n))) (omega arith) (trip-none x t);
+      room = subst (λ (c : ℕ). Room x l t (c * (4 * (n * n)))) same room;
     }
   where
     none : (j : ℕ) → start i ≤ j → j < n → ⊥
     none j le l = omega arith
 
-module _ {g : List ℕ} {m n ring : ℕ} {at start T : ℕ → ℕ} {h₀ t₀ : List ℕ} {w₀ : ℕ} {h l t : List ℕ} {w : ℕ} (i k : ℕ) (next : i + 1 ≡ k)
-    (from : ring ≤ start i) (inner : start i < start (i + 1)) (within : start (i + 1) ≤ n)
-    (z : Handling g m n ring at start T k h₀ t₀ w₀ h l t w) where
+module _ {g : List ℕ} {n ring : ℕ} {at start T : ℕ → ℕ} {x₀ x : State} {t₀ l t : List ℕ} (begins : start 0 ≡ ring) (i k : ℕ)
+    (next : i + 1 ≡ k) (from : ring ≤ start i) (inner : start i < start (i + 1)) (within : start (i + 1) ≤ n)
+    (z : Handling g n at start T k x₀ t₀ x l t) where
   up : start (i + 1) ≡ start k
   up = ap start next
 
-  pub handling-placing : Table n T → ((j : ℕ) → ring ≤ j → j < n → T (at j) ≢ 0) → Placing n at T (start i) (start (i + 1)) 0 (row h)
+  pub handling-placing : Table n T → Filled at T ring n → Placing n at T (start i) (start (i + 1)) 0 (row (x .racks))
   handling-placing goal filled =
       let same = up in
       record {
@@ -171,43 +172,44 @@ module _ {g : List ℕ} {m n ring : ℕ} {at start T : ℕ → ℕ} {h₀ t₀ :
       none j l = omega arith
 
   -- the places to come are those of this handle and those before it
-  split : (start k - ring) * (4 * (n * n)) ≡ (start (i + 1) - start i) * (4 * (n * n)) + (start i - ring) * (4 * (n * n))
+  split : (start k - start 0) * (4 * (n * n)) ≡ (start (i + 1) - start i) * (4 * (n * n)) + (start i - start 0) * (4 * (n * n))
   split =
       let same = up in
-      let e : start k - ring ≡ start (i + 1) - start i + (start i - ring) = omega arith in
-      ap (λ (x : ℕ). x * (4 * (n * n))) e ∙ add-mul (start (i + 1) - start i) (start i - ring) (4 * (n * n))
+      let e : start k - start 0 ≡ start (i + 1) - start i + (start i - start 0) = omega arith in
+      ap (λ (c : ℕ). c * (4 * (n * n))) e ∙ add-mul (start (i + 1) - start i) (start i - start 0) (4 * (n * n))
 
   joined : (n - start i) * (4 * (n * n)) ≡ (n - start k) * (4 * (n * n)) + (start (i + 1) - start i) * (4 * (n * n))
   joined =
       let same = up in
       let e : n - start i ≡ n - start k + (start (i + 1) - start i) = omega arith in
-      ap (λ (x : ℕ). x * (4 * (n * n))) e ∙ add-mul (n - start k) (start (i + 1) - start i) (4 * (n * n))
+      ap (λ (c : ℕ). c * (4 * (n * n))) e ∙ add-mul (n - start k) (start (i + 1) - start i) (4 * (n * n))
 
-  pub handling-room : Room h l t w ((start (i + 1) - start i) * (4 * (n * n)))
-  handling-room = let x = split in room-less ((start (i + 1) - start i) * (4 * (n * n))) (omega arith) (z .room)
+  pub handling-room : Room x l t ((start (i + 1) - start i) * (4 * (n * n)))
+  handling-room = let y = split in room-less ((start (i + 1) - start i) * (4 * (n * n))) (omega arith) (z .room)
 
-  pub handling-next : {h′ l′ t′ : List ℕ} {w′ : ℕ} → Trip g m ((start (i + 1) - start i) * (4 * (n * n))) h t w h′ t′ w′ → Table n (row h′)
-      → ((j : ℕ) → start i ≤ j → j < n → row h′ (at j) ≡ T (at j)) → length l′ ≡ length l
-      → Handling g m n ring at start T i h₀ t₀ w₀ h′ l′ t′ w′
+  pub handling-next : {x′ : State} {l′ t′ : List ℕ} → Trip g ((start (i + 1) - start i) * (4 * (n * n))) x t x′ t′
+      → Table n (row (x′ .racks)) → Agreed at T (row (x′ .racks)) (start i) n → length l′ ≡ length l
+      → Handling g n at start T i x₀ t₀ x′ l′ t′
   handling-next trip table settled log =
-      let x = split in
-      let y = joined in
+      let y = split in
+      let w = joined in
       record {
         table = table;
         settled = settled;
         trip = trip-more ((n - start i) * (4 * (n * n))) (omega arith) (trip-append (z .trip) trip);
-        room = room-then (room-less ((start (i + 1) - start i) * (4 * (n * n)) + (start i - ring) * (4 * (n * n))) (omega arith) (z .room)) log trip;
+        room =
+            room-then
+            (room-less ((start (i + 1) - start i) * (4 * (n * n)) + (start i - start 0) * (4 * (n * n))) (omega arith) (z .room)) log trip;
       }
 
 -- all of them are
-module _ {g : List ℕ} {m n ring : ℕ} {at start T : ℕ → ℕ} {i : ℕ} {h₀ t₀ : List ℕ} {w₀ : ℕ} {h l t : List ℕ} {w : ℕ}
-    (begins : start 0 ≡ ring) (none : i ≡ 0)
-    (z : Handling g m n ring at start T i h₀ t₀ w₀ h l t w) where
+module _ {g : List ℕ} {n ring : ℕ} {at start T : ℕ → ℕ} {i : ℕ} {x₀ x : State} {t₀ l t : List ℕ} (begins : start 0 ≡ ring) (none : i ≡ 0)
+    (z : Handling g n at start T i x₀ t₀ x l t) where
   first : start i ≡ ring
   first = ap start none ∙ begins
 
-  pub handling-trip : Trip g m ((n - ring) * (4 * (n * n))) h₀ t₀ w₀ h t w
-  handling-trip = subst (λ (x : ℕ). Trip g m ((n - x) * (4 * (n * n))) h₀ t₀ w₀ h t w) first (z .trip)
+  pub handling-trip : Trip g ((n - ring) * (4 * (n * n))) x₀ t₀ x t
+  handling-trip = subst (λ (c : ℕ). Trip g ((n - c) * (4 * (n * n))) x₀ t₀ x t) first (z .trip)
 
-  pub handling-end : (j : ℕ) → ring ≤ j → j < n → row h (at j) ≡ T (at j)
+  pub handling-end : Agreed at T (row (x .racks)) ring n
   handling-end j le l = let same = first in z .settled j (omega arith) l

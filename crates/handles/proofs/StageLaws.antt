@@ -1,16 +1,17 @@
 -- Laws of a handle's places, and of the stage that it stands on.
 --
 --     Sought, sought-next, sought-last    the state of `place_of`: p stands at none of the places from s up to i
---     Copied, copied-none, copied-next    the state of `copy_places`: j positions are copied
---     Agreed, agreed-next    the state of `is_settled`: the places from s up to i hold what the goal has there
+--     copied-none, copied-next, copied-all    the state of `copy_places`: no position is copied; one more; fewer than are
+--     agreed-next            the state of `is_settled`: one place more holds what the goal has there
 --     among-between, between-among    the stage as the places from 0 on
 --     Region at s e k        the stage with what is not stacked of the handle: with the places from s + k up to e
---     lane-fits, lane-small  a lane's places and positions are below 64
+--     handle-places          a lane's places and positions are below 64
 --     apart                  two places of a lane hold different positions
 --     region-has, region-below, region-whole    that region as a set; on the floor; whole
 --     region-vacant          both vacancies are in it
 --     region-reaches         from a position of it a way inside it leads to a vacancy
---     placing-kept           what moves nothing outside it keeps the racks that are stacked, and what lies behind the handle
+--     placing-stays          racks moved where neither the stack nor what lies behind the handle stands
+--     placing-kept           racks moved inside the region alone: that is so
 --     stage-vacancy          a position that is vacant and in the stage
 -- Assumes nothing.
 use Prim.Native.Nat.{ℕ, _+_, _-_, _≤_, _<_}
@@ -28,11 +29,12 @@ use Rattle.graph.specs.Walk.{Symmetric}
 use Rattle.graph.proofs.WalkLaws.{walk-inside}
 use Rattle.graph.specs.Connected.{Whole}
 use Rattle.breakdown.specs.Breakdown.{Among, Between}
+use Rattle.breakdown.specs.Part.{Places, Part}
 use Rattle.breakdown.proofs.StageLaws.{Both, whole-right}
-use Rattle.moving.specs.Journey.{row}
-use Rattle.moving.specs.Cleared.{Reaches, Vacancy}
-use Rattle.settling.specs.Table.{Table}
-use Rattle.settling.specs.Lane.{Lane, Placing}
+use Rattle.shunting.specs.Journey.{row}
+use Rattle.shunting.specs.Cleared.{VacantBelow, Reaches, Vacancy}
+use Rattle.shunting.specs.Table.{Table}
+use Rattle.handles.specs.Lane.{HandleOn, PlaceAt, Copied, Agreed, Placing}
 
 abbrev pub Sought : (ℕ → ℕ) → ℕ → ℕ → ℕ → Type 0
 Sought at s p i = (j : ℕ) → s ≤ j → j < i → at j ≢ p
@@ -40,14 +42,12 @@ Sought at s p i = (j : ℕ) → s ≤ j → j < i → at j ≢ p
 pub sought-next : (at : ℕ → ℕ) (s p i : ℕ) → at i ≢ p → Sought at s p i → Sought at s p (i + 1)
 sought-next at s p i other so j le l = by-cases (ℕ-discrete j i) (λ e z. other (ap at (sym e) ∙ z)) (λ e. so j le (omega arith))
 
-pub sought-last : (at : ℕ → ℕ) (s p i e : ℕ) → e ≤ i + 1 → Sought at s p i → (j : ℕ) × (s ≤ j) × (j < e) × (at j ≡ p) → at i ≡ p
-sought-last at s p i e done so x =
-    let l = x .2 in
-    by-cases (ℕ-discrete (x .0) i) (λ z. ap at (sym z) ∙ x .3) (λ z. absurd (so (x .0) (x .1) (omega arith) (x .3)))
-
-pub record Copied (from : ℕ → ℕ) (first to : ℕ) (old new : ℕ → ℕ) (j : ℕ) : Type 0 where
-  pub copied : (i : ℕ) → i < j → new (to + i) ≡ from (first + i)
-  pub before : (i : ℕ) → i < to → new i ≡ old i
+pub sought-last : (at : ℕ → ℕ) (s p i e : ℕ) → s ≤ i → i < e → e ≤ i + 1 → Sought at s p i → Between at s e p → PlaceAt at s e p i
+sought-last at s p i e le lt done so x =
+    let l = x .before in
+    by-cases (ℕ-discrete (x .place) i)
+    (λ z. record { from = le; before = lt; is = ap at (sym z) ∙ x .is })
+    (λ z. absurd (so (x .place) (x .from) (omega arith) (x .is)))
 
 pub copied-none : (from : ℕ → ℕ) (first to : ℕ) (old : ℕ → ℕ) → Copied from first to old old 0
 copied-none from first to old = record { copied = λ i l. absurd (none l); before = λ i l. refl }
@@ -55,7 +55,8 @@ copied-none from first to old = record { copied = λ i l. absurd (none l); befor
     none : {i : ℕ} → i < 0 → ⊥
     none l = omega arith
 
-pub copied-next : (from : ℕ → ℕ) (first to : ℕ) (old : ℕ → ℕ) (new : List ℕ) (j : ℕ) → to + j < length new → Copied from first to old (row new) j
+pub copied-next : (from : ℕ → ℕ) (first to : ℕ) (old : ℕ → ℕ) (new : List ℕ) (j : ℕ) → to + j < length new
+    → Copied from first to old (row new) j
     → Copied from first to old (row (set new (to + j) (from (first + j)))) (j + 1)
 copied-next from first to old new j room s =
     record {
@@ -67,8 +68,9 @@ copied-next from first to old new j room s =
       before = λ i l. getD-set-other new (to + j) i (from (first + j)) 0 (omega arith) ∙ s .before i l;
     }
 
-abbrev pub Agreed : (at T h : ℕ → ℕ) → ℕ → ℕ → Type 0
-Agreed at T h s i = (j : ℕ) → s ≤ j → j < i → h (at j) ≡ T (at j)
+pub copied-all : {from : ℕ → ℕ} {first to : ℕ} {old new : ℕ → ℕ} {j k : ℕ} → k ≤ j → Copied from first to old new j
+    → Copied from first to old new k
+copied-all le s = record { copied = λ i l. s .copied i (omega arith); before = s .before }
 
 pub agreed-next : (at T h : ℕ → ℕ) (s i : ℕ) → h (at i) ≡ T (at i) → Agreed at T h s i → Agreed at T h s (i + 1)
 agreed-next at T h s i here a j le l =
@@ -83,17 +85,28 @@ among-between a = record { place = a .place; from = omega arith; before = a .bef
 abbrev pub Region : (ℕ → ℕ) → ℕ → ℕ → ℕ → ℕ → Type 0
 Region at s e k p = Both (Among at s) (Between at (s + k) e) p
 
-module _ {n : ℕ} {E : ℕ → ℕ → Type 0} {at : ℕ → ℕ} {s e u v : ℕ} (lane : Lane n E at s e u v) where
-  pub lane-fits : n ≤ 64 → e ≤ 64
-  lane-fits small = let within = lane .within in omega arith
+pub placing-stays : {n : ℕ} {at T : ℕ → ℕ} {s e k : ℕ} {h h′ : ℕ → ℕ} → Placing n at T s e k h → Table n h′
+    → ((j : ℕ) → j < k → h′ (at (s + j)) ≡ h (at (s + j))) → ((j : ℕ) → e ≤ j → j < n → h′ (at j) ≡ h (at j)) → Placing n at T s e k h′
+placing-stays placing table stack behind =
+    record {
+      table = table;
+      goal = placing .goal;
+      filled = placing .filled;
+      few = placing .few;
+      stacked = λ j l. stack j l ∙ placing .stacked j l;
+      behind = λ j le l. behind j le l ∙ placing .behind j le l;
+    }
 
-  pub lane-small : n ≤ 64 → (i : ℕ) → i < e → at i < 64
-  lane-small small i l = let within = lane .within in let b = lane .below i (omega arith) in omega arith
+module _ {n : ℕ} {E : ℕ → ℕ → Type 0} {at : ℕ → ℕ} {s e u v : ℕ} (lane : HandleOn n E at s e u v) where
+  pub handle-places : n ≤ 64 → Places at e
+  handle-places small =
+      let within = lane .within in
+      record { most = omega arith; below = λ i l. (let b = lane .below i (omega arith) in omega arith) }
 
   pub apart : (i j : ℕ) → i < n → j < n → i ≢ j → at i ≢ at j
   apart i j hi hj other = by-cases (decLt i j) (λ l. lane .distinct i j l hj) (λ l z. lane .distinct j i (omega arith) hi (sym z))
 
-  pub region-has : (k a b : ℕ) → ((p : ℕ) → Has a p ↔ Between at 0 s p) → ((p : ℕ) → Has b p ↔ Between at (s + k) e p)
+  pub region-has : (k a b : ℕ) → Part at 0 s a → Part at (s + k) e b
       → (p : ℕ) → Has (bitOr a b) p ↔ Region at s e k p
   region-has k a b stage rest p = (
     λ h. ⊎-elim (λ x. inl (between-among (stage p .0 x))) (λ x. inr (rest p .0 x)) (has-or a b p .0 h),
@@ -145,33 +158,37 @@ module _ {n : ℕ} {E : ℕ → ℕ → Type 0} {at : ℕ → ℕ} {s e u v : �
             let inner = lane .handle .inner in
             absurd (placing .filled (a .place) x (a .before) (sym (placing .behind (a .place) (omega arith) (a .before)) ∙ empty))))
 
-    pub region-reaches : {P : ℕ → Type 0} (p : ℕ) → Symmetric E → ((q : ℕ) → Region at s e k q → P q) → Region at s e k p → Reaches E P h p
+    pub region-reaches : {P : ℕ → Type 0} (p : ℕ) → Symmetric E → ((q : ℕ) → Region at s e k q → P q) → Region at s e k p
+        → Reaches E P h p
     region-reaches p sy into here =
         let t = placing .table in
         let way = region-whole k sy p (t .first) here (region-vacant (t .first) (t .first-inside) (t .first-vacant)) in
         record { to = t .first; size = way .size; walk = walk-inside into (way .walk); vacant = t .first-vacant }
 
-    pub placing-kept : {h′ : ℕ → ℕ} → ((p : ℕ) → (Region at s e k p → ⊥) → h′ p ≡ h p) → Table n h′ → Placing n at T s e k h′
-    placing-kept {h′} outside table =
-        let few = placing .few in
-        let inner = lane .handle .inner in
+    outside : (i : ℕ) → s ≤ i → i < n → (s + k ≤ i → i < e → ⊥) → Region at s e k (at i) → ⊥
+    outside i le l other x =
         let within = lane .within in
-        record {
-          table = table;
-          goal = placing .goal;
-          filled = placing .filled;
-          few = placing .few;
-          stacked = λ j l. outside (at (s + j)) (λ r. ⊎-elim
-              (λ x. let b = x .before in apart (x .place) (s + j) (omega arith) (omega arith) (omega arith) (x .is))
-              (λ x. let f = x .from in let b = x .before in apart (x .place) (s + j) (omega arith) (omega arith) (omega arith) (x .is)) r)
-              ∙ placing .stacked j l;
-          behind = λ j f l. outside (at j) (λ r. ⊎-elim
-              (λ x. let b = x .before in apart (x .place) j (omega arith) l (omega arith) (x .is))
-              (λ x. let b = x .before in apart (x .place) j (omega arith) l (omega arith) (x .is)) r)
-              ∙ placing .behind j f l;
-        }
+        ⊎-elim
+        (λ a. let b = a .before in apart (a .place) i (omega arith) l (omega arith) (a .is))
+        (λ b.
+        let f = b .from in
+        let bb = b .before in
+        by-cases (ℕ-discrete (b .place) i)
+        (λ same. other (omega arith) (omega arith))
+        (λ differ. apart (b .place) i (omega arith) l differ (b .is)))
+        x
 
-pub stage-vacancy : {n : ℕ} {at h : ℕ → ℕ} {s : ℕ} (a b : ℕ) → ((p : ℕ) → Has a p ↔ ((p < n) × (h p ≡ 0))) → ((p : ℕ) → Has b p ↔ Between at 0 s p)
+    pub placing-kept : {P : ℕ → Type 0} {h′ : ℕ → ℕ} → ((p : ℕ) → P p → Region at s e k p) → Table n h′
+        → ((p : ℕ) → (P p → ⊥) → h′ p ≡ h p) → Placing n at T s e k h′
+    placing-kept inside table same =
+        let within = lane .within in
+        let inner = lane .handle .inner in
+        let few = placing .few in
+        placing-stays placing table
+        (λ j l. same (at (s + j)) (λ x. outside (s + j) (omega arith) (omega arith) (λ a b. omega arith) (inside (at (s + j)) x)))
+        (λ j le l. same (at j) (λ x. outside j (omega arith) l (λ a b. omega arith) (inside (at j) x)))
+
+pub stage-vacancy : {n : ℕ} {at h : ℕ → ℕ} {s : ℕ} (a b : ℕ) → VacantBelow n h a → Part at 0 s b
     → bitAnd a b ≢ 0 → Vacancy (Among at s) h
 stage-vacancy a b vacant stage some =
     let x = has-some (bitAnd a b) (omega arith) in

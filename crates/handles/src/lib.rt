@@ -1,109 +1,130 @@
-// The handles of a floor, settled one after another, the last first: racks are pushed into a handle like a stack, by bringing each to the handle's left end
-// and turning a cycle through the handle by one place.
-use moving::Tally;
+// The handles of a floor, settled one after another, the last first: racks are pushed into a handle like a stack, by bringing each to the
+// handle's left end and turning a cycle through the handle by one place.
+use breakdown::Breakdown;
+use graph::Route;
+use shunting::Log;
+use shunting::State;
 ghost use mathlib.Core.Bool.{true};
-ghost use mathlib.Core.Logic.{_↔_, _≢_};
+ghost use mathlib.Core.Logic.{_↔_};
 ghost use mathlib.Core.Path.{_≡_};
-ghost use Prim.Native.Nat.{ℕ, _+_, _-_, _*_, _≤_, _<_};
+ghost use Prim.Native.Nat.{_+_, _-_, _*_, _≤_, _<_};
 ghost use lib.ListN.{length};
-ghost use Rattle.sets.specs.Sets.{Has};
 ghost use Rattle.graph.specs.Rows.{Edge, Rows};
-ghost use Rattle.breakdown.specs.Breakdown.{Among, Breakdown};
-ghost use Rattle.moving.specs.Went.{Same};
-ghost use Rattle.moving.specs.Journey.{row, Room, Space, Trip};
-ghost use Rattle.moving.specs.Turned.{carried};
-ghost use Rattle.moving.specs.Cleared.{Vacancy};
-ghost use Rattle.settling.specs.Table.{Table};
-ghost use Rattle.settling.specs.Lane.{Lane, Closed, Placing, Fetched};
+ghost use Rattle.breakdown.specs.Breakdown.{Between};
+ghost use Rattle.breakdown.specs.Part.{Places};
+ghost use Rattle.breakdown.specs.Answer.{BreaksDown};
+ghost use Rattle.shunting.specs.Journey.{row, Room, Space, Trip};
+ghost use Rattle.shunting.specs.Cleared.{Vacancy};
+ghost use Rattle.shunting.specs.Table.{Table};
+ghost use Rattle.handles.specs.Lane.{BesideEnd, After, PlaceAt, Copied, Agreed, Filled};
+ghost use Rattle.handles.specs.Lane.{LaneOn, LaneBeside, LaneClosed, LaneStage, LanePlacing, LaneFetched, LaneStacked, LaneKept};
+ghost use Rattle.handles.specs.Lane.{nextRack, InLane, LaneOpen, LaneCarriable, LaneCarried, LaneSettled};
 
-// Makes sure that the stage has a vacancy: where it has none, v is cleared, which lies in it.
-fn open_stage(
-    rows: &[u64; 64],
-    n: usize,
-    order: &[u8; 64],
-    s: usize,
-    e: usize,
-    v: usize,
-    k: usize,
-    real: usize,
-    racks: &mut [u8; 64],
-    log: &mut [u16; 8256],
-    tail: &mut [u8],
-    written: usize,
-) -> usize
-    requires { ⌜ Rows n (now rows) ⌝ ∗ ⌜ ((u : ℕ) × (T : ℕ → ℕ) × Lane n (Edge (now rows)) (row (now order)) s e u v × Placing n (row (now order)) T s e k (row (now racks))) ⌝ ∗ ⌜ Room (now racks) (now log) (now tail) written (n - 1) ⌝ }
-    ensures { λ r. ⌜ Trip (now (rows .entry)) real (n - 1) (now (racks .entry)) (now (tail .entry)) written (now (racks .exit)) (now (tail .exit)) r ⌝ ∗ ⌜ ((T : ℕ → ℕ) → Placing n (row (now (order .entry))) T s e k (row (now (racks .entry))) → Placing n (row (now (order .entry))) T s e k (row (now (racks .exit)))) × Vacancy (Among (row (now (order .entry))) s) (row (now (racks .exit))) ⌝ ∗ ⌜ length (now (log .exit)) ≡ length (now (log .entry)) ⌝ }
-{
-    let stage = settling::part(order, 0, s);
-    if moving::vacancies(racks, n) & stage != 0 {
-        return written;
-    }
-    let region = stage | settling::part(order, s + k, e);
-    let tally = moving::clear(
-        rows,
-        n,
-        region,
-        v,
-        real,
-        racks,
-        log,
-        tail,
-        Tally { written, logged: 0 },
-    );
-    tally.written
+// A handle: the row of the breakdown, how many positions the floor has, the places of the row from `start` up to `end` at which the
+// handle's inner positions stand, its ends, `left` beside the first of them and `right` beside the last, and a position of the stage beside
+// the right end.
+struct Lane {
+    order: [u8; 64],
+    positions: usize,
+    start: usize,
+    end: usize,
+    left: usize,
+    right: usize,
+    beside: usize,
 }
 
-// The position after place i of the handle: the next place's, or its right end v.
-fn after(order: &[u8; 64], i: usize, e: usize, v: usize) -> usize
-    requires { ⌜ (i < e) × (e ≤ 64) ⌝ }
-    ensures { λ r. ⌜ (i + 1 < e → r ≡ row (now (order .entry)) (i + 1)) × (e ≤ i + 1 → r ≡ v) ⌝ }
+// Makes sure that the stage has a vacancy: where it has none, the right end is cleared, which lies in it.
+fn open_stage(
+    rows: &[u64; 64],
+    lane: Lane,
+    k: usize,
+    state: State,
+    log: &mut Log,
+    tail: &mut [u8],
+) -> State
+    requires { ⌜ Rows (lane .positions) (now rows) ⌝ }
+    requires { ⌜ LaneOn (Edge (now rows)) lane ⌝ }
+    requires { ⌜ LaneStacked lane k (row (state .racks)) ⌝ }
+    requires { ⌜ Room state (now log) (now tail) (lane .positions - 1) ⌝ }
+    ensures { λ r. ⌜ Trip (now (rows .entry)) (lane .positions - 1) state (now (tail .entry)) r (now (tail .exit)) ⌝ }
+    ensures { λ r. ⌜ LaneKept lane k (row (state .racks)) (row (r .racks)) ⌝ }
+    ensures { λ r. ⌜ Vacancy (LaneStage lane) (row (r .racks)) ⌝ }
+    ensures { λ _. ⌜ length (now (log .exit)) ≡ length (now (log .entry)) ⌝ }
 {
-    if e <= i + 1 {
-        return v;
+    let order = lane.order;
+    let racks = state.racks;
+    let n = lane.positions;
+    let s = lane.start;
+    let stage = breakdown::part(&order, 0, s);
+    if shunting::vacancies(&racks, n) & stage != 0 {
+        return state;
+    }
+    let region = stage | breakdown::part(&order, s + k, lane.end);
+    let mut begun = state;
+    begun.logged = 0;
+    shunting::clear(rows, n, region, lane.right, begun, log, tail)
+}
+
+// The position after place i of the handle that ends before place `end`: the next place's, or its right end.
+fn after(order: &[u8; 64], i: usize, end: usize, right: usize) -> usize
+    requires { ⌜ i < end ⌝ }
+    requires { ⌜ end ≤ 64 ⌝ }
+    ensures { λ r. ⌜ After (row (now (order .entry))) end right i r ⌝ }
+{
+    if end <= i + 1 {
+        return right;
     }
     field::wide(order[i + 1])
 }
 
-// Carries the rack at place q of the handle to y, beside v, and leaves everything else as it stands: the rack goes along the handle to v and on to y, and
-// what else was moved for that is taken back.
+// Carries the rack at place q of the handle to the position beside the right end, and leaves everything else as it stands: the rack goes
+// along the handle to the right end and on, and what else was moved for that is taken back.
 fn carry(
     rows: &[u64; 64],
-    n: usize,
-    order: &[u8; 64],
-    s: usize,
-    e: usize,
-    v: usize,
-    y: usize,
+    lane: Lane,
     q: usize,
-    real: usize,
-    racks: &mut [u8; 64],
-    log: &mut [u16; 8256],
+    state: State,
+    log: &mut Log,
     tail: &mut [u8],
-    written: usize,
-) -> usize
-    requires { ⌜ Rows n (now rows) ⌝ ∗ ⌜ ((u : ℕ) × Lane n (Edge (now rows)) (row (now order)) s e u v × (u ≢ y)) ⌝ ∗ ⌜ (s ≤ q) × (q < e) × Among (row (now order)) s y × (v ≢ y) × Edge (now rows) v y ⌝ ∗ ⌜ Table n (row (now racks)) × (row (now racks) v ≡ 0) × (row (now racks) y ≡ 0) × (row (now racks) (row (now order) q) ≢ 0) ⌝ ∗ ⌜ Room (now racks) (now log) (now tail) written (2 * (n * (n - 3)) + 1) ⌝ }
-    ensures { λ r. ⌜ Trip (now (rows .entry)) real (2 * (n * (n - 3)) + 1) (now (racks .entry)) (now (tail .entry)) written (now (racks .exit)) (now (tail .exit)) r ⌝ ∗ ⌜ Same (row (now (racks .exit))) (carried (row (now (racks .entry)) (row (now (order .entry)) q)) y (row (now (racks .entry)))) ⌝ ∗ ⌜ length (now (log .exit)) ≡ length (now (log .entry)) ⌝ }
+) -> State
+    requires { ⌜ Rows (lane .positions) (now rows) ⌝ }
+    requires { ⌜ LaneOn (Edge (now rows)) lane ⌝ }
+    requires { ⌜ LaneBeside (Edge (now rows)) lane ⌝ }
+    requires { ⌜ InLane lane q ⌝ }
+    requires { ⌜ LaneCarriable lane q (row (state .racks)) ⌝ }
+    requires { ⌜ Room state (now log) (now tail) (2 * (lane .positions * (lane .positions - 3)) + 1) ⌝ }
+    ensures { λ r. ⌜ Trip (now (rows .entry)) (2 * (lane .positions * (lane .positions - 3)) + 1)
+        state (now (tail .entry)) r (now (tail .exit)) ⌝ }
+    ensures { λ r. ⌜ LaneCarried lane q (row (state .racks)) (row (r .racks)) ⌝ }
+    ensures { λ _. ⌜ length (now (log .exit)) ≡ length (now (log .entry)) ⌝ }
 {
-    let upper = sets::without(settling::part(order, 0, e), y);
-    let mut tally = Tally { written, logged: 0 };
+    let order = lane.order;
+    let n = lane.positions;
+    let end = lane.end;
+    let right = lane.right;
+    let beside = lane.beside;
+    let upper = sets::without(breakdown::part(&order, 0, end), beside);
+    let mut state = state;
+    state.logged = 0;
     let mut i = q;
-    while i < e {
+    while i < end {
         let here = order[i] as usize;
-        let next = after(order, i, e, v);
+        let next = after(&order, i, end, right);
         let free = sets::without(upper, here);
-        tally = moving::clear(rows, n, free, next, real, racks, log, tail, tally);
-        tally = moving::make_move(here, next, real, racks, log, tail, tally);
+        state = shunting::clear(rows, n, free, next, state, log, tail);
+        state = shunting::make_move(here, next, state, log, tail);
         i += 1;
     }
-    let logged = tally.logged;
-    tally = moving::make_move(v, y, real, racks, log, tail, tally);
-    moving::undo(0, logged, real, racks, log, tail, tally.written)
+    let logged = state.logged;
+    state = shunting::make_move(right, beside, state, log, tail);
+    shunting::undo(0, logged, state, log, tail)
 }
 
-// The place of the handle at which p stands.
+// The place at which p stands, of the places from s up to e.
 fn place_of(order: &[u8; 64], s: usize, e: usize, p: usize) -> usize
-    requires { ⌜ (e ≤ 64) × ((i : ℕ) × (s ≤ i) × (i < e) × (row (now order) i ≡ p)) ⌝ }
-    ensures { λ r. ⌜ (s ≤ r) × (r < e) × (row (now (order .entry)) r ≡ p) ⌝ }
+    requires { ⌜ e ≤ 64 ⌝ }
+    requires { ⌜ Between (row (now order)) s e p ⌝ }
+    ensures { λ r. ⌜ PlaceAt (row (now (order .entry))) s e p r ⌝ }
 {
     let mut i = s;
     while i + 1 < e {
@@ -115,172 +136,156 @@ fn place_of(order: &[u8; 64], s: usize, e: usize, p: usize) -> usize
     i
 }
 
-// Brings the next rack for the handle, the one that the goal has at place e - k - 1, into the stage, where it is not there already. The k racks that are
-// stacked stay, and so does what lies behind the handle.
+// The rack that comes next for the handle: the goal has it at the last place that is not stacked for.
+fn next_rack(lane: Lane, k: usize, goal: &[u8; 64]) -> u8
+    requires { ⌜ Places (row (lane .order)) (lane .end) ⌝ }
+    requires { ⌜ k < lane .end - lane .start ⌝ }
+    ensures { λ r. ⌜ r ≡ nextRack lane (row (now (goal .entry))) k ⌝ }
+{
+    let order = lane.order;
+    let at = lane.end - k - 1;
+    goal[order[at] as usize]
+}
+
+// Clears the position beside the right end, and then the right end, with the stack and what lies behind the handle held.
+fn open_end(
+    rows: &[u64; 64],
+    lane: Lane,
+    k: usize,
+    state: State,
+    log: &mut Log,
+    tail: &mut [u8],
+) -> State
+    requires { ⌜ Rows (lane .positions) (now rows) ⌝ }
+    requires { ⌜ LaneOn (Edge (now rows)) lane ⌝ }
+    requires { ⌜ LaneBeside (Edge (now rows)) lane ⌝ }
+    requires { ⌜ LaneStacked lane k (row (state .racks)) ⌝ }
+    requires { ⌜ Room state (now log) (now tail) (2 * (lane .positions - 1)) ⌝ }
+    ensures { λ r. ⌜ Trip (now (rows .entry)) (2 * (lane .positions - 1)) state (now (tail .entry)) r (now (tail .exit)) ⌝ }
+    ensures { λ r. ⌜ LaneKept lane k (row (state .racks)) (row (r .racks)) ⌝ }
+    ensures { λ r. ⌜ LaneOpen lane (row (r .racks)) ⌝ }
+    ensures { λ _. ⌜ length (now (log .exit)) ≡ length (now (log .entry)) ⌝ }
+{
+    let order = lane.order;
+    let n = lane.positions;
+    let s = lane.start;
+    let beside = lane.beside;
+    let stage = breakdown::part(&order, 0, s);
+    let region = stage | breakdown::part(&order, s + k, lane.end);
+    let mut begun = state;
+    begun.logged = 0;
+    let aside = shunting::clear(rows, n, region, beside, begun, log, tail);
+    let free = sets::without(region, beside);
+    shunting::clear(rows, n, free, lane.right, aside, log, tail)
+}
+
+// Brings the next rack for the handle into the stage, where it is not there already. The k racks that are stacked stay, and so does what
+// lies behind the handle.
 fn fetch(
     rows: &[u64; 64],
-    n: usize,
-    order: &[u8; 64],
-    s: usize,
-    e: usize,
-    v: usize,
-    y: usize,
+    lane: Lane,
     k: usize,
     goal: &[u8; 64],
-    real: usize,
-    racks: &mut [u8; 64],
-    log: &mut [u16; 8256],
+    state: State,
+    log: &mut Log,
     tail: &mut [u8],
-    written: usize,
-) -> usize
-    requires { ⌜ Rows n (now rows) ⌝ ∗ ⌜ ((u : ℕ) × Lane n (Edge (now rows)) (row (now order)) s e u v × (u ≢ y)) ⌝ ∗ ⌜ Among (row (now order)) s y × (v ≢ y) × Edge (now rows) v y ⌝ ∗ ⌜ Placing n (row (now order)) (row (now goal)) s e k (row (now racks)) × (k < e - s) × Vacancy (Among (row (now order)) s) (row (now racks)) ⌝ ∗ ⌜ Room (now racks) (now log) (now tail) written (2 * (n * n)) ⌝ }
-    ensures { λ r. ⌜ Trip (now (rows .entry)) real (2 * (n * n)) (now (racks .entry)) (now (tail .entry)) written (now (racks .exit)) (now (tail .exit)) r ⌝ ∗ ⌜ Fetched n (row (now (order .entry))) (row (now (goal .entry))) s e k (row (now (goal .entry)) (row (now (order .entry)) (e - k - 1))) (row (now (racks .exit))) ⌝ ∗ ⌜ length (now (log .exit)) ≡ length (now (log .entry)) ⌝ }
+) -> State
+    requires { ⌜ Rows (lane .positions) (now rows) ⌝ }
+    requires { ⌜ LaneOn (Edge (now rows)) lane ⌝ }
+    requires { ⌜ LaneBeside (Edge (now rows)) lane ⌝ }
+    requires { ⌜ LanePlacing lane (row (now goal)) k (row (state .racks)) ⌝ }
+    requires { ⌜ k < lane .end - lane .start ⌝ }
+    requires { ⌜ Vacancy (LaneStage lane) (row (state .racks)) ⌝ }
+    requires { ⌜ Room state (now log) (now tail) (2 * (lane .positions * lane .positions)) ⌝ }
+    ensures { λ r. ⌜ Trip (now (rows .entry)) (2 * (lane .positions * lane .positions)) state (now (tail .entry)) r (now (tail .exit)) ⌝ }
+    ensures { λ r. ⌜ LaneFetched lane (row (now (goal .entry))) k (row (r .racks)) ⌝ }
+    ensures { λ _. ⌜ length (now (log .exit)) ≡ length (now (log .entry)) ⌝ }
 {
-    let rack = goal[order[e - k - 1] as usize];
-    let stage = settling::part(order, 0, s);
-    if sets::has(stage, settling::where_is(racks, n, rack)) {
-        return written;
+    let order = lane.order;
+    let n = lane.positions;
+    let s = lane.start;
+    let rack = next_rack(lane, k, goal);
+    let stage = breakdown::part(&order, 0, s);
+    let racks = state.racks;
+    if sets::has(stage, shunting::where_is(&racks, n, rack)) {
+        return state;
     }
-    let region = stage | settling::part(order, s + k, e);
-    let mut tally = moving::clear(
-        rows,
-        n,
-        region,
-        y,
-        real,
-        racks,
-        log,
-        tail,
-        Tally { written, logged: 0 },
-    );
-    tally = moving::clear(
-        rows,
-        n,
-        sets::without(region, y),
-        v,
-        real,
-        racks,
-        log,
-        tail,
-        tally,
-    );
-    let at = settling::where_is(racks, n, rack);
+    let open = open_end(rows, lane, k, state, log, tail);
+    let moved = open.racks;
+    let at = shunting::where_is(&moved, n, rack);
     if sets::has(stage, at) {
-        return tally.written;
+        return open;
     }
-    let q = place_of(order, s, e, at);
-    carry(
-        rows,
-        n,
-        order,
-        s,
-        e,
-        v,
-        y,
-        q,
-        real,
-        racks,
-        log,
-        tail,
-        tally.written,
-    )
+    let q = place_of(&order, s, lane.end, at);
+    carry(rows, lane, q, open, log, tail)
 }
 
-// Puts the next rack into the handle: brought to the left end u, it enters the handle's first place as the cycle through the handle turns by one, and the
-// stack moves up.
+// Puts the next rack into the handle: brought to the left end, it enters the handle's first place as the cycle through the handle turns by
+// one, and the stack moves up.
 fn place(
     rows: &[u64; 64],
-    n: usize,
-    order: &[u8; 64],
-    s: usize,
-    e: usize,
-    u: usize,
-    v: usize,
-    y: usize,
-    cycle: &[u8; 64],
-    size: usize,
+    lane: Lane,
+    cycle: Route,
     k: usize,
     goal: &[u8; 64],
-    real: usize,
-    racks: &mut [u8; 64],
-    log: &mut [u16; 8256],
+    state: State,
+    log: &mut Log,
     tail: &mut [u8],
-    written: usize,
-) -> usize
-    requires { ⌜ Rows n (now rows) ⌝ ∗ ⌜ Lane n (Edge (now rows)) (row (now order)) s e u v × Closed n (Edge (now rows)) (row (now order)) s e u v (row (now cycle)) size ⌝ ∗ ⌜ Among (row (now order)) s y × (u ≢ y) × (v ≢ y) × Edge (now rows) v y ⌝ ∗ ⌜ Placing n (row (now order)) (row (now goal)) s e k (row (now racks)) × (k < e - s) ⌝ ∗ ⌜ Room (now racks) (now log) (now tail) written (4 * (n * n)) ⌝ }
-    ensures { λ r. ⌜ Trip (now (rows .entry)) real (4 * (n * n)) (now (racks .entry)) (now (tail .entry)) written (now (racks .exit)) (now (tail .exit)) r ⌝ ∗ ⌜ Placing n (row (now (order .entry))) (row (now (goal .entry))) s e (k + 1) (row (now (racks .exit))) ⌝ ∗ ⌜ length (now (log .exit)) ≡ length (now (log .entry)) ⌝ }
+) -> State
+    requires { ⌜ Rows (lane .positions) (now rows) ⌝ }
+    requires { ⌜ LaneOn (Edge (now rows)) lane ⌝ }
+    requires { ⌜ LaneBeside (Edge (now rows)) lane ⌝ }
+    requires { ⌜ LaneClosed (Edge (now rows)) lane cycle ⌝ }
+    requires { ⌜ LanePlacing lane (row (now goal)) k (row (state .racks)) ⌝ }
+    requires { ⌜ k < lane .end - lane .start ⌝ }
+    requires { ⌜ Room state (now log) (now tail) (4 * (lane .positions * lane .positions)) ⌝ }
+    ensures { λ r. ⌜ Trip (now (rows .entry)) (4 * (lane .positions * lane .positions)) state (now (tail .entry)) r (now (tail .exit)) ⌝ }
+    ensures { λ r. ⌜ LanePlacing lane (row (now (goal .entry))) (k + 1) (row (r .racks)) ⌝ }
+    ensures { λ _. ⌜ length (now (log .exit)) ≡ length (now (log .entry)) ⌝ }
 {
-    let rack = goal[order[e - k - 1] as usize];
-    let stage = settling::part(order, 0, s);
-    let opened = open_stage(rows, n, order, s, e, v, k, real, racks, log, tail, written);
-    let fetched = fetch(
+    let order = lane.order;
+    let n = lane.positions;
+    let left = lane.left;
+    let rack = next_rack(lane, k, goal);
+    let stage = breakdown::part(&order, 0, lane.start);
+    let opened = open_stage(rows, lane, k, state, log, tail);
+    let mut fetched = fetch(rows, lane, k, goal, opened, log, tail);
+    fetched.logged = 0;
+    let racks = fetched.racks;
+    let from = shunting::where_is(&racks, n, rack);
+    let brought = shunting::bring(rows, n, stage, from, left, fetched, log, tail);
+    let cleared = shunting::clear(
         rows,
         n,
-        order,
-        s,
-        e,
-        v,
-        y,
-        k,
-        goal,
-        real,
-        racks,
+        sets::without(stage, left),
+        lane.right,
+        brought,
         log,
         tail,
-        opened,
     );
-    let from = settling::where_is(racks, n, rack);
-    let mut tally = moving::bring(
-        rows,
-        n,
-        stage,
-        from,
-        u,
-        real,
-        racks,
-        log,
-        tail,
-        Tally {
-            written: fetched,
-            logged: 0,
-        },
-    );
-    tally = moving::clear(
-        rows,
-        n,
-        sets::without(stage, u),
-        v,
-        real,
-        racks,
-        log,
-        tail,
-        tally,
-    );
-    tally = moving::turn(cycle, size, real, racks, log, tail, tally);
-    tally.written
+    let at = cycle.at;
+    shunting::turn(&at, cycle.size, cleared, log, tail)
 }
 
-// A position of the stage beside the right end v that is neither end.
-fn beside_end(
-    rows: &[u64; 64],
-    n: usize,
-    order: &[u8; 64],
-    s: usize,
-    e: usize,
-    u: usize,
-    v: usize,
-) -> usize
-    requires { ⌜ Rows n (now rows) ⌝ ∗ ⌜ Lane n (Edge (now rows)) (row (now order)) s e u v ⌝ }
-    ensures { λ r. ⌜ Among (row (now (order .entry))) s r × (u ≢ r) × (v ≢ r) × Edge (now (rows .entry)) v r ⌝ }
+// A position of the stage beside the right end that is neither end.
+fn beside_end(rows: &[u64; 64], lane: Lane) -> usize
+    requires { ⌜ Rows (lane .positions) (now rows) ⌝ }
+    requires { ⌜ LaneOn (Edge (now rows)) lane ⌝ }
+    ensures { λ r. ⌜ BesideEnd (Edge (now (rows .entry))) (row (lane .order)) (lane .start) (lane .left) (lane .right) r ⌝ }
 {
-    let stage = settling::part(order, 0, s);
-    sets::lowest(sets::without(rows[v] & stage, u))
+    let order = lane.order;
+    let right = lane.right;
+    let stage = breakdown::part(&order, 0, lane.start);
+    sets::lowest(sets::without(rows[right] & stage, lane.left))
 }
 
 // Copies `count` positions into the cycle from place `to` on.
 fn copy_places(from: &[u8; 64], first: usize, count: usize, to: usize, cycle: &mut [u8; 64])
-    requires { ⌜ (first + count ≤ 64) × (to + count ≤ 64) × (length (now cycle) ≡ 64) ⌝ }
-    ensures { λ _. ⌜ ((j : ℕ) → j < count → row (now (cycle .exit)) (to + j) ≡ row (now (from .entry)) (first + j)) × ((j : ℕ) → j < to → row (now (cycle .exit)) j ≡ row (now (cycle .entry)) j) × (length (now (cycle .exit)) ≡ 64) ⌝ }
+    requires { ⌜ first + count ≤ 64 ⌝ }
+    requires { ⌜ to + count ≤ 64 ⌝ }
+    requires { ⌜ length (now cycle) ≡ 64 ⌝ }
+    ensures { λ _. ⌜ Copied (row (now (from .entry))) first to (row (now (cycle .entry))) (row (now (cycle .exit))) count ⌝ }
+    ensures { λ _. ⌜ length (now (cycle .exit)) ≡ 64 ⌝ }
 {
     let mut j: usize = 0;
     while j < count {
@@ -289,34 +294,32 @@ fn copy_places(from: &[u8; 64], first: usize, count: usize, to: usize, cycle: &m
     }
 }
 
-// The cycle through the handle: its inner positions, then a shortest way from v to u through the stage. Yields its size.
-fn close_cycle(
-    rows: &[u64; 64],
-    n: usize,
-    order: &[u8; 64],
-    s: usize,
-    e: usize,
-    u: usize,
-    v: usize,
-    cycle: &mut [u8; 64],
-) -> usize
-    requires { ⌜ Rows n (now rows) ⌝ ∗ ⌜ Lane n (Edge (now rows)) (row (now order)) s e u v ⌝ ∗ ⌜ length (now cycle) ≡ 64 ⌝ }
-    ensures { λ r. ⌜ Closed n (Edge (now (rows .entry))) (row (now (order .entry))) s e u v (row (now (cycle .exit))) r ⌝ }
+// The cycle through the handle: its inner positions, then a shortest way from its right end to its left end through the stage.
+fn close_cycle(rows: &[u64; 64], lane: Lane) -> Route
+    requires { ⌜ Rows (lane .positions) (now rows) ⌝ }
+    requires { ⌜ LaneOn (Edge (now rows)) lane ⌝ }
+    ensures { λ r. ⌜ LaneClosed (Edge (now (rows .entry))) lane r ⌝ }
 {
-    let stage = settling::part(order, 0, s);
-    let route = graph::search(rows, stage, sets::only(u), v);
-    let at = route.at;
+    let order = lane.order;
+    let s = lane.start;
+    let stage = breakdown::part(&order, 0, s);
+    let route = graph::search(rows, stage, sets::only(lane.left), lane.right);
+    let way = route.at;
     let size = route.size;
-    let inner = e - s;
-    copy_places(order, s, inner, 0, cycle);
-    copy_places(&at, 0, size, inner, cycle);
-    inner + size
+    let inner = lane.end - s;
+    let mut at = [0u8; 64];
+    copy_places(&order, s, inner, 0, &mut at);
+    copy_places(&way, 0, size, inner, &mut at);
+    Route {
+        at,
+        size: inner + size,
+    }
 }
 
-// Does the handle hold what the goal has there?
+// Do the places from s up to e hold what the goal has there?
 fn is_settled(order: &[u8; 64], s: usize, e: usize, goal: &[u8; 64], racks: &[u8; 64]) -> bool
-    requires { ⌜ (e ≤ 64) × ((i : ℕ) → i < e → row (now order) i < 64) ⌝ }
-    ensures { λ r. ⌜ (r ≡ true) ↔ ((j : ℕ) → s ≤ j → j < e → row (now (racks .entry)) (row (now (order .entry)) j) ≡ row (now (goal .entry)) (row (now (order .entry)) j)) ⌝ }
+    requires { ⌜ Places (row (now order)) e ⌝ }
+    ensures { λ r. ⌜ (r ≡ true) ↔ Agreed (row (now (order .entry))) (row (now (goal .entry))) (row (now (racks .entry))) s e ⌝ }
 {
     let mut i = s;
     while i < e {
@@ -332,98 +335,79 @@ fn is_settled(order: &[u8; 64], s: usize, e: usize, goal: &[u8; 64], racks: &[u8
 // Settles a handle.
 fn settle_handle(
     rows: &[u64; 64],
-    n: usize,
-    order: &[u8; 64],
-    s: usize,
-    e: usize,
-    u: usize,
-    v: usize,
+    lane: Lane,
     goal: &[u8; 64],
-    real: usize,
-    racks: &mut [u8; 64],
-    log: &mut [u16; 8256],
+    state: State,
+    log: &mut Log,
     tail: &mut [u8],
-    written: usize,
-) -> usize
-    requires { ⌜ Rows n (now rows) ⌝ ∗ ⌜ Lane n (Edge (now rows)) (row (now order)) s e u v ⌝ ∗ ⌜ Placing n (row (now order)) (row (now goal)) s e 0 (row (now racks)) ⌝ ∗ ⌜ Room (now racks) (now log) (now tail) written ((e - s) * (4 * (n * n))) ⌝ }
-    ensures { λ r. ⌜ Trip (now (rows .entry)) real ((e - s) * (4 * (n * n))) (now (racks .entry)) (now (tail .entry)) written (now (racks .exit)) (now (tail .exit)) r ⌝ ∗ ⌜ Table n (row (now (racks .exit))) × ((j : ℕ) → s ≤ j → j < n → row (now (racks .exit)) (row (now (order .entry)) j) ≡ row (now (goal .entry)) (row (now (order .entry)) j)) ⌝ ∗ ⌜ length (now (log .exit)) ≡ length (now (log .entry)) ⌝ }
+) -> State
+    requires { ⌜ Rows (lane .positions) (now rows) ⌝ }
+    requires { ⌜ LaneOn (Edge (now rows)) lane ⌝ }
+    requires { ⌜ LanePlacing lane (row (now goal)) 0 (row (state .racks)) ⌝ }
+    requires { ⌜ Room state (now log) (now tail) ((lane .end - lane .start) * (4 * (lane .positions * lane .positions))) ⌝ }
+    ensures { λ r. ⌜ Trip (now (rows .entry)) ((lane .end - lane .start) * (4 * (lane .positions * lane .positions)))
+        state (now (tail .entry)) r (now (tail .exit)) ⌝ }
+    ensures { λ r. ⌜ LaneSettled lane (row (now (goal .entry))) (row (r .racks)) ⌝ }
+    ensures { λ _. ⌜ length (now (log .exit)) ≡ length (now (log .entry)) ⌝ }
 {
-    if is_settled(order, s, e, goal, racks) {
-        return written;
+    let order = lane.order;
+    let racks = state.racks;
+    let s = lane.start;
+    let e = lane.end;
+    if is_settled(&order, s, e, goal, &racks) {
+        return state;
     }
-    let y = beside_end(rows, n, order, s, e, u, v);
-    let mut cycle = [0u8; 64];
-    let size = close_cycle(rows, n, order, s, e, u, v, &mut cycle);
-    let mut written = written;
+    let mut lane = lane;
+    let beside = beside_end(rows, lane);
+    lane.beside = beside;
+    let cycle = close_cycle(rows, lane);
+    let mut state = state;
     let mut k: usize = 0;
     while k < e - s {
-        written = place(
-            rows,
-            n,
-            order,
-            s,
-            e,
-            u,
-            v,
-            y,
-            &cycle,
-            size,
-            k,
-            goal,
-            real,
-            racks,
-            log,
-            tail,
-            written,
-        );
+        state = place(rows, lane, cycle, k, goal, state, log, tail);
         k += 1;
     }
-    written
+    state
 }
 
 // Settles all the handles of a breakdown, the last first.
 pub fn settle_handles(
     rows: &[u64; 64],
     n: usize,
-    ring: usize,
-    handles: usize,
-    order: &[u8; 64],
-    start: &[u8; 64],
-    left: &[u8; 64],
-    right: &[u8; 64],
+    breakdown: Breakdown,
     goal: &[u8; 64],
-    real: usize,
-    racks: &mut [u8; 64],
+    state: State,
     tail: &mut [u8],
-    written: usize,
-) -> usize
-    requires { ⌜ Rows n (now rows) ⌝ ∗ ⌜ Breakdown n (Edge (now rows)) ring handles (row (now order)) (row (now start)) (row (now left)) (row (now right)) ⌝ ∗ ⌜ Table n (row (now racks)) × Table n (row (now goal)) × ((j : ℕ) → ring ≤ j → j < n → row (now goal) (row (now order) j) ≢ 0) ⌝ ∗ ⌜ Space (now racks) (now tail) written ((n - ring) * (4 * (n * n))) ⌝ }
-    ensures { λ r. ⌜ Trip (now (rows .entry)) real ((n - ring) * (4 * (n * n))) (now (racks .entry)) (now (tail .entry)) written (now (racks .exit)) (now (tail .exit)) r ⌝ ∗ ⌜ Table n (row (now (racks .exit))) × ((j : ℕ) → ring ≤ j → j < n → row (now (racks .exit)) (row (now (order .entry)) j) ≡ row (now (goal .entry)) (row (now (order .entry)) j)) ⌝ }
+) -> State
+    requires { ⌜ Rows n (now rows) ⌝ }
+    requires { ⌜ BreaksDown n (Edge (now rows)) breakdown ⌝ }
+    requires { ⌜ Table n (row (state .racks)) ⌝ }
+    requires { ⌜ Table n (row (now goal)) ⌝ }
+    requires { ⌜ Filled (row (breakdown .order)) (row (now goal)) (breakdown .ring) n ⌝ }
+    requires { ⌜ Space state (now tail) ((n - breakdown .ring) * (4 * (n * n))) ⌝ }
+    ensures { λ r. ⌜ Trip (now (rows .entry)) ((n - breakdown .ring) * (4 * (n * n))) state (now (tail .entry)) r (now (tail .exit)) ⌝ }
+    ensures { λ r. ⌜ Table n (row (r .racks)) ⌝ }
+    ensures { λ r. ⌜ Agreed (row (breakdown .order)) (row (now (goal .entry))) (row (r .racks)) (breakdown .ring) n ⌝ }
 {
-    let mut log = [0u16; 8256];
-    let mut written = written;
-    let mut i = handles;
+    let order = breakdown.order;
+    let starts = breakdown.start;
+    let lefts = breakdown.left;
+    let rights = breakdown.right;
+    let mut log = [0u16; shunting::LOG];
+    let mut state = state;
+    let mut i = breakdown.handles;
     while 0 < i {
         i -= 1;
-        let s = start[i] as usize;
-        let e = start[i + 1] as usize;
-        let u = left[i] as usize;
-        let v = right[i] as usize;
-        written = settle_handle(
-            rows,
-            n,
+        let lane = Lane {
             order,
-            s,
-            e,
-            u,
-            v,
-            goal,
-            real,
-            racks,
-            &mut log,
-            tail,
-            written,
-        );
+            positions: n,
+            start: starts[i] as usize,
+            end: starts[i + 1] as usize,
+            left: lefts[i] as usize,
+            right: rights[i] as usize,
+            beside: 0,
+        };
+        state = settle_handle(rows, lane, goal, state, &mut log, tail);
     }
-    written
+    state
 }

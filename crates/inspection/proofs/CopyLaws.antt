@@ -52,14 +52,15 @@ copied-all row at k old new e c = subst (λ (j : ℕ). Copied row at j old new) 
 pub laid-out : (order start left right : ℕ → ℕ) (b₀ b₁ b₂ b₃ b₄ : List ℕ)
     → Copied order 0 64 b₀ b₁ → Copied start 64 64 b₁ b₂ → Copied left 128 64 b₂ b₃ → Copied right 192 64 b₃ b₄
     → LaidOut order start left right b₀ b₄
-laid-out order start left right b₀ b₁ b₂ b₃ b₄ o s l r =
-    record {
-      order-bytes = λ i h.
-          let z : 0 + i ≡ i = omega arith in
-          r .before i (omega arith) ∙ l .before i (omega arith) ∙ s .before i (omega arith) ∙ ap (λ (j : ℕ). getD b₁ j 0) (sym z) ∙ o .inside i h;
-      start-bytes = λ i h. r .before (64 + i) (omega arith) ∙ l .before (64 + i) (omega arith) ∙ s .inside i h;
-      left-bytes = λ i h. r .before (128 + i) (omega arith) ∙ l .inside i h;
-      right-bytes = λ i h. r .inside i h;
-      kept = λ i h. r .after i (omega arith) ∙ l .after i (omega arith) ∙ s .after i (omega arith) ∙ o .after i (omega arith);
-      same-length = r .same-length ∙ l .same-length ∙ s .same-length ∙ o .same-length;
-    }
+laid-out order start left right b₀ b₁ b₂ b₃ b₄ o s l r = record {
+  order-bytes =
+      λ i h.
+      let z : 0 + i ≡ i = omega arith in
+      r .before i (omega arith) ∙ l .before i (omega arith) ∙ s .before i (omega arith) ∙ ap (λ (j : ℕ). getD b₁ j 0) (sym z)
+      ∙ o .inside i h;
+  start-bytes = λ i h. r .before (64 + i) (omega arith) ∙ l .before (64 + i) (omega arith) ∙ s .inside i h;
+  left-bytes = λ i h. r .before (128 + i) (omega arith) ∙ l .inside i h;
+  right-bytes = λ i h. r .inside i h;
+  kept = λ i h. r .after i (omega arith) ∙ l .after i (omega arith) ∙ s .after i (omega arith) ∙ o .after i (omega arith);
+  same-length = r .same-length ∙ l .same-length ∙ s .same-length ∙ o .same-length;
+}

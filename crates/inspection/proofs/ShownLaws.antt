@@ -4,19 +4,20 @@
 --     handles-few         there are fewer handles than positions
 --     gave, rows-right    what an accepted order tells, and that the rows filled are those of a floor
 --     small               the ring's size and the number of handles fit into the answer
---     short, order-refused, not-found, found    what is shown: nothing in too short a buffer, of a refused order or where there is none; else it
+--     short, order-refused, not-found, found    what is shown: nothing in too short a buffer, of a refused order or
+--                                               where there is none; else it
 -- Assumes nothing.
-use Prim.Native.Nat.{ℕ, zero, suc, _+_, _-_, _*_, _≤_, _<_}
+use Prim.Native.Nat.{ℕ, zero, suc, _+_, _*_, _≤_, _<_}
 use mathlib.Core.Path.{_≡_, refl, ap, subst, _∙_}
 use mathlib.Core.List.{List, [], _∷_}
 use mathlib.Core.Logic.{_↔_}
 use native.Mathlib.Numerals.{add-one}
 use native.Mathlib.Nat.{not-suc-le-zero}
 use native.Mathlib.Omega.{arith}
-use lib.ListN.{length, take, drop, replicate}
+use lib.ListN.{length}
 use Rattle.answers.specs.Answer.{accepted, refused}
-use Rattle.field.specs.Bits.{pairs}
 use Rattle.order.specs.Order.{floorOf, counts, orderAnswer}
+use Rattle.order.specs.Tables.{rowsOf, decodedRows}
 use Rattle.order.proofs.OrderLaws.{accepted-is}
 use Rattle.tables.specs.Accepted.{OrderGave}
 use Rattle.tables.proofs.AcceptedLaws.{order-gave}
@@ -26,8 +27,6 @@ use Rattle.breakdown.specs.Breakdown.{Handle, Breakdown}
 use Rattle.breakdown.specs.Building.{row}
 use Rattle.breakdown.specs.Answer.{Answer}
 use Rattle.floor.specs.FloorAnswer.{Joins}
-use Rattle.floor.specs.JoinedRows.{joinedRows}
-use Rattle.floor.proofs.JoinedRowsLaws.{rowsOf}
 use Rattle.floor.proofs.FloorRows.{edge-joins, biConnected-rows, filled-is, filled-rows}
 use Rattle.floor.proofs.EdgesCounted.{ring-rows}
 use Rattle.inspection.specs.Inspection.{upTo, LaidOut, Breaks, Inspected}
@@ -45,7 +44,8 @@ module _ {E D : ℕ → ℕ → Type 0} (more : (a b : ℕ) → E a b → D a b)
         right = h .right;
       }
 
-  pub breakdown-along : {n r c : ℕ} {at start left right : ℕ → ℕ} → Breakdown n E r c at start left right → Breakdown n D r c at start left right
+  pub breakdown-along : {n r c : ℕ} {at start left right : ℕ → ℕ} → Breakdown n E r c at start left right
+      → Breakdown n D r c at start left right
   breakdown-along b =
       record {
         ring-three = b .ring-three;
@@ -87,7 +87,7 @@ order-refused o old number place f = nothing-shown o old (λ b. never (f ∙ acc
     never : refused number place ≡ accepted (counts o) → ⊥
     never e = let z : _≡_ {A = ℕ} 0 1 = cc in omega arith
 
-module _ (o : List ℕ) (n e m : ℕ) (a : accepted (n ∷ e ∷ m ∷ []) ≡ orderAnswer o) (g : List ℕ) (filled : g ≡ joinedRows (replicate 64 0) (pairs (take (length o - 3) (drop 3 o)) 0 e)) where
+module _ (o : List ℕ) (n e m : ℕ) (a : accepted (n ∷ e ∷ m ∷ []) ≡ orderAnswer o) (g : List ℕ) (filled : g ≡ decodedRows o) where
   pub gave : OrderGave o n e m
   gave = order-gave o n e m a
 
@@ -99,7 +99,9 @@ module _ (o : List ℕ) (n e m : ℕ) (a : accepted (n ∷ e ∷ m ∷ []) ≡ o
     on-floor : Answer (floorOf o .positions) (rowsOf (floorOf o)) r c row₁ row₂ row₃ row₄
     on-floor = rw (gave .positions-are, filled-is o n e m gave g filled) at answer
 
-    exact : (0 < r) ↔ (BiConnected (floorOf o .positions) (Joins (floorOf o)) × (Ring (floorOf o .positions) (Joins (floorOf o)) (length (floorOf o .edges)) → ⊥))
+    exact : (0 < r)
+        ↔ (BiConnected (floorOf o .positions) (Joins (floorOf o))
+        × (Ring (floorOf o .positions) (Joins (floorOf o)) (length (floorOf o .edges)) → ⊥))
     exact =
         let w = gave .placed-well in
         let bi = biConnected-rows (floorOf o) (w .edges-below) in
@@ -122,29 +124,27 @@ module _ (o : List ℕ) (n e m : ℕ) (a : accepted (n ∷ e ∷ m ∷ []) ≡ o
       pub found : (old new : List ℕ) → 256 ≤ length old
           → LaidOut (upTo n (row row₁)) (upTo (c + 1) (row row₂)) (upTo c (row row₃)) (upTo c (row row₄)) old new
           → Inspected o old new (r + c * 256)
-      found old new room rows =
-          record {
-            shown = λ l.
-                record {
-                  ring = r;
-                  handles = c;
-                  order = row row₁;
-                  start = row row₂;
-                  left = row row₃;
-                  right = row row₄;
-                  counts = refl;
-                  small = let s = small in omega arith;
-                  breakdown = broken;
-                  rows =
-                      subst (λ (k : ℕ). LaidOut (upTo k (row row₁)) (upTo (c + 1) (row row₂)) (upTo c (row row₃)) (upTo c (row row₄)) old new)
-                      (gave .positions-are) rows;
-                };
-            none = λ z. absurd (never z);
-            exactly = (
-              λ l. record { order-right = gave .right; room = room; biConnected = exact .0 some .0; noRing = exact .0 some .1 },
-              λ b. omega arith,
-            );
-          }
+      found old new room rows = record {
+        shown = λ l. record {
+          ring = r;
+          handles = c;
+          order = row row₁;
+          start = row row₂;
+          left = row row₃;
+          right = row row₄;
+          counts = refl;
+          small = let s = small in omega arith;
+          breakdown = broken;
+          rows = subst
+              (λ (k : ℕ). LaidOut (upTo k (row row₁)) (upTo (c + 1) (row row₂)) (upTo c (row row₃)) (upTo c (row row₄)) old new)
+              (gave .positions-are) rows;
+        };
+        none = λ z. absurd (never z);
+        exactly = (
+          λ l. record { order-right = gave .right; room = room; biConnected = exact .0 some .0; noRing = exact .0 some .1 },
+          λ b. omega arith,
+        );
+      }
         where
           never : r + c * 256 ≡ 0 → ⊥
           never z = omega arith

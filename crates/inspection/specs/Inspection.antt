@@ -4,9 +4,10 @@
 --     upTo k row                        the row with its first k bytes, and zeros behind them
 --     Copied row at k old new           the first k bytes of `row` were copied into a buffer from byte `at` on
 --     LaidOut order start left right old new   the four rows stand at the bytes 0, 64, 128 and 192; every other byte is as it was
---     Shown n E old new answer          the answer has the ring size in its low 8 bits and the handle count above; the rows of that breakdown
---                                       were laid out, each with zeros behind what the breakdown has of it
---     Breaks o old                      where a breakdown is shown: a well-formed order on a bi-connected floor that is no ring, and room for it
+--     Shown n E old new answer          the answer has the ring size in its low 8 bits and the handle count above; the rows of that
+--                                       breakdown were laid out, each with zeros behind what the breakdown has of it
+--     Breaks o old                      where a breakdown is shown: a well-formed order on a bi-connected floor that is
+--                                       no ring, and room for it
 --     Inspected o old new answer        a breakdown is shown there, and nowhere else; else the answer is 0, and no byte changes
 --     shownByte part i                  the byte at i of the part; 256, which is no byte, from its end on
 -- Assumes nothing.

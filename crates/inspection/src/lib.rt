@@ -45,7 +45,8 @@ fn copy_row(bytes: &[u8; 64], count: usize, at: usize, buffer: &mut [u8])
 // The four rows of a breakdown of n positions, one after another.
 fn lay_out(b: Breakdown, n: usize, buffer: &mut [u8])
     requires { ⌜ (256 ≤ length (now buffer)) × (b .handles < 64) ⌝ }
-    ensures { λ r. ⌜ LaidOut (upTo n (row (b .order))) (upTo (b .handles + 1) (row (b .start))) (upTo (b .handles) (row (b .left))) (upTo (b .handles) (row (b .right))) (now (buffer .entry)) (now (buffer .exit)) ⌝ }
+    ensures { λ r. ⌜ LaidOut (upTo n (row (b .order))) (upTo (b .handles + 1) (row (b .start))) (upTo (b .handles) (row (b .left)))
+        (upTo (b .handles) (row (b .right))) (now (buffer .entry)) (now (buffer .exit)) ⌝ }
 {
     let order = b.order;
     let start = b.start;
@@ -58,8 +59,9 @@ fn lay_out(b: Breakdown, n: usize, buffer: &mut [u8])
     copy_row(&right, handles, 192, buffer);
 }
 
-// The breakdown of an order's floor: the answer has the size of its ring in the low 8 bits and the number of its handles above them, and its rows
-// stand in the first 256 bytes of the buffer, each with zeros behind what is used of it. 0, and nothing written, where there is none, or the order is refused, or the buffer is shorter.
+// The breakdown of an order's floor: the answer has the size of its ring in the low 8 bits and the number of its handles above them, and
+// its rows stand in the first 256 bytes of the buffer, each with zeros behind what is used of it. 0, and nothing written, where there is
+// none, or the order is refused, or the buffer is shorter.
 #[no_mangle]
 pub extern "C" fn wichteab_inspect_breakdown(order: &[u8], buffer: &mut [u8]) -> u64
     ensures { λ r. ⌜ Inspected (now (order .entry)) (now (buffer .entry)) (now (buffer .exit)) r ⌝ }
@@ -67,13 +69,14 @@ pub extern "C" fn wichteab_inspect_breakdown(order: &[u8], buffer: &mut [u8]) ->
     if buffer.len() < 256 {
         return 0;
     }
-    let below = order::read(order);
+    let mut rows = [0u64; 64];
+    let mut starts = [0u8; 64];
+    let mut goals = [0u8; 64];
+    let below = order::decode(order, &mut rows, &mut starts, &mut goals);
     let OrderVerdict::Accepted(counts) = below else {
         return 0;
     };
     let n = counts.positions;
-    let e = counts.edges;
-    let rows = floor::rows_of(&order[3..], e);
     let found = breakdown::break_down(&rows, n);
     let ring = found.ring;
     let handles = found.handles;
@@ -176,7 +179,8 @@ pub extern "C" fn wichteab_inspect_delivery(
     call: u64,
     value: u64,
 ) -> u64
-    ensures { λ r. ⌜ Told (now (order .entry)) (now (plan .entry)) (now (timetable .entry)) call value r (now (plan .exit)) (now (timetable .exit)) ⌝ }
+    ensures { λ r. ⌜ Told (now (order .entry)) (now (plan .entry)) (now (timetable .entry)) call value r (now (plan .exit))
+        (now (timetable .exit)) ⌝ }
 {
     let all = delivery::deliver(order, plan, timetable);
     let planned = all.plan;

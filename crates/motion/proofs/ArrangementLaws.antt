@@ -5,16 +5,18 @@
 --     stands-index      rack i + 1 stands where index i says
 --     occupied-vacant   no position is both
 --     occupied-or-vacant   each is one of the two
+--     rackAt-finds      the rack that stands at an occupied position
 -- Assumes nothing.
-use Prim.Native.Nat.{ℕ, zero, suc, _-_, _<_}
+use Prim.Native.Nat.{ℕ, zero, suc, _+_, _-_, _<_}
 use mathlib.Core.List.{[], _∷_}
 use mathlib.Core.Logic.{_↔_, _⊎_, inl, inr, ⊎-elim, _≢_}
-use mathlib.Core.Path.{_≡_, refl}
+use mathlib.Core.Path.{_≡_, refl, _∙_}
 use native.Mathlib.Omega.{arith}
+use borrow.Author.Tests.{eq-eqb, ne-eqb}
 use lib.Dec.{T, eqb}
 use lib.ListN.{length, getD}
-use Rattle.motion.specs.Arrangement.{Arrangement, stands, occupied, vacant}
-use Rattle.motion.proofs.Test.{or-parts, not-parts, eqb-parts, decided}
+use Rattle.motion.specs.Arrangement.{Arrangement, stands, occupied, vacant, rackFrom, rackAt}
+use Rattle.motion.proofs.Test.{or-parts, not-parts, eqb-parts, decided, equal?}
 
 occupied-to : (A : Arrangement) (p : ℕ) → T (occupied A p) → (i : ℕ) × (i < length A) × (getD A i 0 ≡ p)
 unfolding occupied
@@ -50,3 +52,24 @@ occupied-or-vacant A p = decided (occupied A p)
 pub stands-index : (A : Arrangement) (i : ℕ) → stands A (suc i) ≡ getD A i 0
 unfolding stands
 stands-index A i = let e : suc i - 1 ≡ i = omega arith in rw e
+
+rackFrom-later : (k q : ℕ) (A : Arrangement) (p : ℕ) → q ≢ p → rackFrom k (q ∷ A) p ≡ rackFrom (suc k) A p
+unfolding rackFrom
+rackFrom-later k q A p e = rw (ne-eqb q p e)
+
+rackFrom-finds : (k : ℕ) (A : Arrangement) (p : ℕ) → T (occupied A p)
+    → (r : ℕ) × (r < length A) × (getD A r 0 ≡ p) × (rackFrom k A p ≡ k + r)
+unfolding rackFrom occupied
+rackFrom-finds k [] p o = absurd o
+rackFrom-finds k (q ∷ A) p o =
+    ⊎-elim
+    (λ (e : q ≡ p). (0, omega arith, e, rw (eq-eqb q p e) (omega arith)))
+    (λ (e : q ≢ p).
+    let w = rackFrom-finds (suc k) A p (⊎-elim (λ t. absurd (e (eqb-parts q p .0 t))) (λ t. t) (or-parts (eqb q p) (occupied A p) .0 o)) in
+    (suc (w .0), omega (arith, w .1), w .2, rackFrom-later k q A p e ∙ omega (arith, w .3)))
+    (equal? q p)
+
+pub rackAt-finds : (A : Arrangement) (p : ℕ) → T (occupied A p)
+    → (r : ℕ) × (r < length A) × (getD A r 0 ≡ p) × (rackAt A p ≡ suc r)
+unfolding rackAt
+rackAt-finds A p o = let w = rackFrom-finds 1 A p o in (w .0, w .1, w .2, omega (arith, w .3))

@@ -3,7 +3,7 @@
 --
 --     floorF, starts, goals, plan    the case book's floor, and its first case's starts, goals and plan
 --     plan-replayed, plan-leads      the plan's replay ends at the goals, so it leads there
---     plan-stopped, plan-stops       with its first move twice, replay stops at move 2
+--     plan-stopped, plan-stops       with a move along no edge behind the first, replay stops at move 2
 --     starts-sound, goals-sound      the starts and the goals are sound
 --     full-sound                     and so is a full floor
 --     plan-undone                    reversal: the plan undone leads back
@@ -20,8 +20,9 @@ use mathlib.Core.Path.{_≡_, refl}
 use lib.Dec.{T, lit<, lit≤}
 use lib.ListN.{getD}
 use Rattle.order.specs.Floor.{Floor, isPair, among, joined}
+use Rattle.order.specs.Order.{some}
 use Rattle.motion.specs.Arrangement.{Arrangement, occupied, vacant}
-use Rattle.motion.specs.Move.{onFloor, legalMove, goesTo, after, afterMove}
+use Rattle.motion.specs.Move.{onFloor, legalMove, faultBy, moveFault, goesTo, after, afterMove}
 use Rattle.motion.specs.Step.{leaves, enters}
 use Rattle.motion.specs.Replay.{ended, stopped, replayFrom, replayMoves, trace}
 use Rattle.motion.proofs.Lawful.{Leads, Stops, replayMoves-ended, replayMoves-stopped}
@@ -49,18 +50,18 @@ abbrev pub plan : List (ℕ × ℕ)
 plan = (0, 1) ∷ (3, 2) ∷ (2, 0) ∷ (1, 3) ∷ []
 
 pub plan-replayed : replayMoves floorF starts plan ≡ ended goals
-unfolding replayMoves replayFrom legalMove onFloor joined among isPair occupied vacant afterMove after goesTo
+unfolding replayMoves replayFrom moveFault faultBy onFloor joined among isPair occupied vacant afterMove after goesTo
 plan-replayed = refl
 
 pub plan-leads : Leads floorF starts plan goals
 plan-leads = replayMoves-ended floorF starts plan goals .0 plan-replayed
 
-pub plan-stopped : replayMoves floorF starts ((0, 1) ∷ plan) ≡ stopped 2
-unfolding replayMoves replayFrom legalMove onFloor joined among isPair occupied vacant afterMove after goesTo
+pub plan-stopped : replayMoves floorF starts ((0, 1) ∷ (3, 0) ∷ []) ≡ stopped 32 2
+unfolding replayMoves replayFrom moveFault faultBy onFloor joined among isPair occupied vacant afterMove after goesTo
 plan-stopped = refl
 
-pub plan-stops : Stops (legalMove floorF) afterMove 1 starts ((0, 1) ∷ plan) 2
-plan-stops = replayMoves-stopped floorF starts ((0, 1) ∷ plan) 2 .0 plan-stopped
+pub plan-stops : Stops (moveFault floorF) (legalMove floorF) afterMove 1 starts ((0, 1) ∷ (3, 0) ∷ []) 32 2
+plan-stops = replayMoves-stopped floorF starts ((0, 1) ∷ (3, 0) ∷ []) 32 2 .0 plan-stopped
 
 pub starts-sound : Sound 4 starts
 unfolding isSound occupied vacant
@@ -102,7 +103,7 @@ unfolding pick
 plan-renamed = leads-renamed (1 ∷ 0 ∷ []) floorF names-exchanged plan-leads
 
 pub aside-leads : Leads floorF (1 ∷ 3 ∷ []) ((1, 0) ∷ []) starts
-unfolding replayMoves replayFrom legalMove onFloor joined among isPair occupied vacant afterMove after goesTo
+unfolding replayMoves replayFrom moveFault faultBy onFloor joined among isPair occupied vacant afterMove after goesTo
 aside-leads = replayMoves-ended floorF (1 ∷ 3 ∷ []) ((1, 0) ∷ []) starts .0 refl
 
 -- the racks at 1 and 3 exchanged: rack 1 moves to 0, then the plan, then back
@@ -111,15 +112,15 @@ unfolding exchange undo turned
 exchange-conjugated = conjugate-exchange floorF 0 1 (lit< tt) (lit< tt) aside-leads plan-leads
 
 pub detour-leads : Leads floorF starts ((3, 1) ∷ (1, 3) ∷ (0, 1) ∷ []) (1 ∷ 3 ∷ [])
-unfolding replayMoves replayFrom legalMove onFloor joined among isPair occupied vacant afterMove after goesTo
+unfolding replayMoves replayFrom moveFault faultBy onFloor joined among isPair occupied vacant afterMove after goesTo
 detour-leads = replayMoves-ended floorF starts ((3, 1) ∷ (1, 3) ∷ (0, 1) ∷ []) (1 ∷ 3 ∷ []) .0 refl
 
 pub carried-away : Leads floorF starts ((3, 1) ∷ (1, 3) ∷ (0, 1) ∷ (1, 2) ∷ (3, 1) ∷ (1, 3) ∷ []) (2 ∷ 3 ∷ [])
-unfolding othersMoves undo turned enters joined among isPair occupied vacant afterMove after goesTo
+unfolding othersMoves undo turned enters some joined among isPair occupied vacant afterMove after goesTo
 carried-away = conjugate-carry floorF 0 2 starts-sound (lit< tt) tt tt detour-leads (lit< tt) tt
 
 pub untouched-kept : (getD starts 1 0 ≡ 3) × T (vacant (1 ∷ 3 ∷ []) 2)
-unfolding leaves enters occupied vacant
+unfolding leaves enters some occupied vacant
 untouched-kept = (rack-stays floorF 1 aside-leads (lit< tt) tt, vacant-before floorF 2 aside-leads tt tt)
 
 pub plan-dropped : Leads floorF (0 ∷ []) ((0, 1) ∷ (1, 3) ∷ []) (3 ∷ [])

@@ -39,18 +39,20 @@ misplaced-none r (p ∷ A) (g ∷ G) l e =
 accepted-counts : (v w : List ℕ) → accepted v ≡ accepted w → v ≡ w
 accepted-counts v w e = cc
 
-module _ (illegal off : ℕ) (G counts v : List ℕ) where
-  judged-to : (x : Replayed) → ((A : Arrangement) → x ≡ ended A → length A ≡ length G) → judged illegal off G counts x ≡ accepted v → (x ≡ ended G) × (counts ≡ v)
+module _ (off : ℕ) (G counts v : List ℕ) where
+  judged-to : (x : Replayed) → ((A : Arrangement) → x ≡ ended A → length A ≡ length G) → judged off G counts x ≡ accepted v
+      → (x ≡ ended G) × (counts ≡ v)
   unfolding judged
-  judged-to (stopped j) l e = absurd (let z : _≡_ {A = ℕ} 0 1 = cc in omega arith)
+  judged-to (stopped f j) l e = absurd (let z : _≡_ {A = ℕ} 0 1 = cc in omega arith)
   judged-to (ended A) l e =
       let lowest = misplaced 1 A G in
       let none : not (eqb lowest 0) ≡ false = refuse-not (not (eqb lowest 0)) off lowest (accepted counts) v e in
       (ap ended (misplaced-none 0 A G (l A refl) (eqb-true lowest 0 (not-false (eqb lowest 0) none))), accepted-counts counts v (refuse-else (not (eqb lowest 0)) off lowest (accepted counts) v e))
 
-  judged-from : (x : Replayed) → (x ≡ ended G) × (counts ≡ v) → judged illegal off G counts x ≡ accepted v
+  judged-from : (x : Replayed) → (x ≡ ended G) × (counts ≡ v) → judged off G counts x ≡ accepted v
   unfolding judged
   judged-from x t = rw (t .0) (rw (misplaced-same 1 G) (ap accepted (t .1)))
 
-  pub judged-accepted : (x : Replayed) → ((A : Arrangement) → x ≡ ended A → length A ≡ length G) → (judged illegal off G counts x ≡ accepted v) ↔ ((x ≡ ended G) × (counts ≡ v))
+  pub judged-accepted : (x : Replayed) → ((A : Arrangement) → x ≡ ended A → length A ≡ length G)
+      → (judged off G counts x ≡ accepted v) ↔ ((x ≡ ended G) × (counts ≡ v))
   judged-accepted x l = (judged-to x l, judged-from x)

@@ -70,7 +70,7 @@ module _ (F : Floor) (A : Arrangement) (ms : List (ℕ × ℕ)) where
       is-true false t = absurd t
 
   pub legal-move : LegalStep F A ms → {m : ℕ × ℕ} → List·Memᴰ m ms → m .0 ≢ m .1
-  legal-move s {m} k = train-moves A ms (s .ascending) (s .held) (s .trains m k)
+  legal-move s {m} k = train-moves A ms (s .ascending) (s .held) (s .trains m k .1)
 
 pub after-nothing : (A : Arrangement) → after A [] ≡ A
 unfolding after goesTo

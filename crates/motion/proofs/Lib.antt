@@ -1,4 +1,5 @@
 pub mod ArrangementLaws
+pub mod BetweenLaws
 pub mod Choice
 pub mod Conjugation
 pub mod Exchange
@@ -14,6 +15,7 @@ pub mod Reversal
 pub mod SoundLaws
 pub mod StepCases
 pub mod StepChange
+pub mod StepDecision
 pub mod StepLimits
 pub mod StepOfLaws
 pub mod StepReplay

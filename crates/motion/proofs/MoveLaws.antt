@@ -3,6 +3,8 @@
 --     joined-sym        an edge joins both ways
 --     onFloor-parts     what it is for a move's two positions to be on the floor
 --     legal-parts       a legal move: on the floor, a rack at the position left, the position entered vacant
+--     moveFault-none    a move has no fault exactly if it is legal
+--     moveFault-small   a fault's number fits 8 bits
 --     map-at            a rack of an arrangement that is changed rack by rack
 --     after-length      moves made all at once keep the number of racks
 --     move-length       so does one move
@@ -15,20 +17,20 @@
 --     turned-legal      a legal move, turned round, is legal after it
 --     turned-back       and takes its rack back
 -- Assumes nothing.
-use Prim.Native.Nat.{ℕ, zero, suc, _<_}
-use mathlib.Core.Bool.{Bool, or-comm, _&&_}
+use Prim.Native.Nat.{ℕ, zero, suc, _≤_, _<_}
+use mathlib.Core.Bool.{Bool, true, false, or-comm, _&&_}
 use mathlib.Core.List.{List, [], _∷_, map}
 use mathlib.Core.Logic.{_↔_, ⊎-elim, _≢_}
 use mathlib.Core.Path.{_≡_, refl, sym, _∙_}
 use native.Mathlib.Omega.{arith}
-use lib.Dec.{T, ltb, ltb→lt, lt→ltb}
+use lib.Dec.{T, eqb, ltb, ltb→lt, lt→ltb, lit≤}
 use lib.ListN.{length, getD, length-map}
 use lib.Seq.{ext-getD}
 use borrow.Author.Tests.{eq-eqb, ne-eqb}
 use Rattle.order.specs.Floor.{Floor, among, joined}
 use Rattle.motion.specs.Arrangement.{Arrangement, occupied, vacant}
 use Rattle.motion.proofs.ArrangementLaws.{occupied-rack, vacant-racks, occupied-vacant}
-use Rattle.motion.specs.Move.{onFloor, legalMove, goesTo, after, afterMove}
+use Rattle.motion.specs.Move.{onFloor, legalMove, faultBy, moveFault, goesTo, after, afterMove}
 use Rattle.motion.proofs.Test.{and-parts, equal?}
 
 pub joined-sym : (F : Floor) (a b : ℕ) → joined F a b ≡ joined F b a
@@ -60,6 +62,28 @@ legal-parts F A m = (
   (λ t. let u = and-parts (onFloor F m && occupied A (m .0)) (vacant A (m .1)) .0 t in let v = and-parts (onFloor F m) (occupied A (m .0)) .0 (u .0) in (v .0, v .1, u .1)),
   (λ t. and-parts (onFloor F m && occupied A (m .0)) (vacant A (m .1)) .1 (and-parts (onFloor F m) (occupied A (m .0)) .1 (t .0, t .1), t .2)),
 )
+
+faultBy-none : (a b c : Bool) → eqb (faultBy a b c) 0 ≡ a && b && c
+unfolding faultBy
+faultBy-none false b c = refl
+faultBy-none true false c = refl
+faultBy-none true true false = refl
+faultBy-none true true true = refl
+
+pub moveFault-none : (F : Floor) (A : Arrangement) (m : ℕ × ℕ) → eqb (moveFault F A m) 0 ≡ legalMove F A m
+unfolding moveFault legalMove
+moveFault-none F A m = faultBy-none (onFloor F m) (occupied A (m .0)) (vacant A (m .1))
+
+faultBy-small : (a b c : Bool) → faultBy a b c ≤ 255
+unfolding faultBy
+faultBy-small false b c = lit≤ tt
+faultBy-small true false c = lit≤ tt
+faultBy-small true true false = lit≤ tt
+faultBy-small true true true = lit≤ tt
+
+pub moveFault-small : (F : Floor) (A : Arrangement) (m : ℕ × ℕ) → moveFault F A m ≤ 255
+unfolding moveFault
+moveFault-small F A m = faultBy-small (onFloor F m) (occupied A (m .0)) (vacant A (m .1))
 
 pub after-length : (A : Arrangement) (ms : List (ℕ × ℕ)) → length (after A ms) ≡ length A
 unfolding after

@@ -9,7 +9,7 @@
 --     case-1-steps         whose steps are the timetable's
 --     case-2               case 2's one step, a train of two, is replayed from its starts to its goals
 --     case-2-legal         it is legal
---     case-2-train         rack 1 follows rack 2, the leader
+--     case-2-train         rack 1 follows rack 2, the leader: a train of two
 --     case-2-change        and it is a change that Definition 2 allows
 --     case-3-ring          racks at 0, 1, 2: a first step 0>1, 1>2, 2>0 is not legal
 --     case-3-ring-never    that step is not legal on any floor, wherever racks stand
@@ -25,19 +25,21 @@ use mathlib.Core.List.{List, [], _∷_, List·Memᴰ, List·Memᴰ·head, List·
 use native.Mathlib.Omega.{arith}
 use lib.Dec.{T}
 use Rattle.order.specs.Floor.{Floor, isPair, among, joined}
+use Rattle.order.specs.Order.{some}
 use Rattle.motion.specs.Arrangement.{Arrangement, occupied, vacant}
 use Rattle.motion.specs.Move.{onFloor, goesTo, after}
-use Rattle.motion.specs.Step.{every, ascends, leaves, enters, enteredOnce, led, legalStep, Train, leader, follows}
-use Rattle.motion.specs.Replay.{ended, stopped, replayFrom, replaySteps, trace}
+use Rattle.motion.specs.Step.{every, ascends, leaves, enters, enteredOnce, led, legalStep}
+use Rattle.motion.specs.Replay.{Replayed, ended, stopped, replayFrom, unlessLegal, stepFault, replaySteps, trace}
 use Rattle.motion.specs.Problem.{UniquelyInvertible, Instance}
 use Rattle.motion.specs.ParallelPathFinding.{Solution}
 use Rattle.motion.proofs.Trains.{led-closed}
-use Rattle.motion.specs.LegalStep.{LegalStep}
+use Rattle.motion.specs.LegalStep.{Train, leader, follows, LegalStep}
+use Rattle.motion.proofs.StepDecision.{by-test, legalStep?}
 use Rattle.motion.proofs.LegalStepLaws.{legalStep-iff}
 use Rattle.motion.proofs.Racks.{separate, isValid, isValid-iff}
 use Rattle.motion.specs.StepOf.{moved, insert, sort, stepOf}
 use Rattle.motion.proofs.StepChange.{Change, legal-change}
-use Rattle.motion.specs.StepSolutions.{stepsFrom, stepsOf}
+use Rattle.motion.specs.StepSolutions.{stepsThrough, stepsBetween}
 use Rattle.motion.proofs.StepSolutionsLaws.{solution-instance, replay-solution}
 use Rattle.motion.proofs.StepLimits.{no-turn}
 use Rattle.motion.proofs.Inhabited.{floorF, starts, goals}
@@ -51,8 +53,14 @@ pub starts-valid : UniquelyInvertible floorF 2 starts
 unfolding isValid separate every vacant occupied
 starts-valid = isValid-iff floorF starts .0 tt
 
-pub case-1 : replaySteps floorF starts timetable ≡ ended goals
-unfolding replaySteps replayFrom legalStep ascends every onFloor joined among isPair occupied enteredOnce enters led leaves vacant goesTo after
+-- a replay on that floor, with all that it computes by
+unfoldable steps-open : Arrangement → List (List (ℕ × ℕ)) → Replayed
+unfolding replaySteps replayFrom stepFault unlessLegal legalStep? by-test legalStep ascends every onFloor joined among isPair occupied
+    enteredOnce enters led leaves some vacant goesTo after
+steps-open A steps = replaySteps (legalStep? floorF) A steps
+
+pub case-1 : replaySteps (legalStep? floorF) starts timetable ≡ ended goals
+unfolding steps-open
 case-1 = refl
 
 pub case-1-solution : Solution floorF 2 starts goals 2 (starts ∷ (1 ∷ 2 ∷ []) ∷ goals ∷ [])
@@ -62,21 +70,21 @@ case-1-solution = replay-solution floorF 2 starts goals starts-valid timetable c
 pub case-1-instance : Instance floorF 2 starts goals
 case-1-instance = solution-instance case-1-solution
 
-pub case-1-steps : stepsOf (starts ∷ (1 ∷ 2 ∷ []) ∷ goals ∷ []) ≡ timetable
-unfolding stepsOf stepsFrom stepOf sort insert moved
+pub case-1-steps : stepsBetween (starts ∷ (1 ∷ 2 ∷ []) ∷ goals ∷ []) ≡ timetable
+unfolding stepsBetween stepsThrough stepOf sort insert moved
 case-1-steps = refl
 
 -- case 2: rack 1 from 0 to 1, rack 2 from 1 to 3
 
-pub case-2 : replaySteps floorF (0 ∷ 1 ∷ []) (((0, 1) ∷ (1, 3) ∷ []) ∷ []) ≡ ended (1 ∷ 3 ∷ [])
-unfolding replaySteps replayFrom legalStep ascends every onFloor joined among isPair occupied enteredOnce enters led leaves vacant goesTo after
+pub case-2 : replaySteps (legalStep? floorF) (0 ∷ 1 ∷ []) (((0, 1) ∷ (1, 3) ∷ []) ∷ []) ≡ ended (1 ∷ 3 ∷ [])
+unfolding steps-open
 case-2 = refl
 
 pub case-2-legal : LegalStep floorF (0 ∷ 1 ∷ []) ((0, 1) ∷ (1, 3) ∷ [])
-unfolding legalStep ascends every onFloor joined among isPair occupied enteredOnce enters led leaves vacant goesTo
+unfolding legalStep ascends every onFloor joined among isPair occupied enteredOnce enters led leaves some vacant goesTo
 case-2-legal = legalStep-iff floorF (0 ∷ 1 ∷ []) ((0, 1) ∷ (1, 3) ∷ []) .0 tt
 
-pub case-2-train : Train (0 ∷ 1 ∷ []) ((0, 1) ∷ (1, 3) ∷ []) (0, 1)
+pub case-2-train : Train (0 ∷ 1 ∷ []) ((0, 1) ∷ (1, 3) ∷ []) 2 (0, 1)
 unfolding vacant occupied
 case-2-train = follows (List·Memᴰ·head refl) refl (leader (List·Memᴰ·tail (List·Memᴰ·head refl)) tt)
 
@@ -86,8 +94,8 @@ case-2-change = legal-change (isValid-iff floorF (0 ∷ 1 ∷ []) .0 tt) case-2-
 
 -- case 3: racks at 0, 1, 2
 
-pub case-3-ring : replaySteps floorF (0 ∷ 1 ∷ 2 ∷ []) (((0, 1) ∷ (1, 2) ∷ (2, 0) ∷ []) ∷ []) ≡ stopped 1
-unfolding replaySteps replayFrom legalStep ascends every onFloor joined among isPair occupied enteredOnce enters led leaves vacant goesTo after
+pub case-3-ring : replaySteps (legalStep? floorF) (0 ∷ 1 ∷ 2 ∷ []) (((0, 1) ∷ (1, 2) ∷ (2, 0) ∷ []) ∷ []) ≡ stopped 42 1
+unfolding steps-open
 case-3-ring = refl
 
 pub case-3-ring-never : {F : Floor} {A : Arrangement} → LegalStep F A ((0, 1) ∷ (1, 2) ∷ (2, 0) ∷ []) → ⊥
@@ -116,14 +124,14 @@ case-3-no-leader k t = led-closed (0 ∷ 1 ∷ 2 ∷ []) ((0, 1) ∷ (1, 2) ∷ 
     round (suc (suc zero)) h = (λ t. t, omega arith)
     round (suc (suc (suc p))) h = absurd (omega arith)
 
-pub case-3-swap : replaySteps floorF (0 ∷ 1 ∷ 2 ∷ []) (((0, 1) ∷ (1, 0) ∷ []) ∷ []) ≡ stopped 1
-unfolding replaySteps replayFrom legalStep ascends every onFloor joined among isPair occupied enteredOnce enters led leaves vacant goesTo after
+pub case-3-swap : replaySteps (legalStep? floorF) (0 ∷ 1 ∷ 2 ∷ []) (((0, 1) ∷ (1, 0) ∷ []) ∷ []) ≡ stopped 42 1
+unfolding steps-open
 case-3-swap = refl
 
 -- two racks into one position; a full floor
 
 pub meeting : legalStep floorF (0 ∷ 2 ∷ []) ((0, 1) ∷ (2, 1) ∷ []) ≡ false
-unfolding legalStep ascends every onFloor joined among isPair occupied enteredOnce enters led leaves vacant goesTo
+unfolding legalStep ascends every onFloor joined among isPair occupied enteredOnce enters led leaves some vacant goesTo
 meeting = refl
 
 pub full : UniquelyInvertible floorF 4 (2 ∷ 0 ∷ 3 ∷ 1 ∷ [])

@@ -24,14 +24,13 @@ use lib.Dec.{T}
 use Rattle.order.specs.Floor.{Floor, joined}
 use Rattle.motion.specs.Arrangement.{Arrangement, stands}
 use Rattle.motion.specs.Move.{goesTo, after}
-use Rattle.motion.specs.Step.{Train, leader, follows}
 use Rattle.motion.specs.Problem.{IsRack, UniquelyInvertible, AlongEdges}
 use Rattle.motion.specs.ParallelPathFinding.{RackChain, InChains}
 use Rattle.motion.proofs.ListLaws.{keys-same}
 use Rattle.motion.proofs.StepTestsLaws.{left, vacant-iff, Goes, taken, stays, goesTo-cases, goesTo-takes, goesTo-stays}
 use Rattle.motion.specs.StepTests.{entered, Ascends, EnteredOnce, OnFloor}
 use Rattle.motion.proofs.Trains.{train-member}
-use Rattle.motion.specs.LegalStep.{LegalStep}
+use Rattle.motion.specs.LegalStep.{Train, leader, follows, LegalStep}
 use Rattle.motion.proofs.LegalStepLaws.{legal-move}
 use Rattle.motion.proofs.Racks.{own, stands-in, same-positions, stands-after, valid-same, valid-rack, valid-below, valid-nodup}
 use Rattle.motion.proofs.MoveLaws.{after-length}
@@ -123,7 +122,7 @@ module _ {F : Floor} {m : ℕ} {A : Arrangement} {ms : List (ℕ × ℕ)} (valid
       on (stays h g) = subst (λ (q : ℕ). q < F .positions) (sym g) (valid-below valid k)
 
   -- no move enters a position whose rack stays
-  stayed-alone : {x : ℕ × ℕ} {q : ℕ} → Train A ms x → List·Memᴰ q A → ((y : ℕ × ℕ) → List·Memᴰ y ms → y .0 ≢ q) → x .1 ≢ q
+  stayed-alone : {i q : ℕ} {x : ℕ × ℕ} → Train A ms i x → List·Memᴰ q A → ((y : ℕ × ℕ) → List·Memᴰ y ms → y .0 ≢ q) → x .1 ≢ q
   stayed-alone {x} (leader n t) k h e = vacant-iff A (x .1) .0 t (Memᴰ·cast e k)
   stayed-alone (follows {m′ = y} n f t) k h e = h y (train-member A ms t) (sym f ∙ e)
 
@@ -132,8 +131,8 @@ module _ {F : Floor} {m : ℕ} {A : Arrangement} {ms : List (ℕ × ℕ)} (valid
     where
       on : Goes ms p → Goes ms q → p ≡ q
       on (taken x n f g) (taken x′ n′ f′ g′) = sym f ∙ ap left (keys-same entered ms (s .once) n n′ (sym g ∙ e ∙ g′)) ∙ f′
-      on (taken x n f g) (stays h g′) = absurd (stayed-alone (s .trains x n) l h (sym g ∙ e ∙ g′))
-      on (stays h g) (taken x n f g′) = absurd (stayed-alone (s .trains x n) k h (sym g′ ∙ sym e ∙ g))
+      on (taken x n f g) (stays h g′) = absurd (stayed-alone (s .trains x n .1) l h (sym g ∙ e ∙ g′))
+      on (stays h g) (taken x n f g′) = absurd (stayed-alone (s .trains x n .1) k h (sym g′ ∙ sym e ∙ g))
       on (stays h g) (stays h′ g′) = sym g ∙ e ∙ g′
 
   pub legal-valid : UniquelyInvertible F m (after A ms)
@@ -151,7 +150,7 @@ module _ {F : Floor} {m : ℕ} {A : Arrangement} {ms : List (ℕ × ℕ)} (valid
       on (taken x n f g) = inr (rw (g, ← f) (s .joins x n .edge))
       on (stays h g) = inl (sym g)
 
-  train-lead : {x : ℕ × ℕ} → Train A ms x → (a : ℕ) → IsRack m a → stands A a ≡ x .0 → Lead m A (after A ms) a
+  train-lead : {k : ℕ} {x : ℕ × ℕ} → Train A ms k x → (a : ℕ) → IsRack m a → stands A a ≡ x .0 → Lead m A (after A ms) a
   train-lead {x} (leader n t) a r e =
       record {
         last = 0;
@@ -169,7 +168,7 @@ module _ {F : Floor} {m : ℕ} {A : Arrangement} {ms : List (ℕ × ℕ)} (valid
   legal-led a r ne = lead-chain valid (on (goesTo-cases ms (stands A a)))
     where
       on : Goes ms (stands A a) → Lead m A (after A ms) a
-      on (taken x n f g) = train-lead (s .trains x n) a r (sym f)
+      on (taken x n f g) = train-lead (s .trains x n .1) a r (sym f)
       on (stays h g) = absurd (ne (sym (goes r ∙ g)))
 
   pub legal-change : Change F m A (after A ms)
@@ -260,7 +259,7 @@ module _ {F : Floor} {m : ℕ} {A B : Arrangement} (valid : UniquelyInvertible F
         dite (ℕ-discrete (w .0) (b .b (b .last))) (λ q. all-move (b .last) (omega arith) (ap (stands A) (sym q) ∙ w .2))
         (λ q. b .leading (w .0) (w .1) q (w .2))
 
-    chain-train : (d i : ℕ) → i + d ≡ b .last → Train A (stepOf A B) (stands A (b .b i), stands B (b .b i))
+    chain-train : (d i : ℕ) → i + d ≡ b .last → Train A (stepOf A B) (suc d) (stands A (b .b i), stands B (b .b i))
     chain-train zero i e =
         let here : b .last ≡ i = omega arith in
         leader (in-step (b .agents i (omega arith)) (all-move i (omega arith)))
@@ -269,13 +268,13 @@ module _ {F : Floor} {m : ℕ} {A B : Arrangement} (valid : UniquelyInvertible F
         follows (in-step (b .agents i (omega arith)) (all-move i (omega arith))) (b .following i (omega arith))
         (chain-train d (suc i) (omega arith))
 
-  trains : (x : ℕ × ℕ) → List·Memᴰ x (stepOf A B) → Train A (stepOf A B) x
+  trains : (x : ℕ × ℕ) → List·Memᴰ x (stepOf A B) → (k : ℕ) × Train A (stepOf A B) k x
   trains x k =
       let t = by k in
       let b = c .led (t .rack) (taker t) (moves t) in
       let whole : (stands A (b .b 0), stands B (b .b 0)) ≡ x =
       λ j. ((ap (stands A) (b .first) ∙ t .from) j, (ap (stands B) (b .first) ∙ t .to) j) in
-      subst (Train A (stepOf A B)) whole (chain-train (moves t) b (b .last) 0 (omega arith))
+      (suc (b .last), subst (Train A (stepOf A B) (suc (b .last))) whole (chain-train (moves t) b (b .last) 0 (omega arith)))
 
   pub change-legal : LegalStep F A (stepOf A B)
   change-legal =

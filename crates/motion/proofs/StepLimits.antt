@@ -22,20 +22,19 @@ use lib.ListN.{length, length-map}
 use Rattle.order.specs.Floor.{Floor}
 use Rattle.motion.specs.Arrangement.{Arrangement}
 use Rattle.motion.specs.Move.{after}
-use Rattle.motion.specs.Step.{Train, leader, follows}
 use Rattle.motion.specs.Problem.{UniquelyInvertible}
 use Rattle.motion.proofs.ListLaws.{by-member, pairwise-more, pigeonhole, pigeonhole-below, keys-same, keys-nodup}
 use Rattle.motion.proofs.StepTestsLaws.{left, vacant-iff, left-differ}
 use Rattle.motion.specs.StepTests.{entered}
 use Rattle.motion.proofs.Trains.{train-member}
-use Rattle.motion.specs.LegalStep.{LegalStep}
+use Rattle.motion.specs.LegalStep.{Train, leader, follows, LegalStep}
 use Rattle.motion.proofs.LegalStepLaws.{legal-nothing}
 use Rattle.motion.proofs.StepReplay.{StepsLead, replay-none, replay-cons, replay-waiting}
 use Rattle.motion.proofs.Racks.{valid-below, valid-nodup}
 
 -- how many moves
 
-pub train-leader : {A : Arrangement} {ms : List (ℕ × ℕ)} {m : ℕ × ℕ} → Train A ms m
+pub train-leader : {A : Arrangement} {ms : List (ℕ × ℕ)} {k : ℕ} {m : ℕ × ℕ} → Train A ms k m
     → (l : ℕ × ℕ) × List·Memᴰ l ms × (List·Memᴰ (l .1) A → ⊥)
 train-leader {A} {m} (leader n t) = (m, n, vacant-iff A (m .1) .0 t)
 train-leader (follows n e t) = train-leader t
@@ -61,7 +60,7 @@ module _ {F : Floor} {A : Arrangement} {ms : List (ℕ × ℕ)} (s : LegalStep F
 
   pub step-positions : {m : ℕ × ℕ} → List·Memᴰ m ms → length ms < F .positions
   step-positions {m} k =
-      let w = train-leader (s .trains m k) in
+      let w = train-leader (s .trains m k .1) in
       subst (λ (n : ℕ). n < F .positions) (length-map ms left)
       (one-more (F .positions) (w .0 .1) A (map left ms) (s .joins (w .0) (w .1) .entered-below) (w .2) lefts-nodup lefts-held)
 
@@ -75,7 +74,7 @@ pub full-still : {F : Floor} {v : ℕ} {A : Arrangement} (ms : List (ℕ × ℕ)
     → LegalStep F A ms → ms ≡ []
 full-still [] valid full s = refl
 full-still {F} {v} {A} (m ∷ ms) valid full s =
-    let w = train-leader (s .trains m (List·Memᴰ·head refl)) in
+    let w = train-leader (s .trains m (List·Memᴰ·head refl) .1) in
     let fewer : length A < F .positions =
     one-more (F .positions) (w .0 .1) A A (s .joins (w .0) (w .1) .entered-below) (w .2) (valid-nodup valid)
     (λ q k. (k, valid-below valid k)) in
@@ -102,9 +101,9 @@ full-iff F v A G n (ms ∷ steps) valid full = (
 module _ {F : Floor} {A : Arrangement} {ms : List (ℕ × ℕ)} (s : LegalStep F A ms) where
   pub no-ring : (R : ℕ × ℕ → Type 0) → ((m : ℕ × ℕ) → R m → List·Memᴰ m ms)
       → ((m : ℕ × ℕ) → R m → (m′ : ℕ × ℕ) × R m′ × (m .1 ≡ m′ .0)) → (m : ℕ × ℕ) → R m → ⊥
-  no-ring R part next m r = ends (s .trains m (part m r)) r
+  no-ring R part next m r = ends (s .trains m (part m r) .1) r
     where
-      ends : {m : ℕ × ℕ} → Train A ms m → R m → ⊥
+      ends : {k : ℕ} {m : ℕ × ℕ} → Train A ms k m → R m → ⊥
       ends {m} (leader n t) r =
           let w = next m r in
           vacant-iff A (m .1) .0 t (Memᴰ·cast (w .2) (s .held (w .0) (part (w .0) (w .1))))

@@ -28,14 +28,15 @@ use Rattle.motion.specs.Problem.{UniquelyInvertible, Instance, arrangeme
 use Rattle.motion.specs.ParallelPathFinding.{InChains, Solution}
 use Rattle.motion.proofs.Racks.{valid-fits}
 use Rattle.motion.specs.StepOf.{stepOf}
+use Rattle.motion.proofs.StepDecision.{legalStep?}
 use Rattle.motion.proofs.StepReplay.{StepsLead, replay-none, replay-cons}
 use Rattle.motion.proofs.StepChange.{Change, legal-change, legal-stepOf, legal-valid, change-legal, change-after}
-use Rattle.motion.specs.StepSolutions.{stepsFrom, stepsOf}
+use Rattle.motion.specs.StepSolutions.{stepsThrough, stepsBetween}
 
-length-stepsFrom : (A : Arrangement) (S : List Arrangement) → length (stepsFrom A S) ≡ length S
-unfolding stepsFrom
-length-stepsFrom A [] = refl
-length-stepsFrom A (B ∷ S) = ap suc (length-stepsFrom B S)
+length-stepsThrough : (A : Arrangement) (S : List Arrangement) → length (stepsThrough A S) ≡ length S
+unfolding stepsThrough
+length-stepsThrough A [] = refl
+length-stepsThrough A (B ∷ S) = ap suc (length-stepsThrough B S)
 
 pub data Way (F : Floor) (m : ℕ) (G : Arrangement) : Arrangement → List Arrangement → Type 0 where
   there : {A : Arrangement} → A ≡ G → Way F m G A []
@@ -109,8 +110,8 @@ module _ {F : Floor} {m : ℕ} {G : Arrangement} where
   -- what replay accepts goes a way, and the other way round
 
   pub replay-way : (n : ℕ) (A : Arrangement) (steps : List (List (ℕ × ℕ))) → UniquelyInvertible F m A → StepsLead F n A steps G
-      → (S : List Arrangement) × Way F m G A S × (trace after A steps ≡ A ∷ S) × (steps ≡ stepsFrom A S)
-  unfolding trace stepsFrom
+      → (S : List Arrangement) × Way F m G A S × (trace after A steps ≡ A ∷ S) × (steps ≡ stepsThrough A S)
+  unfolding trace stepsThrough
   replay-way n A [] valid e = ([], there (replay-none F n A G .0 e), refl, refl)
   replay-way n A (ms ∷ steps) valid e =
       let c = replay-cons F n A G ms steps .0 e in
@@ -122,12 +123,12 @@ module _ {F : Floor} {m : ℕ} {G : Arrangement} where
       )
 
   pub way-replay : (n : ℕ) {A : Arrangement} {S : List Arrangement} → UniquelyInvertible F m A → Way F m G A S
-      → StepsLead F n A (stepsFrom A S) G × (trace after A (stepsFrom A S) ≡ A ∷ S)
-  unfolding trace stepsFrom
+      → StepsLead F n A (stepsThrough A S) G × (trace after A (stepsThrough A S) ≡ A ∷ S)
+  unfolding trace stepsThrough
   way-replay n {A} valid (there e) = (replay-none F n A G .1 e, refl)
   way-replay n {A} valid (onward {B = B} {S = S} c w) =
       let rest = way-replay (suc n) (c .invertible) w in (
-        replay-cons F n A G (stepOf A B) (stepsFrom B S) .1 (change-legal valid c, rw (change-after valid c) (rest .0)),
+        replay-cons F n A G (stepOf A B) (stepsThrough B S) .1 (change-legal valid c, rw (change-after valid c) (rest .0)),
         rw (change-after valid c) (ap (λ (t : List Arrangement). A ∷ t) (rest .1)),
       )
 
@@ -141,54 +142,56 @@ pub record OnlySteps (F : Floor) (S⁰ S⁺ : Arrangement) (ζ : ℕ) (S : List 
   pub steps : List (List (ℕ × ℕ))
   pub count : length steps ≡ ζ
   pub traced : trace after S⁰ steps ≡ S
-  pub accepted : replaySteps F S⁰ steps ≡ ended S⁺
-  pub only : (steps′ : List (List (ℕ × ℕ))) → trace after S⁰ steps′ ≡ S → replaySteps F S⁰ steps′ ≡ ended S⁺ → steps′ ≡ steps
+  pub accepted : replaySteps (legalStep? F) S⁰ steps ≡ ended S⁺
+  pub only : (steps′ : List (List (ℕ × ℕ))) → trace after S⁰ steps′ ≡ S → replaySteps (legalStep? F) S⁰ steps′ ≡ ended S⁺ → steps′ ≡ steps
   -- each step lists the racks that change place, ascending by the position left
-  pub between : steps ≡ stepsOf S
+  pub between : steps ≡ stepsBetween S
 
 module _ (F : Floor) (m : ℕ) (S⁰ S⁺ : Arrangement) where
-  pub replay-solution : UniquelyInvertible F m S⁰ → (steps : List (List (ℕ × ℕ))) → replaySteps F S⁰ steps ≡ ended S⁺
+  pub replay-solution : UniquelyInvertible F m S⁰ → (steps : List (List (ℕ × ℕ))) → replaySteps (legalStep? F) S⁰ steps ≡ ended S⁺
       → Solution F m S⁰ S⁺ (length steps) (trace after S⁰ steps)
   unfolding replaySteps
   replay-solution valid steps e =
       let w = replay-way 1 S⁰ steps valid e in
-      let size : length (w .0) ≡ length steps = sym (ap length (w .3) ∙ length-stepsFrom S⁰ (w .0)) in
+      let size : length (w .0) ≡ length steps = sym (ap length (w .3) ∙ length-stepsThrough S⁰ (w .0)) in
       subst₂ (Solution F m S⁰ S⁺) size (sym (w .2)) (way-solution valid (w .1))
 
-  replay-stepsOf : UniquelyInvertible F m S⁰ → (steps : List (List (ℕ × ℕ))) → replaySteps F S⁰ steps ≡ ended S⁺
-      → steps ≡ stepsOf (trace after S⁰ steps)
-  unfolding replaySteps stepsOf
-  replay-stepsOf valid steps e = let w = replay-way 1 S⁰ steps valid e in w .3 ∙ ap stepsOf (sym (w .2))
+  replay-stepsBetween : UniquelyInvertible F m S⁰ → (steps : List (List (ℕ × ℕ))) → replaySteps (legalStep? F) S⁰ steps ≡ ended S⁺
+      → steps ≡ stepsBetween (trace after S⁰ steps)
+  unfolding replaySteps stepsBetween
+  replay-stepsBetween valid steps e = let w = replay-way 1 S⁰ steps valid e in w .3 ∙ ap stepsBetween (sym (w .2))
 
   pub solution-replay : (ζ : ℕ) (S : List Arrangement) → Solution F m S⁰ S⁺ ζ S → OnlySteps F S⁰ S⁺ ζ S
-  unfolding replaySteps stepsOf arrangementAt
+  unfolding replaySteps stepsBetween arrangementAt
   solution-replay ζ [] s = absurd (omega (arith, s .sequence))
   solution-replay ζ (A ∷ S) s =
       let valid : UniquelyInvertible F m A = s .invertible 0 (omega arith) in
       let r = way-replay 1 valid (solution-way A S s) in
       record {
-        steps = stepsFrom A S;
-        count = omega (arith, length-stepsFrom A S, s .sequence);
-        traced = subst (λ (B : Arrangement). trace after B (stepsFrom A S) ≡ A ∷ S) (s .begins) (r .1);
-        accepted = subst (λ (B : Arrangement). StepsLead F 1 B (stepsFrom A S) S⁺) (s .begins) (r .0);
-        only = λ steps′ t e. replay-stepsOf (subst (UniquelyInvertible F m) (s .begins) valid) steps′ e ∙ ap stepsOf t;
+        steps = stepsThrough A S;
+        count = omega (arith, length-stepsThrough A S, s .sequence);
+        traced = subst (λ (B : Arrangement). trace after B (stepsThrough A S) ≡ A ∷ S) (s .begins) (r .1);
+        accepted = subst (λ (B : Arrangement). StepsLead F 1 B (stepsThrough A S) S⁺) (s .begins) (r .0);
+        only = λ steps′ t e. replay-stepsBetween (subst (UniquelyInvertible F m) (s .begins) valid) steps′ e ∙ ap stepsBetween t;
         between = refl;
       }
 
   pub steps-replay : Instance F m S⁰ S⁺
-      → ((steps : List (List (ℕ × ℕ))) → replaySteps F S⁰ steps ≡ ended S⁺ → Solution F m S⁰ S⁺ (length steps) (trace after S⁰ steps))
+      → ((steps : List (List (ℕ × ℕ))) → replaySteps (legalStep? F) S⁰ steps ≡ ended S⁺
+      → Solution F m S⁰ S⁺ (length steps) (trace after S⁰ steps))
       × ((ζ : ℕ) (S : List Arrangement) → Solution F m S⁰ S⁺ ζ S → OnlySteps F S⁰ S⁺ ζ S)
   steps-replay σ = (replay-solution (σ .initial), solution-replay)
 
   pub solutions-iff : UniquelyInvertible F m S⁰ → (steps : List (List (ℕ × ℕ))) (S : List Arrangement)
-      → ((replaySteps F S⁰ steps ≡ ended S⁺) × (trace after S⁰ steps ≡ S)) ↔ (Solution F m S⁰ S⁺ (length steps) S × (steps ≡ stepsOf S))
+      → ((replaySteps (legalStep? F) S⁰ steps ≡ ended S⁺) × (trace after S⁰ steps ≡ S))
+      ↔ (Solution F m S⁰ S⁺ (length steps) S × (steps ≡ stepsBetween S))
   solutions-iff valid steps S = (
     λ w. (
       subst (Solution F m S⁰ S⁺ (length steps)) (w .1) (replay-solution valid steps (w .0)),
-      replay-stepsOf valid steps (w .0) ∙ ap stepsOf (w .1),
+      replay-stepsBetween valid steps (w .0) ∙ ap stepsBetween (w .1),
     ),
     λ w.
         let o = solution-replay (length steps) S (w .0) in
         let same : steps ≡ o .steps = w .1 ∙ sym (o .between) in
-        (ap (replaySteps F S⁰) same ∙ o .accepted, ap (trace after S⁰) same ∙ o .traced),
+        (ap (replaySteps (legalStep? F) S⁰) same ∙ o .accepted, ap (trace after S⁰) same ∙ o .traced),
   )

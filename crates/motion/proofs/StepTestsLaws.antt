@@ -2,6 +2,7 @@
 --
 --     left m, entered m      the position that the move m leaves, and the one that it enters
 --     or-left, or-right      a test joined by "or" passes if one of the two passes
+--     some-iff               some t l: some element of l passes t
 --     occupied-iff           occupied A p: p is one of the positions of A
 --     vacant-iff             vacant A p: p is none of them
 --     leaves-iff             leaves ms p: some move of ms leaves p
@@ -22,7 +23,8 @@ use mathlib.Core.Path.{_≡_, refl, sym, _∙_, ap, subst}
 use mathlib.Core.Bool.{Bool, true, false, not, _||_}
 use mathlib.Core.Logic.{_↔_, _≢_, ⊎-elim, dite}
 use mathlib.Core.HLevel.{¬-prop}
-use mathlib.Core.List.{List, [], _∷_, List·Memᴰ, List·Memᴰ·head, List·Memᴰ·tail, List·Memᴰ·not-nil, Memᴰ·cast, Pairwise·nil, Pairwise·of-cons, Pairwise·imp}
+use mathlib.Core.List.{List, [], _∷_, List·Memᴰ, List·Memᴰ·head, List·Memᴰ·tail, List·Memᴰ·not-nil, Memᴰ·cast, Pairwise·nil}
+use mathlib.Core.List.{Pairwise·of-cons, Pairwise·imp}
 use native.Mathlib.Omega.{arith}
 use native.Mathlib.Bridge.{le-prop}
 use native.Mathlib.Decide.{ℕ-discrete}
@@ -31,6 +33,7 @@ use lib.Dec.{T, ltb, eqb, ltb→lt, lt→ltb, eqb→eq, eqb-refl, T-not, not-T}
 use mir.Facts.{and-yes, yes-and, or-yes}
 use borrow.Author.Tests.{eq-eqb, ne-eqb}
 use Rattle.order.specs.Floor.{Floor}
+use Rattle.order.specs.Order.{some}
 use Rattle.motion.specs.Arrangement.{Arrangement, occupied, vacant}
 use Rattle.motion.specs.Move.{onFloor, goesTo}
 use Rattle.motion.proofs.MoveLaws.{onFloor-parts}
@@ -49,55 +52,47 @@ pub or-right : (a b : Bool) → T b → T (a || b)
 or-right true b t = tt
 or-right false b t = t
 
--- some element of the list has the key p: `occupied`, `leaves` and `enters` are this test, with three keys
-found : {X : Type 0} → (X → ℕ) → List X → ℕ → Bool
-found key [] p = false
-found key (x ∷ l) p = eqb (key x) p || found key l p
-
-found-iff : {X : Type 0} (key : X → ℕ) (l : List X) (p : ℕ) → T (found key l p) ↔ ((x : X) × List·Memᴰ x l × (key x ≡ p))
-unfolding found
-found-iff key [] p = (λ t. absurd t, λ w. List·Memᴰ·not-nil (w .1))
-found-iff {X} key (y ∷ l) p = (
-  λ t.
-      ⊎-elim {C = (x : X) × List·Memᴰ x (y ∷ l) × (key x ≡ p)} (λ e. (y, List·Memᴰ·head refl, eqb→eq (key y) p e))
-      (λ o. let w = found-iff key l p .0 o in (w .0, List·Memᴰ·tail (w .1), w .2)) (or-yes (eqb (key y) p) (found key l p) t),
+pub some-iff : {X : Type 0} (t : X → Bool) (l : List X) → T (some t l) ↔ ((x : X) × List·Memᴰ x l × T (t x))
+unfolding some
+some-iff t [] = (λ u. absurd u, λ w. List·Memᴰ·not-nil (w .1))
+some-iff {X} t (y ∷ l) = (
+  λ u.
+      ⊎-elim {C = (x : X) × List·Memᴰ x (y ∷ l) × T (t x)} (λ h. (y, List·Memᴰ·head refl, h))
+      (λ o. let w = some-iff t l .0 o in (w .0, List·Memᴰ·tail (w .1), w .2)) (or-yes (t y) (some t l) u),
   λ w.
-      by-member (w .1) (λ e. or-left (eqb (key y) p) (found key l p) (here (sym (ap key e) ∙ w .2)))
-      (λ k. or-right (eqb (key y) p) (found key l p) (found-iff key l p .1 (w .0, k, w .2))),
+      by-member (w .1) (λ e. or-left (t y) (some t l) (subst (λ (x : X). T (t x)) e (w .2)))
+      (λ k. or-right (t y) (some t l) (some-iff t l .1 (w .0, k, w .2))),
 )
-  where
-    here : key y ≡ p → T (eqb (key y) p)
-    here e = subst (λ (k : ℕ). T (eqb (key y) k)) e (eqb-refl (key y))
 
-occupied-found : (A : Arrangement) (p : ℕ) → occupied A p ≡ found (λ (q : ℕ). q) A p
-unfolding occupied found
-occupied-found [] p = refl
-occupied-found (q ∷ A) p = ap (λ (b : Bool). eqb q p || b) (occupied-found A p)
+-- some element of the list has the key p: `occupied`, `leaves` and `enters` are this test, with three keys
+key-iff : {X : Type 0} (key : X → ℕ) (l : List X) (p : ℕ) → T (some (λ x. eqb (key x) p) l) ↔ ((x : X) × List·Memᴰ x l × (key x ≡ p))
+key-iff key l p =
+    let s = some-iff (λ x. eqb (key x) p) l in (
+      λ u. let w = s .0 u in (w .0, w .1, eqb→eq (key (w .0)) p (w .2)),
+      λ w. s .1 (w .0, w .1, subst (λ (k : ℕ). T (eqb (key (w .0)) k)) (w .2) (eqb-refl (key (w .0)))),
+    )
 
-leaves-found : (ms : List (ℕ × ℕ)) (p : ℕ) → leaves ms p ≡ found left ms p
-unfolding leaves found
-leaves-found [] p = refl
-leaves-found (m ∷ ms) p = ap (λ (b : Bool). eqb (m .0) p || b) (leaves-found ms p)
-
-enters-found : (ms : List (ℕ × ℕ)) (p : ℕ) → enters ms p ≡ found entered ms p
-unfolding enters found
-enters-found [] p = refl
-enters-found (m ∷ ms) p = ap (λ (b : Bool). eqb (m .1) p || b) (enters-found ms p)
+occupied-some : (A : Arrangement) (p : ℕ) → occupied A p ≡ some (λ (q : ℕ). eqb q p) A
+unfolding occupied some
+occupied-some [] p = refl
+occupied-some (q ∷ A) p = ap (λ (b : Bool). eqb q p || b) (occupied-some A p)
 
 pub occupied-iff : (A : Arrangement) (p : ℕ) → T (occupied A p) ↔ List·Memᴰ p A
 occupied-iff A p =
-    let f = found-iff (λ (q : ℕ). q) A p in
-    rw (occupied-found A p) (λ t. let w = f .0 t in Memᴰ·cast (sym (w .2)) (w .1), λ k. f .1 (p, k, refl))
+    let f = key-iff (λ (q : ℕ). q) A p in
+    rw (occupied-some A p) (λ t. let w = f .0 t in Memᴰ·cast (sym (w .2)) (w .1), λ k. f .1 (p, k, refl))
 
 pub vacant-iff : (A : Arrangement) (p : ℕ) → T (vacant A p) ↔ (List·Memᴰ p A → ⊥)
 unfolding vacant
 vacant-iff A p = (λ t k. T-not (occupied A p) t (occupied-iff A p .1 k), λ h. not-T (occupied A p) (λ t. h (occupied-iff A p .0 t)))
 
 pub leaves-iff : (ms : List (ℕ × ℕ)) (p : ℕ) → T (leaves ms p) ↔ ((m : ℕ × ℕ) × List·Memᴰ m ms × (m .0 ≡ p))
-leaves-iff ms p = rw (leaves-found ms p) (found-iff left ms p)
+unfolding leaves
+leaves-iff ms p = key-iff left ms p
 
 pub enters-iff : (ms : List (ℕ × ℕ)) (p : ℕ) → T (enters ms p) ↔ ((m : ℕ × ℕ) × List·Memᴰ m ms × (m .1 ≡ p))
-enters-iff ms p = rw (enters-found ms p) (found-iff entered ms p)
+unfolding enters
+enters-iff ms p = key-iff entered ms p
 
 pub every-iff : {X : Type 0} (t : X → Bool) (l : List X) → T (every t l) ↔ ((x : X) → List·Memᴰ x l → T (t x))
 unfolding every

@@ -8,12 +8,13 @@
 --     led-enough         what is found by following a chain however long is found by following it as often as the step has moves
 --     led-next           so a position is led if it is vacant, or left for one that is led
 --     led-closed         from positions that are not vacant and lead to one another there is no leader: a ring, for one
---     led-train          what `led` finds is a train
---     train-led          a train is found by following it as often as the step has moves
---     led-iff            both: `led`, with the step's length for the count, decides `Train`
+--     led-train          what `led` finds is a train, of at most one move more than it followed
+--     led-at-most        `led k` decides whether a train of at most k + 1 moves leads on from a move
+--     led-iff            and with the step's length for k, whether one of any length does
 --     train-member       a move of a train is a move of the step
---     train-next         a move into a position that is not vacant follows the move that leaves it, in the same train
+--     train-next         a move into a position that is not vacant follows the move that leaves it, in a train one move shorter
 --     train-moves        in a train of racks no move enters the position that it leaves
+--     train-length       and from a move there is one train alone: its length is unique
 -- Assumes nothing.
 use Prim.Native.Nat.{ℕ, zero, suc, _≤_}
 use mathlib.Core.Path.{_≡_, refl, sym, _∙_, ap, subst}
@@ -28,9 +29,11 @@ use lib.Dec.{T}
 use mir.Facts.{and-yes, yes-and, or-yes}
 use Rattle.motion.specs.Arrangement.{Arrangement, vacant}
 use Rattle.motion.specs.Move.{goesTo}
-use Rattle.motion.specs.Step.{leaves, led, Train, leader, follows}
+use Rattle.motion.specs.Step.{leaves, led}
+use Rattle.motion.specs.LegalStep.{Train, leader, follows}
 use Rattle.motion.proofs.ListLaws.{by-member, pairwise-more, pigeonhole, keys-same}
-use Rattle.motion.proofs.StepTestsLaws.{left, or-left, or-right, left-differ, vacant-iff, leaves-iff, Goes, taken, stays, goesTo-cases, goesTo-takes}
+use Rattle.motion.proofs.StepTestsLaws.{left, or-left, or-right, left-differ, vacant-iff, leaves-iff, Goes, taken, stays}
+use Rattle.motion.proofs.StepTestsLaws.{goesTo-cases, goesTo-takes}
 use Rattle.motion.specs.StepTests.{entered, Ascends}
 
 module _ (A : Arrangement) (ms : List (ℕ × ℕ)) where
@@ -82,7 +85,8 @@ module _ (A : Arrangement) (ms : List (ℕ × ℕ)) where
   led-chain zero p t = ([], ends t)
   led-chain (suc k) p t = on (vacant A p) refl (λ o. passed o (or-yes (vacant A p) _ t)) (led-chain k (goesTo ms p))
     where
-      passed : (T (vacant A p) → ⊥) → T (vacant A p) ⊎ T (leaves ms p && led k ms A (goesTo ms p)) → T (leaves ms p) × T (led k ms A (goesTo ms p))
+      passed : (T (vacant A p) → ⊥) → T (vacant A p) ⊎ T (leaves ms p && led k ms A (goesTo ms p))
+          → T (leaves ms p) × T (led k ms A (goesTo ms p))
       passed o (inl v) = absurd (o v)
       passed o (inr b) = and-yes (leaves ms p) (led k ms A (goesTo ms p)) b
 
@@ -129,48 +133,74 @@ module _ (A : Arrangement) (ms : List (ℕ × ℕ)) where
   led-closed R on (suc k) p r t =
       ⊎-elim (on p r .0) (λ b. led-closed R on k (goesTo ms p) (on p r .1) (and-yes (leaves ms p) _ b .1)) (or-yes (vacant A p) _ t)
 
-  pub led-train : (k : ℕ) {m : ℕ × ℕ} → List·Memᴰ m ms → T (led k ms A (m .1)) → Train A ms m
+  abbrev AtMost : ℕ → ℕ × ℕ → Type 0
+  AtMost k m = (n : ℕ) × (n ≤ k) × Train A ms n m
+
+  pub led-train : (k : ℕ) {m : ℕ × ℕ} → List·Memᴰ m ms → T (led k ms A (m .1)) → AtMost (suc k) m
   unfolding led
-  led-train zero n t = leader n t
+  led-train zero n t = (1, omega arith, leader n t)
   led-train (suc k) {m} n t =
-      ⊎-elim (leader n)
+      ⊎-elim (λ v. (1, omega arith, leader n v))
       (λ b.
       let c = and-yes (leaves ms (m .1)) (led k ms A (goesTo ms (m .1))) b in
       next (goesTo-cases ms (m .1)) (c .0) (λ m′ n′ g. led-train k n′ (subst (λ (p : ℕ). T (led k ms A p)) g (c .1))))
       (or-yes (vacant A (m .1)) _ t)
     where
-      next : Goes ms (m .1) → T (leaves ms (m .1))
-          → ((m′ : ℕ × ℕ) → List·Memᴰ m′ ms → goesTo ms (m .1) ≡ m′ .1 → Train A ms m′) → Train A ms m
-      next (taken m′ n′ e g) l rest = follows n (sym e) (rest m′ n′ g)
+      next : Goes ms (m .1) → T (leaves ms (m .1)) → ((m′ : ℕ × ℕ) → List·Memᴰ m′ ms → goesTo ms (m .1) ≡ m′ .1 → AtMost (suc k) m′)
+          → AtMost (suc (suc k)) m
+      next (taken m′ n′ e g) l rest = let w = rest m′ n′ g in (suc (w .0), omega (arith, w .1), follows n (sym e) (w .2))
       next (stays h g) l rest = let w = leaves-iff ms (m .1) .0 l in absurd (h (w .0) (w .1) (w .2))
 
-  pub train-member : {m : ℕ × ℕ} → Train A ms m → List·Memᴰ m ms
+  pub train-member : {k : ℕ} {m : ℕ × ℕ} → Train A ms k m → List·Memᴰ m ms
   train-member (leader n v) = n
   train-member (follows n e t) = n
 
   module _ (up : Ascends ms) where
-    train-found : {m : ℕ × ℕ} → Train A ms m → (k : ℕ) × T (led k ms A (m .1))
+    train-found : {n : ℕ} {m : ℕ × ℕ} → Train A ms n m → (k : ℕ) × (n ≡ suc k) × T (led k ms A (m .1))
     unfolding led
-    train-found (leader n v) = (0, v)
+    train-found (leader n v) = (0, refl, v)
     train-found {m} (follows {m′ = m′} n e t) =
         let w = train-found t in
         let g : m′ .1 ≡ goesTo ms (m .1) = sym (ap (goesTo ms) e ∙ goesTo-takes up (train-member t)) in
         let l : T (leaves ms (m .1)) = leaves-iff ms (m .1) .1 (m′, train-member t, sym e) in
-        (suc (w .0), or-right (vacant A (m .1)) _ (yes-and (leaves ms (m .1)) _ l (subst (λ (p : ℕ). T (led (w .0) ms A p)) g (w .1))))
+        let on : T (led (w .0) ms A (goesTo ms (m .1))) = subst (λ (p : ℕ). T (led (w .0) ms A p)) g (w .2) in
+        (suc (w .0), ap suc (w .1), or-right (vacant A (m .1)) _ (yes-and (leaves ms (m .1)) _ l on))
 
-    pub train-led : {m : ℕ × ℕ} → Train A ms m → T (led (length ms) ms A (m .1))
-    train-led {m} t = let w = train-found t in led-enough (w .0) (m .1) (w .1)
+    pub led-at-most : (k : ℕ) {m : ℕ × ℕ} → List·Memᴰ m ms → T (led k ms A (m .1)) ↔ AtMost (suc k) m
+    led-at-most k {m} n = (
+      led-train k n,
+      λ w. let f = train-found (w .2) in led-longer (f .0) k (m .1) (omega (arith, w .1, f .1)) (f .2),
+    )
 
-    pub led-iff : {m : ℕ × ℕ} → List·Memᴰ m ms → T (led (length ms) ms A (m .1)) ↔ Train A ms m
-    led-iff n = (led-train (length ms) n, train-led)
+    pub led-iff : {m : ℕ × ℕ} → List·Memᴰ m ms → T (led (length ms) ms A (m .1)) ↔ ((k : ℕ) × Train A ms k m)
+    led-iff {m} n = (
+      λ t. let w = led-train (length ms) n t in (w .0, w .2),
+      λ w. let f = train-found (w .1) in led-enough (f .0) (m .1) (f .2),
+    )
 
-    pub train-next : {m m′ : ℕ × ℕ} → Train A ms m → (T (vacant A (m .1)) → ⊥) → List·Memᴰ m′ ms → m .1 ≡ m′ .0 → Train A ms m′
-    train-next (leader n v) o k e = absurd (o v)
-    train-next {m} {m′} (follows n e′ t) o k e =
-        subst (Train A ms) (keys-same left ms (left-differ up) (train-member t) k (sym e′ ∙ e)) t
+    -- a position is left by one move alone
+    same-left : {k : ℕ} {m m′ : ℕ × ℕ} → Train A ms k m → List·Memᴰ m′ ms → m .0 ≡ m′ .0 → m ≡ m′
+    same-left t n e = keys-same left ms (left-differ up) (train-member t) n e
 
-    pub train-moves : ((m : ℕ × ℕ) → List·Memᴰ m ms → List·Memᴰ (m .0) A) → {m : ℕ × ℕ} → Train A ms m → m .0 ≢ m .1
-    train-moves held {m} (leader n v) e = vacant-iff A (m .1) .0 v (Memᴰ·cast (sym e) (held m n))
-    train-moves held {m} (follows {m′ = m′} n q t) e =
-        let same : m′ ≡ m = keys-same left ms (left-differ up) (train-member t) n (sym q ∙ sym e) in
-        train-moves held t (ap left same ∙ e ∙ sym (ap entered same))
+    pub train-next : {k : ℕ} {m m′ : ℕ × ℕ} → Train A ms k m → (T (vacant A (m .1)) → ⊥) → List·Memᴰ m′ ms → m .1 ≡ m′ .0
+        → (j : ℕ) × (k ≡ suc j) × Train A ms j m′
+    train-next (leader n v) o l e = absurd (o v)
+    train-next {m} {m′} (follows {k = j} n e′ t) o l e = (j, refl, subst (Train A ms j) (same-left t l (sym e′ ∙ e)) t)
+
+    module _ (held : (m : ℕ × ℕ) → List·Memᴰ m ms → List·Memᴰ (m .0) A) where
+      pub train-moves : {k : ℕ} {m : ℕ × ℕ} → Train A ms k m → m .0 ≢ m .1
+      train-moves {m} (leader n v) e = vacant-iff A (m .1) .0 v (Memᴰ·cast (sym e) (held m n))
+      train-moves {m} (follows n q t) e =
+          let same = same-left t n (sym q ∙ sym e) in
+          train-moves t (ap left same ∙ e ∙ sym (ap entered same))
+
+      -- a position that a move leaves is not vacant, so who follows does not lead
+      train-held : {k p : ℕ} {m : ℕ × ℕ} → Train A ms k m → p ≡ m .0 → T (vacant A p) → ⊥
+      train-held {p} {m} t e v = vacant-iff A p .0 v (Memᴰ·cast e (held m (train-member t)))
+
+      pub train-length : {j k : ℕ} {m : ℕ × ℕ} → Train A ms j m → Train A ms k m → j ≡ k
+      train-length (leader n v) (leader n′ v′) = refl
+      train-length (leader n v) (follows n′ e t) = absurd (train-held t e v)
+      train-length (follows n e t) (leader n′ v) = absurd (train-held t e v)
+      train-length (follows n e t) (follows {k = k} n′ e′ t′) =
+          ap suc (train-length t (subst (Train A ms k) (same-left t′ (train-member t) (sym e′ ∙ e)) t′))

@@ -15,6 +15,7 @@ use mathlib.Core.Path.{_≡_, refl, sym, _∙_}
 use lib.Dec.{T, eqb}
 use lib.ListN.{length, getD}
 use Rattle.order.specs.Floor.{Floor}
+use Rattle.order.specs.Order.{some}
 use Rattle.motion.specs.Arrangement.{Arrangement, vacant}
 use Rattle.motion.proofs.ArrangementLaws.{vacant-racks}
 use Rattle.motion.proofs.Lawful.{Leads, still, _then_}
@@ -30,11 +31,11 @@ neither a p b t =
     (λ e. n (or-parts (eqb a p) b .1 (inl (eqb-parts a p .1 e))), not-parts b .1 (λ u. n (or-parts (eqb a p) b .1 (inr u))))
 
 pub enters-first : (m : ℕ × ℕ) (ms : List (ℕ × ℕ)) (p : ℕ) → T (not (enters (m ∷ ms) p)) → (m .1 ≢ p) × T (not (enters ms p))
-unfolding enters
+unfolding enters some
 enters-first m ms p t = neither (m .1) p (enters ms p) t
 
 pub leaves-first : (m : ℕ × ℕ) (ms : List (ℕ × ℕ)) (p : ℕ) → T (not (leaves (m ∷ ms) p)) → (m .0 ≢ p) × T (not (leaves ms p))
-unfolding leaves
+unfolding leaves some
 leaves-first m ms p t = neither (m .0) p (leaves ms p) t
 
 pub vacant-move : (A : Arrangement) (m : ℕ × ℕ) (y : ℕ) → T (vacant A y) → m .1 ≢ y → T (vacant (afterMove A m) y)
@@ -47,19 +48,22 @@ vacant-move A m y v d =
     (λ (e : getD A i 0 ≢ m .0). rw (moved-other A m i h e) (vacant-racks A y .0 v i h))
     (equal? (getD A i 0) (m .0)))
 
-pub vacant-stays : (F : Floor) (y : ℕ) {A B : Arrangement} {ms : List (ℕ × ℕ)} → Leads F A ms B → T (vacant A y) → T (not (enters ms y)) → T (vacant B y)
+pub vacant-stays : (F : Floor) (y : ℕ) {A B : Arrangement} {ms : List (ℕ × ℕ)} → Leads F A ms B → T (vacant A y) → T (not (enters ms y))
+    → T (vacant B y)
 vacant-stays F y still v t = v
 vacant-stays F y (_then_ {A = A} {x = m} {xs = ms} l p) v t =
     let u = enters-first m ms y t in
     vacant-stays F y p (vacant-move A m y v (u .0)) (u .1)
 
-pub rack-stays : (F : Floor) (i : ℕ) {A B : Arrangement} {ms : List (ℕ × ℕ)} → Leads F A ms B → i < length A → T (not (leaves ms (getD A i 0))) → getD B i 0 ≡ getD A i 0
+pub rack-stays : (F : Floor) (i : ℕ) {A B : Arrangement} {ms : List (ℕ × ℕ)} → Leads F A ms B → i < length A
+    → T (not (leaves ms (getD A i 0))) → getD B i 0 ≡ getD A i 0
 rack-stays F i still h t = refl
 rack-stays F i (_then_ {A = A} {x = m} {xs = ms} l p) h t =
     let u = leaves-first m ms (getD A i 0) t in
     let e : getD (afterMove A m) i 0 ≡ getD A i 0 = moved-other A m i h (λ c. u .0 (sym c)) in
     rack-stays F i p (rw move-length h) (rw e (u .1)) ∙ e
 
-pub vacant-before : (F : Floor) (y : ℕ) {A B : Arrangement} {ms : List (ℕ × ℕ)} → Leads F A ms B → T (vacant B y) → T (not (leaves ms y)) → T (vacant A y)
+pub vacant-before : (F : Floor) (y : ℕ) {A B : Arrangement} {ms : List (ℕ × ℕ)} → Leads F A ms B → T (vacant B y) → T (not (leaves ms y))
+    → T (vacant A y)
 vacant-before F y {A} {B} p v t =
     vacant-racks A y .1 (λ i h e. vacant-racks B y .0 v i (rw (leads-length F p) h) (rack-stays F i p h (rw e t) ∙ e))

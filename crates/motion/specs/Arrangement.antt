@@ -5,9 +5,11 @@
 --     stands A r       where rack r stands, racks counted from 1
 --     occupied A p     some rack stands at p
 --     vacant A p       no rack stands at p
+--     rackFrom r A p   the rack that stands at p, where the first rack of A has the number r; 0 where none does
+--     rackAt A p       the rack that stands at p, racks counted from 1; 0 where none does
 -- Assumes nothing.
-use Prim.Native.Nat.{ℕ, _-_}
-use mathlib.Core.Bool.{Bool, false, not, _||_}
+use Prim.Native.Nat.{ℕ, suc, _-_}
+use mathlib.Core.Bool.{Bool, false, not, cond, _||_}
 use mathlib.Core.List.{List, [], _∷_}
 use lib.ListN.{getD}
 use lib.Dec.{eqb}
@@ -24,3 +26,10 @@ occupied (q ∷ A) p = eqb q p || occupied A p
 
 unfoldable pub vacant : Arrangement → ℕ → Bool
 vacant A p = not (occupied A p)
+
+unfoldable pub rackFrom : ℕ → Arrangement → ℕ → ℕ
+rackFrom r [] p = 0
+rackFrom r (q ∷ A) p = cond (eqb q p) r (rackFrom (suc r) A p)
+
+unfoldable pub rackAt : Arrangement → ℕ → ℕ
+rackAt A p = rackFrom 1 A p

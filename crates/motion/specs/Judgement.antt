@@ -2,7 +2,7 @@
 -- not at its goal. "33 and 43 are judged only when every move or step was legal."
 --
 --     misplaced r A G          the lowest rack that does not stand at its goal, where A and G begin with rack r; 0 where each does
---     judged k l G counts x    the answer for a replay that ended as x: number k with the number of the first illegal move or step, number
+--     judged l G counts x      the answer for a replay that ended as x: the fault of the first move or step that is not legal, number
 --                              l with the lowest rack not at its goal in G, else accepted with the counts
 -- Assumes nothing.
 use Prim.Native.Nat.{ℕ, suc}
@@ -18,6 +18,6 @@ misplaced r [] G = 0
 misplaced r (p ∷ A) [] = r
 misplaced r (p ∷ A) (g ∷ G) = cond (eqb p g) (misplaced (suc r) A G) r
 
-unfoldable pub judged : ℕ → ℕ → Arrangement → List ℕ → Replayed → Answer
-judged illegal off goals counts (stopped number) = refused illegal number
-judged illegal off goals counts (ended A) = refuse (not (eqb (misplaced 1 A goals) 0)) off (misplaced 1 A goals) (accepted counts)
+unfoldable pub judged : ℕ → Arrangement → List ℕ → Replayed → Answer
+judged off goals counts (stopped number place) = refused number place
+judged off goals counts (ended A) = refuse (not (eqb (misplaced 1 A goals) 0)) off (misplaced 1 A goals) (accepted counts)

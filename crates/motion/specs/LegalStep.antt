@@ -1,14 +1,22 @@
--- The legal step as a record of plain statements, beside the sentence of document 01, "Legal moves and steps", and the test
--- `legalStep` that decides it.
+-- The legal step and its trains, beside the sentences of document 01, "Legal moves and steps". The field's terms: a train is a chain of
+-- agents, its leader the leading agent.
 --
+--     Train A ms k m     from the move m to its leader, both counted, the train has k moves
 --     LegalStep F A ms   the step ms is legal on the arrangement A of the floor F
 -- Assumes nothing.
-use Prim.Native.Nat.{ℕ}
+use Prim.Native.Nat.{ℕ, suc}
 use mathlib.Core.List.{List, List·Memᴰ}
+use mathlib.Core.Path.{_≡_}
+use lib.Dec.{T}
 use Rattle.order.specs.Floor.{Floor}
-use Rattle.motion.specs.Arrangement.{Arrangement}
-use Rattle.motion.specs.Step.{Train}
+use Rattle.motion.specs.Arrangement.{Arrangement, vacant}
 use Rattle.motion.specs.StepTests.{Ascends, EnteredOnce, OnFloor}
+
+pub data Train (A : Arrangement) (ms : List (ℕ × ℕ)) : ℕ → ℕ × ℕ → Type 0 where
+  -- "the chain has to end at a move into a position vacant before the step"
+  leader : {m : ℕ × ℕ} → List·Memᴰ m ms → T (vacant A (m .1)) → Train A ms 1 m
+  -- "a move into a position left in the same step follows that move"
+  follows : {k : ℕ} {m m′ : ℕ × ℕ} → List·Memᴰ m ms → m .1 ≡ m′ .0 → Train A ms k m′ → Train A ms (suc k) m
 
 pub record LegalStep (F : Floor) (A : Arrangement) (ms : List (ℕ × ℕ)) : Type 0 where
   -- "its moves ascend strictly by position left;
@@ -19,5 +27,5 @@ pub record LegalStep (F : Floor) (A : Arrangement) (ms : List (ℕ × ℕ)) : Ty
   pub held : (m : ℕ × ℕ) → List·Memᴰ m ms → List·Memᴰ (m .0) A
   -- no position is entered twice;
   pub once : EnteredOnce ms
-  -- and each move belongs to a train with a leader."
-  pub trains : (m : ℕ × ℕ) → List·Memᴰ m ms → Train A ms m
+  -- and each move belongs to a train with a leader." "Trains have any length."
+  pub trains : (m : ℕ × ℕ) → List·Memᴰ m ms → (k : ℕ) × Train A ms k m

@@ -2,12 +2,14 @@
 --
 --     onFloor F m       both positions of m are below n and an edge joins them
 --     legalMove F A m   m is legal on the arrangement A of the floor F
+--     faultBy j h v     a move's fault by its tests: its positions are joined, the first holds a rack, the second is vacant
+--     moveFault F A m   the fault of the move m on the arrangement A of the floor F: its number, or 0 where it is legal
 --     goesTo ms p       where a rack that stands at p is taken by the moves ms, made all at once
 --     after A ms        the arrangement that the moves ms, made all at once, make of A
 --     afterMove A m     the arrangement that the one move m makes of A
 -- Assumes nothing.
 use Prim.Native.Nat.{ℕ}
-use mathlib.Core.Bool.{Bool, cond, _&&_}
+use mathlib.Core.Bool.{Bool, true, false, cond, _&&_}
 use mathlib.Core.List.{List, [], _∷_, map}
 use lib.Dec.{ltb, eqb}
 use Rattle.order.specs.Floor.{Floor, joined}
@@ -20,6 +22,16 @@ onFloor F m = ltb (m .0) (F .positions) && ltb (m .1) (F .positions) && joined F
 -- "A move is legal if both positions are below n, an edge joins them, the first holds a rack and the second is vacant."
 unfoldable pub legalMove : Floor → Arrangement → ℕ × ℕ → Bool
 legalMove F A m = onFloor F m && occupied A (m .0) && vacant A (m .1)
+
+-- the same as a number of the table: 32, "this move, the first such, is not legal at its turn"
+unfoldable pub faultBy : Bool → Bool → Bool → ℕ
+faultBy false holds free = 32
+faultBy true false free = 32
+faultBy true true false = 32
+faultBy true true true = 0
+
+unfoldable pub moveFault : Floor → Arrangement → ℕ × ℕ → ℕ
+moveFault F A m = faultBy (onFloor F m) (occupied A (m .0)) (vacant A (m .1))
 
 unfoldable pub goesTo : List (ℕ × ℕ) → ℕ → ℕ
 goesTo [] p = p

@@ -1,34 +1,50 @@
 -- Replay, from document 01, "Legal moves and steps": "Replay first puts each rack at its start. … Each move or step is judged on
 -- the arrangement that those before it left. Replay stops at the first that is not legal." Moves and steps count from 1.
 --
---     Replayed             how a replay ends: at an arrangement, or stopped at the number of the first that is not legal
---     replayFrom l a i A   replay of what is judged by l and makes the arrangement a, its first bearing the number i
+--     Replayed             how a replay ends: at an arrangement, or stopped by the first that is not legal, with its fault and its place
+--     replayFrom f a i A   replay of what has the fault f, 0 for none, and makes the arrangement a, its first bearing the number i
 --     replayMoves F A      replay of a plan's moves on the floor F from the arrangement A
---     replaySteps F A      replay of a timetable's steps
+--     unlessLegal d        the fault of a step of which d decides whether it is legal: 42, or 0 for none
+--     stepFault legal?     the fault of a step, where legal? decides
+--     replaySteps legal? A replay of a timetable's steps from the arrangement A
 --     trace a A            the arrangements that a replay passes through, the first and the last included
+-- Whether a step is legal has to be decided for a replay to be computed. What is decided stands in the decision's type, `LegalStep`. Any
+-- decision gives the same replay; proofs/StepDecision.antt has one.
 -- Assumes nothing.
 use Prim.Native.Nat.{ℕ, suc}
-use mathlib.Core.Bool.{Bool, cond}
+use mathlib.Core.Bool.{cond}
 use mathlib.Core.List.{List, [], _∷_}
+use lib.Dec.{eqb}
 use Rattle.order.specs.Floor.{Floor}
 use Rattle.motion.specs.Arrangement.{Arrangement}
-use Rattle.motion.specs.Move.{legalMove, after, afterMove}
-use Rattle.motion.specs.Step.{legalStep}
+use Rattle.motion.specs.Move.{moveFault, after, afterMove}
+use Rattle.motion.specs.LegalStep.{LegalStep}
 
 pub data Replayed : Type 0 where
   ended : Arrangement → Replayed
-  stopped : ℕ → Replayed
+  stopped : ℕ → ℕ → Replayed
 
-module _ {X : Type 0} (legal : Arrangement → X → Bool) (next : Arrangement → X → Arrangement) where
+module _ {X : Type 0} (fault : Arrangement → X → ℕ) (next : Arrangement → X → Arrangement) where
   unfoldable pub replayFrom : ℕ → Arrangement → List X → Replayed
   replayFrom i A [] = ended A
-  replayFrom i A (x ∷ xs) = let rest = replayFrom (suc i) (next A x) xs in cond (legal A x) rest (stopped i)
+  replayFrom i A (x ∷ xs) =
+      let rest = replayFrom (suc i) (next A x) xs in
+      cond (eqb (fault A x) 0) rest (stopped (fault A x) i)
 
 unfoldable pub replayMoves : Floor → Arrangement → List (ℕ × ℕ) → Replayed
-replayMoves F A ms = replayFrom (legalMove F) afterMove 1 A ms
+replayMoves F A ms = replayFrom (moveFault F) afterMove 1 A ms
 
-unfoldable pub replaySteps : Floor → Arrangement → List (List (ℕ × ℕ)) → Replayed
-replaySteps F A steps = replayFrom (legalStep F) after 1 A steps
+-- 42: "this step, the first such, is not legal"
+unfoldable pub unlessLegal : {L : Type 0} → Dec L → ℕ
+unlessLegal (yes l) = 0
+unlessLegal (no f) = 42
+
+module _ {F : Floor} (legal? : (A : Arrangement) (ms : List (ℕ × ℕ)) → Dec (LegalStep F A ms)) where
+  unfoldable pub stepFault : Arrangement → List (ℕ × ℕ) → ℕ
+  stepFault A ms = unlessLegal (legal? A ms)
+
+  unfoldable pub replaySteps : Arrangement → List (List (ℕ × ℕ)) → Replayed
+  replaySteps A steps = replayFrom stepFault after 1 A steps
 
 unfoldable pub trace : {X : Type 0} → (Arrangement → X → Arrangement) → Arrangement → List X → List Arrangement
 trace next A [] = A ∷ []

@@ -1,4 +1,5 @@
--- Steps, from document 01, "Legal moves and steps". A step is the list of its moves, made all at once.
+-- Steps, from document 01, "Legal moves and steps". A step is the list of its moves, made all at once. These are the tests that compute
+-- whether a step is legal; what they decide is `LegalStep`.
 --
 --     every t l          every element of l passes the test t
 --     ascends ms         the moves ascend strictly by position left
@@ -7,15 +8,14 @@
 --     enteredOnce ms     no position is entered twice
 --     led k ms A p       the chain of a move into p ends at its leader, at most k moves further on
 --     legalStep F A ms   the step is legal on the arrangement A of the floor F
---     Train A ms m       m belongs to a train with a leader: what `led` decides, as a notion of its own
 -- Assumes nothing.
 use Prim.Native.Nat.{ℕ, zero, suc}
-use mathlib.Core.Bool.{Bool, true, false, not, _&&_, _||_}
-use mathlib.Core.List.{List, [], _∷_, List·Memᴰ}
-use mathlib.Core.Path.{_≡_}
+use mathlib.Core.Bool.{Bool, true, not, _&&_, _||_}
+use mathlib.Core.List.{List, [], _∷_}
 use lib.ListN.{length}
-use lib.Dec.{T, ltb, eqb}
+use lib.Dec.{ltb, eqb}
 use Rattle.order.specs.Floor.{Floor}
+use Rattle.order.specs.Order.{some}
 use Rattle.motion.specs.Arrangement.{Arrangement, occupied, vacant}
 use Rattle.motion.specs.Move.{onFloor, goesTo}
 
@@ -31,12 +31,10 @@ ascends (m ∷ []) = true
 ascends (m ∷ m′ ∷ ms) = ltb (m .0) (m′ .0) && ascends (m′ ∷ ms)
 
 unfoldable pub leaves : List (ℕ × ℕ) → ℕ → Bool
-leaves [] p = false
-leaves (m ∷ ms) p = eqb (m .0) p || leaves ms p
+leaves ms p = some (λ m. eqb (m .0) p) ms
 
 unfoldable pub enters : List (ℕ × ℕ) → ℕ → Bool
-enters [] p = false
-enters (m ∷ ms) p = eqb (m .1) p || enters ms p
+enters ms p = some (λ m. eqb (m .1) p) ms
 
 -- "no position is entered twice"
 unfoldable pub enteredOnce : List (ℕ × ℕ) → Bool
@@ -55,7 +53,3 @@ led (suc k) ms A p = vacant A p || leaves ms p && led k ms A (goesTo ms p)
 unfoldable pub legalStep : Floor → Arrangement → List (ℕ × ℕ) → Bool
 legalStep F A ms =
     ascends ms && every (onFloor F) ms && every (λ m. occupied A (m .0)) ms && enteredOnce ms && every (λ m. led (length ms) ms A (m .1)) ms
-
-pub data Train (A : Arrangement) (ms : List (ℕ × ℕ)) : ℕ × ℕ → Type 0 where
-  leader : {m : ℕ × ℕ} → List·Memᴰ m ms → T (vacant A (m .1)) → Train A ms m
-  follows : {m m′ : ℕ × ℕ} → List·Memᴰ m ms → m .1 ≡ m′ .0 → Train A ms m′ → Train A ms m

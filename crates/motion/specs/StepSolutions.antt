@@ -1,17 +1,23 @@
--- Timetables and parallel path-finding: replay of steps accepts exactly the solutions of Surynek's Definition 2.
+-- What leads through a sequence of arrangements: the moves or the steps that a record of it lists.
 --
---     stepsFrom A S            the steps that lead from A on through the arrangements S
---     stepsOf S                the steps that lead through the arrangements S: each the step from one to the next
+--     movesBetween S     the moves that lead through the arrangements S, one rack at a time: each the move from one to the next
+--     stepsThrough A S   the steps that lead from A on through the arrangements S
+--     stepsBetween S     the steps that lead through the arrangements S: each the step from one to the next
 -- Assumes nothing.
 use Prim.Native.Nat.{ℕ}
-use mathlib.Core.List.{List, [], _∷_}
+use mathlib.Core.List.{List, [], _∷_, _++_}
 use Rattle.motion.specs.Arrangement.{Arrangement}
-use Rattle.motion.specs.StepOf.{stepOf}
+use Rattle.motion.specs.StepOf.{moved, stepOf}
 
-unfoldable pub stepsFrom : Arrangement → List Arrangement → List (List (ℕ × ℕ))
-stepsFrom A [] = []
-stepsFrom A (B ∷ S) = stepOf A B ∷ stepsFrom B S
+unfoldable pub movesBetween : List Arrangement → List (ℕ × ℕ)
+movesBetween [] = []
+movesBetween (A ∷ []) = []
+movesBetween (A ∷ B ∷ S) = moved A B ++ movesBetween (B ∷ S)
 
-unfoldable pub stepsOf : List Arrangement → List (List (ℕ × ℕ))
-stepsOf [] = []
-stepsOf (A ∷ S) = stepsFrom A S
+unfoldable pub stepsThrough : Arrangement → List Arrangement → List (List (ℕ × ℕ))
+stepsThrough A [] = []
+stepsThrough A (B ∷ S) = stepOf A B ∷ stepsThrough B S
+
+unfoldable pub stepsBetween : List Arrangement → List (List (ℕ × ℕ))
+stepsBetween [] = []
+stepsBetween (A ∷ S) = stepsThrough A S

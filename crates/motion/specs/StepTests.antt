@@ -24,7 +24,7 @@ Ascends ms = Pairwise (λ (m m′ : ℕ × ℕ). m .0 < m′ .0) ms
 
 -- "no position is entered twice"
 abbrev pub EnteredOnce : List (ℕ × ℕ) → Type 0
-EnteredOnce ms = KeysDiffer entered ms
+EnteredOnce ms = Pairwise (λ (m m′ : ℕ × ℕ). m .1 ≢ m′ .1) ms
 
 -- "both positions are below n, an edge joins them"
 pub record OnFloor (F : Floor) (m : ℕ × ℕ) : Type 0 where

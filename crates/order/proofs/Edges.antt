@@ -2,25 +2,30 @@
 --
 --     wrongAfter n last l    some edge of l is wrong, the edge before l having the place `last` in the order of edges
 --     wrongAfter-is          from the first edge on, that is document 01's condition
+--     not-lower, not-below, not-after, edge-right    one edge judged: it has no place, or its own
 --     Left last j            the loop before edge j + 1, the edge before having the place `last`: what is left to judge decides
 --     left-first, left-next, left-none     how the loop begins, goes on and ends: the answer is yes
---     not-lower, not-below, not-after      an edge that is not lower first, not below n or not after the last: the answer is no
+--     not-right                            an edge without a place in the order of edges: the answer is no
+--     first-is, second-is                  the positions of an edge, from its place
 -- Assumes nothing.
-use Prim.Native.Nat.{ℕ, zero, suc, _+_, _-_, _*_, _≤_, _<_}
+use Prim.Native.Nat.{ℕ, zero, suc, _+_, _-_, _*_, _/_, _%_, _≤_, _<_}
 use mathlib.Core.Path.{_≡_, refl, sym, ap, ap₂, _∙_}
 use mathlib.Core.Bool.{Bool, true, false, not, _&&_, _||_, or-true, or-false, or-assoc}
 use mathlib.Core.List.{List, [], _∷_}
 use native.Mathlib.Omega.{arith}
 use native.Mathlib.Decide.{decLe}
 use native.Mathlib.Nat.{lt-of-not-le, sub-zero}
-use borrow.Author.Tests.{le-leb, lt-leb}
+use borrow.Author.Tests.{le-leb, lt-leb, leb-false}
 use lib.Dec.{leb}
-use Rattle.field.specs.Bits.{field, pairs}
+use Rattle.field.specs.Bits.{field, pairs, PairAt}
 use Rattle.field.specs.Bytes.{BelowPairs, more₂}
+use Rattle.field.proofs.BitLaws.{field-lt}
 use Rattle.field.proofs.RecordLaws.{pairs-lt, pairs-next}
+use Rattle.field.proofs.UnitLaws.{or-left}
 use Rattle.order.specs.Floor.{Floor}
 use Rattle.order.proofs.EdgeLaws.{place, bad-is, precedes-is}
 use Rattle.order.specs.Order.{some, badEdge, ascending, wrongEdges}
+use Rattle.order.specs.Readers.{nextPlace, NextEdge}
 
 unfoldable pub wrongAfter : ℕ → ℕ → List (ℕ × ℕ) → Bool
 wrongAfter n last [] = false
@@ -51,6 +56,28 @@ wrongAfter-is n (e ∷ l) (more₂ h₀ h₁ b) = elim (decLe (e .1) (e .0)) [
       (sym (or-assoc (badEdge n e) (some (badEdge n) l) (not (ascending (e ∷ l)))))
 ]
 
+-- one edge judged behind an edge at the place `last`, from the facts that the tests leave
+module _ (s : List ℕ) (j n last a b : ℕ) (at : PairAt s (12 * j) a b) where
+  pub not-lower : b ≤ a → NextEdge s j n last 0
+  not-lower h = record { is = rw (← at .first-is, ← at .second-is) (unfold nextPlace in simp (le-leb b a h)); below = omega arith }
+
+  pub not-below : n ≤ b → NextEdge s j n last 0
+  not-below h = record { is = rw (← at .first-is, ← at .second-is) (unfold nextPlace in simp (le-leb n b h, or-true)); below = omega arith }
+
+  pub not-after : a * 64 + b ≤ last → NextEdge s j n last 0
+  not-after h =
+      record {
+        is = rw (← at .first-is, ← at .second-is) (unfold nextPlace in simp (le-leb (a * 64 + b) last h, or-true));
+        below = omega arith;
+      }
+
+  pub edge-right : a < b → b < n → last < a * 64 + b → NextEdge s j n last (a * 64 + b)
+  edge-right h k l =
+      record {
+        is = rw (← at .first-is, ← at .second-is) (unfold nextPlace in simp (lt-leb b a h, lt-leb n b k, lt-leb (a * 64 + b) last l));
+        below = omega (arith, at .first-below, at .second-below);
+      }
+
 -- the loop over the e edges of s: at edge j, after an edge at the place `last`
 module _ (s : List ℕ) (n e : ℕ) where
   -- what is left to judge decides
@@ -61,23 +88,52 @@ module _ (s : List ℕ) (n e : ℕ) where
   unfolding Left
   left-first = rw (sub-zero e) (wrongAfter-is n (pairs s 0 e) (pairs-lt s 0 e))
 
-  module _ (last j a b : ℕ) (left : Left last j) (h : j < e) (ea : a ≡ field s (12 * j) 6) (eb : b ≡ field s (12 * j + 6) 6) where
-    next : (leb b a || leb n b || leb (a * 64 + b) last || wrongAfter n (a * 64 + b) (pairs s (12 * (j + 1)) (e - (j + 1)))) ≡ wrongEdges (record { positions = n; edges = pairs s 0 e })
-    unfolding Left wrongAfter
-    next = rw (ea, eb) (ap (wrongAfter n last) (sym (pairs-next s j e h)) ∙ left)
+  module _ (last j r : ℕ) (left : Left last j) (h : j < e) (judged : NextEdge s j n last r) where
+    abbrev a : ℕ
+    a = field s (12 * j) 6
 
-    pub not-lower : b ≤ a → false ≡ not (wrongEdges (record { positions = n; edges = pairs s 0 e }))
-    not-lower k = ap not (simp (le-leb b a k) at next)
+    abbrev b : ℕ
+    b = field s (12 * j + 6) 6
 
-    pub not-below : n ≤ b → false ≡ not (wrongEdges (record { positions = n; edges = pairs s 0 e }))
-    not-below k = ap not (simp (le-leb n b k, or-true) at next)
+    bad : Bool
+    bad = leb b a || leb n b || leb (a * 64 + b) last
 
-    pub not-after : a * 64 + b ≤ last → false ≡ not (wrongEdges (record { positions = n; edges = pairs s 0 e }))
-    not-after k = ap not (simp (le-leb (a * 64 + b) last k, or-true) at next)
+    rest : Bool
+    rest = wrongAfter n (a * 64 + b) (pairs s (12 * (j + 1)) (e - (j + 1)))
 
-    pub left-next : a < b → b < n → last < a * 64 + b → Left (a * 64 + b) (j + 1)
-    unfolding Left
-    left-next k l m = simp (lt-leb b a k, lt-leb n b l, lt-leb (a * 64 + b) last m) at next
+    next : (bad || rest) ≡ wrongEdges (record { positions = n; edges = pairs s 0 e })
+    unfolding Left wrongAfter bad rest
+    next = ap (wrongAfter n last) (sym (pairs-next s j e h)) ∙ left
+
+    -- an edge without a place is bad: one at the place 0 is not lower first
+    pub not-right : r ≡ 0 → false ≡ not (wrongEdges (record { positions = n; edges = pairs s 0 e }))
+    not-right z = by bad refl
+      where
+        by : (t : Bool) → bad ≡ t → false ≡ not (wrongEdges (record { positions = n; edges = pairs s 0 e }))
+        by true y = ap not (rw y at next)
+        by false y =
+            let first : a * 64 + b ≡ 0 = sym (judged .is ∙ (unfold nextPlace bad in rw y refl)) ∙ z in
+            let low : (leb b a || leb n b) ≡ false = or-left (leb b a || leb n b) (leb (a * 64 + b) last) (unfold bad in y) in
+            absurd (omega (arith, leb-false b a (or-left (leb b a) (leb n b) low)))
+
+    -- an edge with a place is right, and the place is its own
+    module _ (some-place : r ≡ 0 → ⊥) where
+      right : (bad ≡ false) × (r ≡ a * 64 + b)
+      right = by bad refl
+        where
+          by : (t : Bool) → bad ≡ t → (bad ≡ false) × (r ≡ a * 64 + b)
+          by true y = absurd (some-place (judged .is ∙ (unfold nextPlace bad in rw y refl)))
+          by false y = (y, judged .is ∙ (unfold nextPlace bad in rw y refl))
+
+      pub left-next : Left r (j + 1)
+      unfolding Left rest
+      left-next = rw (right .1) (rw (right .0) at next)
+
+      pub first-is : r / 64 ≡ a
+      first-is = omega (arith, right .1, field-lt s (12 * j + 6) 6)
+
+      pub second-is : r % 64 ≡ b
+      second-is = omega (arith, right .1, field-lt s (12 * j + 6) 6)
 
   pub left-none : (last j : ℕ) → Left last j → e ≤ j → true ≡ not (wrongEdges (record { positions = n; edges = pairs s 0 e }))
   unfolding Left wrongAfter pairs

@@ -12,7 +12,7 @@ use Prim.Native.Nat.{ℕ}
 use lib.ListN.{take}
 use Rattle.answers.specs.Answer.{accepted, refused}
 use Rattle.field.specs.Bits.{bits, number, bitsOf, field, pairs, positions, pairBits, positionBits, pad, padded, bytes, toBytes}
-use Rattle.field.specs.Units.{unitsLength, misfits, unclean}
+use Rattle.field.specs.Units.{recordLength, misfits, unclean}
 use Rattle.field.specs.Front.{wholeLength}
 use Rattle.order.specs.Order.{Order, orderBits, orderRecord, positionCount, edgeCount, rackCount, unitCount, floorOf, startsOf, goalsOf, orderOf, wrongLength, wrongPositions, paddingSet, some, badEdge, precedes, ascending, wrongEdges, repeats, wrongPlaces, wrongRacks, counts, orderAnswer}
 use Rattle.order.specs.RecordLength.{orderLength, wholeOrderLength}
@@ -31,7 +31,7 @@ caseBookOrder =
     }
 
 case-book-accepted : orderAnswer caseBook ≡ accepted (4 ∷ 5 ∷ 2 ∷ [])
-unfolding caseBook orderAnswer wrongLength misfits unitsLength unitCount wrongPositions paddingSet unclean pad wrongEdges some badEdge precedes ascending wrongRacks wrongPlaces repeats orderOf floorOf startsOf goalsOf counts positionCount edgeCount rackCount field number bitsOf bits pairs positions
+unfolding caseBook orderAnswer wrongLength misfits recordLength unitCount wrongPositions paddingSet unclean pad wrongEdges some badEdge precedes ascending wrongRacks wrongPlaces repeats orderOf floorOf startsOf goalsOf counts positionCount edgeCount rackCount field number bitsOf bits pairs positions
 case-book-accepted = refl
 
 case-book-read : orderOf caseBook ≡ caseBookOrder
@@ -43,11 +43,11 @@ unfolding caseBook orderRecord orderBits toBytes bytes padded pad number bits pa
 case-book-written = refl
 
 case-book-length : (rest : List ℕ) → wholeOrderLength (caseBook ++ rest) ≡ 14
-unfolding caseBook wrongLength misfits unitsLength unitCount edgeCount rackCount field number bitsOf bits
+unfolding caseBook wrongLength misfits recordLength unitCount edgeCount rackCount field number bitsOf bits
 case-book-length rest = order-length-found (caseBook ++ rest) .only caseBook rest refl refl
 
 case-book-cut : (wholeOrderLength (take 13 caseBook) ≡ 0) × (wholeOrderLength (take 2 caseBook) ≡ 0) × (wholeOrderLength [] ≡ 0)
-unfolding caseBook wholeOrderLength wholeLength orderLength unitsLength unitCount edgeCount rackCount field number bitsOf bits
+unfolding caseBook wholeOrderLength wholeLength orderLength recordLength unitCount edgeCount rackCount field number bitsOf bits
 case-book-cut = (refl, refl, refl)
 
 -- two bytes
@@ -57,20 +57,20 @@ meets-10 = refl
 
 -- n = 65
 meets-11 : orderAnswer (0x82 ∷ 0x00 ∷ 0x00 ∷ []) ≡ refused 11 0
-unfolding orderAnswer wrongLength misfits unitsLength unitCount wrongPositions positionCount edgeCount rackCount field number bitsOf bits
+unfolding orderAnswer wrongLength misfits recordLength unitCount wrongPositions positionCount edgeCount rackCount field number bitsOf bits
 meets-11 = refl
 
 -- the second spare bit is set
 meets-12 : orderAnswer (0x02 ∷ 0x00 ∷ 0x01 ∷ []) ≡ refused 12 0
-unfolding orderAnswer wrongLength misfits unitsLength unitCount wrongPositions paddingSet unclean pad positionCount edgeCount rackCount field number bitsOf bits
+unfolding orderAnswer wrongLength misfits recordLength unitCount wrongPositions paddingSet unclean pad positionCount edgeCount rackCount field number bitsOf bits
 meets-12 = refl
 
 -- the edge 1-0 is not lower first
 meets-13 : orderAnswer (0x04 ∷ 0x02 ∷ 0x00 ∷ 0x04 ∷ 0x00 ∷ []) ≡ refused 13 0
-unfolding orderAnswer wrongLength misfits unitsLength unitCount wrongPositions paddingSet unclean pad wrongEdges some badEdge precedes ascending floorOf positionCount edgeCount rackCount field number bitsOf bits pairs
+unfolding orderAnswer wrongLength misfits recordLength unitCount wrongPositions paddingSet unclean pad wrongEdges some badEdge precedes ascending floorOf positionCount edgeCount rackCount field number bitsOf bits pairs
 meets-13 = refl
 
 -- n = 1, one rack from 0 to 1
 meets-14 : orderAnswer (0x02 ∷ 0x00 ∷ 0x04 ∷ 0x00 ∷ 0x10 ∷ []) ≡ refused 14 0
-unfolding orderAnswer wrongLength misfits unitsLength unitCount wrongPositions paddingSet unclean pad wrongEdges some badEdge precedes ascending wrongRacks wrongPlaces repeats orderOf floorOf startsOf goalsOf positionCount edgeCount rackCount field number bitsOf bits pairs positions
+unfolding orderAnswer wrongLength misfits recordLength unitCount wrongPositions paddingSet unclean pad wrongEdges some badEdge precedes ascending wrongRacks wrongPlaces repeats orderOf floorOf startsOf goalsOf positionCount edgeCount rackCount field number bitsOf bits pairs positions
 meets-14 = refl

@@ -5,13 +5,19 @@
 --     edges-wrong, edges-right       13
 --     order-is                       the table of document 01 as the last layer above the edge reader
 --     edges-gave                     what acceptance by the edge reader tells
---     starts-wrong, goals-wrong, racks-right    14
+--     none-filled                    a refusal says nothing of the rows
+--     starts-refused, goals-judged   the starts and the goals, judged one after the other
+--     tail-rows                      the rows of the tail's edges are the floor's
+--     racks-wrong, racks-right       14
+--     rows-filled, starts-filled, goals-filled    the tables of a decoded order
+--     no-rows, no-starts, no-goals   the tables behind a refusal
 -- Assumes nothing.
 use Prim.Native.Nat.{ℕ, _+_, _-_, _*_, _/_, _≤_, _<_}
 use mathlib.Core.Path.{_≡_, refl, sym, ap, ap₂, _∙_}
-use mathlib.Core.Bool.{Bool, true, false, not, _||_, or-true}
+use mathlib.Core.Bool.{Bool, true, false, not, _||_, false≢true}
+use native.Mathlib.Omega.{arith}
 use mathlib.Core.List.{List, [], _∷_}
-use lib.ListN.{length, take, drop}
+use lib.ListN.{length, take, drop, replicate}
 use borrow.Author.Tests.{not-true, not-false}
 use Rattle.answers.specs.Answer.{Answer, accepted, refused, refuse, passUp}
 use Rattle.answers.proofs.AnswerLaws.{refuse-not, refuse-else, passUp-low, passUp-high, passUp-accepted}
@@ -21,7 +27,8 @@ use Rattle.order.specs.Floor.{Floor}
 use Rattle.order.specs.Order.{positionCount, edgeCount, rackCount, floorOf, startsOf, goalsOf, orderOf, counts, wrongLength, wrongPositions, paddingSet, wrongEdges, wrongPlaces, wrongRacks, orderAnswer}
 use Rattle.order.proofs.OrderLaws.{RightHead, right-head}
 use Rattle.order.proofs.TailLaws
-use Rattle.order.specs.Readers.{headAnswer, edgesAnswer}
+use Rattle.order.specs.Readers.{headAnswer, edgesAnswer, FilledRows, RacksJudged}
+use Rattle.order.specs.Tables.{joinedRows, rowsOf, racksAt, unlessRefused, decodedRows, decodedStarts, decodedGoals}
 
 -- what the head reader's acceptance with n, e and m tells
 pub record HeadGave (s : List ℕ) (n e m : ℕ) : Type 0 where
@@ -65,6 +72,10 @@ module _ (s : List ℕ) (n e m : ℕ) (gave : HeadGave s n e m) where
   unfolding floorOf
   floor-is = λ i. record { positions = gave .positions-are i; edges = TailLaws.tail-edges s e m (gave .edges-are) (gave .racks-are) i }
 
+  pub tail-rows : (g : List ℕ) → g ≡ joinedRows (replicate 64 0) (pairs (take (length s - 3) (drop 3 s)) 0 e) → g ≡ rowsOf (floorOf s)
+  unfolding rowsOf
+  tail-rows g is = is ∙ ap (joinedRows (replicate 64 0)) (TailLaws.tail-edges s e m (gave .edges-are) (gave .racks-are))
+
   counts-are : n ∷ e ∷ m ∷ [] ≡ counts s
   unfolding counts
   counts-are = rw (gave .positions-are, gave .edges-are, gave .racks-are) refl
@@ -82,6 +93,33 @@ module _ (s : List ℕ) (n e m : ℕ) (gave : HeadGave s n e m) where
 
     pub edges-right : r ≡ true → accepted (n ∷ e ∷ m ∷ []) ≡ edgesAnswer s
     edges-right f = ap accepted counts-are ∙ sym (over ∙ rw (not-true (wrongEdges (floorOf s)) (sym edges-test ∙ f)) refl)
+
+-- a refusal says nothing of the rows
+pub none-filled : (s g : List ℕ) (a : Answer) (k place : ℕ) → a ≡ refused k place → FilledRows s a g
+none-filled s g a k place down = record { rows-are = λ v up. absurd (never v (sym down ∙ up)) }
+  where
+    never : (v : List ℕ) → refused k place ≡ accepted v → ⊥
+    never v y = let z : _≡_ {A = ℕ} 0 1 = cc in omega arith
+
+-- the starts and the goals of a tail, judged one after the other
+module _ (s : List ℕ) (n e m : ℕ) (h₀ h₁ : List ℕ) (r : Bool) (first : r ≡ not (wrongPlaces n (positions s (6 * (2 * e)) m))) where
+  pub starts-refused : r ≡ false → RacksJudged s n e m false h₀ h₁
+  starts-refused f =
+      record {
+        judged = rw (not-false (wrongPlaces n (positions s (6 * (2 * e)) m)) (sym first ∙ f)) refl;
+        starts-are = λ y. absurd (false≢true y);
+        goals-are = λ y. absurd (false≢true y);
+      }
+
+  pub goals-judged : r ≡ true → (r ≡ true → h₀ ≡ racksAt (positions s (6 * (2 * e)) m)) → (q : Bool)
+      → q ≡ not (wrongPlaces n (positions s (6 * (2 * e + m)) m)) → (q ≡ true → h₁ ≡ racksAt (positions s (6 * (2 * e + m)) m))
+      → RacksJudged s n e m q h₀ h₁
+  goals-judged t starts q second goals =
+      record {
+        judged = second ∙ rw (not-true (wrongPlaces n (positions s (6 * (2 * e)) m)) (sym first ∙ t)) refl;
+        starts-are = λ _. starts t;
+        goals-are = goals;
+      }
 
 pub order-is : (s : List ℕ) → orderAnswer s ≡ passUp (edgesAnswer s) (refuse (wrongRacks (orderOf s)) 14 0 (accepted (counts s)))
 unfolding orderAnswer edgesAnswer headAnswer
@@ -122,24 +160,47 @@ module _ (s : List ℕ) (n e m : ℕ) (a : accepted (n ∷ e ∷ m ∷ []) ≡ e
   over-edges : orderAnswer s ≡ refuse (wrongRacks (orderOf s)) 14 0 (accepted (counts s))
   over-edges = order-is s ∙ passUp-accepted (edgesAnswer s) (refuse (wrongRacks (orderOf s)) 14 0 (accepted (counts s))) (n ∷ e ∷ m ∷ []) (sym a)
 
-  module _ (r : Bool) (t : r ≡ not (wrongPlaces n (positions (take (length s - 3) (drop 3 s)) (6 * (2 * e)) m))) where
-    starts-test : r ≡ not (wrongPlaces (positionCount s) (startsOf s))
-    starts-test = t ∙ ap not (ap₂ wrongPlaces (gave .positions-are) (TailLaws.tail-starts s e m (gave .edges-are) (gave .racks-are)))
+  module _ (r : Bool) (h₀ h₁ : List ℕ) (judged : RacksJudged (take (length s - 3) (drop 3 s)) n e m r h₀ h₁) where
+    starts-are : positions (take (length s - 3) (drop 3 s)) (6 * (2 * e)) m ≡ startsOf s
+    starts-are = TailLaws.tail-starts s e m (gave .edges-are) (gave .racks-are)
 
-    pub starts-wrong : r ≡ false → refused 14 0 ≡ orderAnswer s
+    goals-are : positions (take (length s - 3) (drop 3 s)) (6 * (2 * e + m)) m ≡ goalsOf s
+    goals-are = TailLaws.tail-goals s e m (gave .edges-are) (gave .racks-are)
+
+    racks-test : r ≡ not (wrongRacks (orderOf s))
     unfolding wrongRacks orderOf floorOf
-    starts-wrong f = sym (over-edges ∙ rw (not-false (wrongPlaces (positionCount s) (startsOf s)) (sym starts-test ∙ f)) refl)
+    racks-test = judged .judged ∙ rw (gave .positions-are, starts-are, goals-are) refl
 
-    module _ (q : Bool) (u : q ≡ not (wrongPlaces n (positions (take (length s - 3) (drop 3 s)) (6 * (2 * e + m)) m))) where
-      goals-test : q ≡ not (wrongPlaces (positionCount s) (goalsOf s))
-      goals-test = u ∙ ap not (ap₂ wrongPlaces (gave .positions-are) (TailLaws.tail-goals s e m (gave .edges-are) (gave .racks-are)))
+    pub racks-wrong : r ≡ false → refused 14 0 ≡ orderAnswer s
+    racks-wrong f = sym (over-edges ∙ rw (not-false (wrongRacks (orderOf s)) (sym racks-test ∙ f)) refl)
 
-      pub goals-wrong : q ≡ false → refused 14 0 ≡ orderAnswer s
-      unfolding wrongRacks orderOf floorOf
-      goals-wrong f = sym (over-edges ∙ simp (not-false (wrongPlaces (positionCount s) (goalsOf s)) (sym goals-test ∙ f), or-true))
+    module _ (f : r ≡ true) where
+      pub racks-right : accepted (n ∷ e ∷ m ∷ []) ≡ orderAnswer s
+      racks-right =
+          ap accepted (counts-are s n e m gave) ∙ sym (over-edges ∙ rw (not-true (wrongRacks (orderOf s)) (sym racks-test ∙ f)) refl)
 
-      pub racks-right : r ≡ true → q ≡ true → accepted (n ∷ e ∷ m ∷ []) ≡ orderAnswer s
-      unfolding wrongRacks orderOf floorOf
-      racks-right f g =
-          ap accepted (counts-are s n e m gave)
-          ∙ sym (over-edges ∙ rw (not-true (wrongPlaces (positionCount s) (startsOf s)) (sym starts-test ∙ f), not-true (wrongPlaces (positionCount s) (goalsOf s)) (sym goals-test ∙ g)) refl)
+      pub starts-filled : h₀ ≡ decodedStarts s
+      unfolding decodedStarts
+      starts-filled = judged .starts-are f ∙ ap racksAt starts-are ∙ ap (λ (x : Answer). unlessRefused x (racksAt (startsOf s))) racks-right
+
+      pub goals-filled : h₁ ≡ decodedGoals s
+      unfolding decodedGoals
+      goals-filled = judged .goals-are f ∙ ap racksAt goals-are ∙ ap (λ (x : Answer). unlessRefused x (racksAt (goalsOf s))) racks-right
+
+      pub rows-filled : (g : List ℕ) → g ≡ rowsOf (floorOf s) → g ≡ decodedRows s
+      unfolding decodedRows
+      rows-filled g is = is ∙ ap (λ (x : Answer). unlessRefused x (rowsOf (floorOf s))) racks-right
+
+-- the tables behind a refusal
+module _ (s : List ℕ) (k place : ℕ) (down : refused k place ≡ orderAnswer s) where
+  pub no-rows : replicate 64 0 ≡ decodedRows s
+  unfolding decodedRows
+  no-rows = ap (λ (x : Answer). unlessRefused x (rowsOf (floorOf s))) down
+
+  pub no-starts : replicate 64 0 ≡ decodedStarts s
+  unfolding decodedStarts
+  no-starts = ap (λ (x : Answer). unlessRefused x (racksAt (startsOf s))) down
+
+  pub no-goals : replicate 64 0 ≡ decodedGoals s
+  unfolding decodedGoals
+  no-goals = ap (λ (x : Answer). unlessRefused x (racksAt (goalsOf s))) down

@@ -68,11 +68,14 @@ record-of s b w = toBytes-from b (orderBits-are (orderOf s)) (sym all)
     units : ℕ
     units = edgeCount s + rackCount s
 
-    fit : Fitting s units
+    fit : Fitting s (2 * units)
     fit = unfold unitCount in right-head s (w .length-right) (w .positions-right) .fit
 
-    clear : Clean s units
+    clear : Clean s (2 * units)
     clear = unfold unitCount paddingSet in cleanly s (unitCount s) (w .padding-clear)
+
+    twelve : 6 * (2 * units) ≡ 12 * units
+    twelve = omega arith
 
     room : 24 + 12 * units + pad (12 * units) ≡ 8 * length s
     room = omega (arith, up-to-byte (12 * units), fit .length-is)
@@ -91,4 +94,4 @@ record-of s b w = toBytes-from b (orderBits-are (orderOf s)) (sym all)
         padded-by (orderBits (orderOf s)) (pad (12 * units)) pad-is
         ∙ (unfold orderBits orderOf floorOf startsOf goalsOf positionCount in
         rw (length-pairs s 24 (edgeCount s), length-positions s (24 + 12 * edgeCount s) (rackCount s))
-        (read-bits s (edgeCount s) (rackCount s) refl refl room (clear .spare-clear) (clear .pad-clear)))
+        (read-bits s (edgeCount s) (rackCount s) refl refl room (clear .spare-clear) (rw twelve at (clear .pad-clear))))

@@ -174,15 +174,20 @@ module _ (o : Order) (sound : SoundOrder o) where
   pub record-sound : WellFormed (orderRecord o)
   record-sound =
       record {
-        length-right = unfold wrongLength in fits (orderRecord o) (unitCount (orderRecord o)) (rw length-is (omega arith)) (length-is ∙ ap (λ (u : ℕ). 3 + (12 * u + 7) / 8) (sym units));
+        length-right = unfold wrongLength in fits (orderRecord o) (unitCount (orderRecord o)) (rw length-is (omega arith))
+            (length-is ∙ omega (arith, units));
         positions-right = right-positions (orderRecord o) (λ z. omega (arith, read .positions-are, sound .some-position)) (rw (read .positions-are) (sound .few-positions));
-        padding-clear = unfold paddingSet in rw units (clean (orderRecord o) (length (o .floor .edges) + length (o .starts)) (read .spare-clear) (read .pad-clear));
+        padding-clear = unfold paddingSet in rw units (clean (orderRecord o) (2 * (length (o .floor .edges) + length (o .starts)))
+            (read .spare-clear) (rw twelve (read .pad-clear)));
         edges-right = ap (λ (x : Order). wrongEdges (x .floor)) (ap-order) ∙ sound .edges-right;
         racks-right = ap wrongRacks record-read ∙ (unfold wrongRacks in rw (sound .starts-right, sound .goals-right) refl);
       }
     where
-      units : unitCount (orderRecord o) ≡ length (o .floor .edges) + length (o .starts)
-      units = unfold unitCount in ap₂ _+_ (read .edges-count) (read .racks-count)
+      units : unitCount (orderRecord o) ≡ 2 * (length (o .floor .edges) + length (o .starts))
+      units = unfold unitCount in ap₂ (λ (e m : ℕ). 2 * (e + m)) (read .edges-count) (read .racks-count)
+
+      twelve : 6 * (2 * (length (o .floor .edges) + length (o .starts))) ≡ 12 * (length (o .floor .edges) + length (o .starts))
+      twelve = omega arith
 
       length-is : length (orderRecord o) ≡ 3 + (12 * (length (o .floor .edges) + length (o .starts)) + 7) / 8
       length-is = unfold orderRecord in length-toBytes (orderBits o) ∙ rw lengths (omega arith)

@@ -5,7 +5,7 @@
 --     orderRecord o            the record of o, as a byte string
 --     positionCount s, edgeCount s, rackCount s            n, e and m of the byte string s
 --     floorOf s, startsOf s, goalsOf s, orderOf s          the floor, the starts and the goals that s describes, and all three
---     unitCount s              e + m: how many units of 12 bits follow the counts
+--     unitCount s              how many positions follow the counts
 --     wrongLength s, wrongPositions s, paddingSet s        10, 11 and 12 apply to s
 --     some test l              some element of l passes the test
 --     badEdge n e, precedes e f, ascending l, wrongEdges F what 13 says of an edge, of two, of all, and 13 itself
@@ -67,9 +67,9 @@ goalsOf s = positions s (24 + 12 * edgeCount s + 6 * rackCount s) (rackCount s)
 unfoldable pub orderOf : List ℕ → Order
 orderOf s = record { floor = floorOf s; starts = startsOf s; goals = goalsOf s }
 
--- the edges and, in 12 bits each, a start and a goal for each rack
+-- two of each edge, and a start and a goal of each rack
 unfoldable pub unitCount : List ℕ → ℕ
-unitCount s = edgeCount s + rackCount s
+unitCount s = 2 * (edgeCount s + rackCount s)
 
 -- 10: "order under 3 bytes, or its length is not the one its counts give". "The length is 3 bytes plus 12 × (e + m) bits rounded up to
 -- bytes."

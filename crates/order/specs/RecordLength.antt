@@ -5,13 +5,13 @@
 -- Assumes nothing.
 use Prim.Native.Nat.{ℕ}
 use mathlib.Core.List.{List}
-use Rattle.field.specs.Units.{unitsLength}
+use Rattle.field.specs.Units.{recordLength}
 use Rattle.field.specs.Front.{wholeLength}
 use Rattle.order.specs.Order.{unitCount}
 
 -- "The length is 3 bytes plus 12 × (e + m) bits rounded up to bytes."
 unfoldable pub orderLength : List ℕ → ℕ
-orderLength s = unitsLength (unitCount s)
+orderLength s = recordLength (unitCount s)
 
 -- s ends before the order does where it has fewer bytes than the counts say, or than the 3 that hold them
 unfoldable pub wholeOrderLength : List ℕ → ℕ

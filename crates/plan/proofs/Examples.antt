@@ -2,9 +2,10 @@
 -- So the conditions are neither empty nor everything, and each hypothesis of the theorems holds of something.
 --
 --     caseBook, casePlan     document 01's order and plan ("Programs")
+--     plan-open o p          the plan checker's answer, with all that it is made of open
 --     case-1, case-7         starred cases 1, first half, and 7
 --     meets-30, ..           one plan each for the other numbers; an order's refusal is passed up
---     case-well-formed, case-accepted, case-solution, case-only    an order, its plan accepted, a solution and its one record, for the theorems
+--     case-well-formed, case-solution, case-accepted, case-told    an order, a solution, its record, and that it is accepted, for the theorems
 --     full-empty, bare-empty                        an empty plan on a full floor and on one without racks, for the limits
 --     case-written, case-read                       writing and reading the case book's moves
 -- Assumes nothing.
@@ -12,20 +13,23 @@ use Prim.Native.Nat.{ℕ}
 use mathlib.Core.Path.{_≡_, refl}
 use mathlib.Core.List.{List, [], _∷_}
 use lib.Dec.{lit<}
-use Rattle.answers.specs.Answer.{accepted, refused}
+use Rattle.answers.specs.Answer.{Answer, accepted, refused}
 use Rattle.field.specs.Bits.{bits, number, bitsOf, field, pairs, positions, pairBits, pad, padded, bytes, toBytes}
 use Rattle.field.specs.Bytes.{BelowPairs, none₂, more₂}
-use Rattle.field.specs.Units.{unitsLength, misfits, unclean}
+use Rattle.field.specs.Units.{recordLength, misfits, unclean}
 use Rattle.order.specs.Floor.{isPair, among, joined}
 use Rattle.order.specs.Order.{positionCount, edgeCount, rackCount, unitCount, floorOf, startsOf, goalsOf, orderOf, wrongLength, wrongPositions, paddingSet, some, badEdge, precedes, ascending, wrongEdges, repeats, wrongPlaces, wrongRacks, counts, orderAnswer, WellFormed}
 use Rattle.motion.specs.Arrangement.{occupied, vacant}
-use Rattle.motion.specs.Move.{onFloor, legalMove, goesTo, after, afterMove}
+use Rattle.motion.specs.Move.{onFloor, faultBy, moveFault, goesTo, after, afterMove}
 use Rattle.motion.specs.Replay.{replayFrom, replayMoves, trace}
 use Rattle.motion.specs.Judgement.{misplaced, judged}
 use Rattle.plan.specs.Plan.{planBits, planRecord, moveCount, planMoves, wrongPlanLength, planPaddingSet, planAnswer}
 use Rattle.plan.proofs.PlanRecord.{Written, written}
 use Rattle.plan.proofs.Limits.{EmptyPlan, full-floor, no-racks}
-use Rattle.plan.specs.Solutions.{SolutionOf, AcceptedPlan, OnlyRecord}
+use Rattle.plan.specs.Solutions.{SolutionOf, AcceptedPlan}
+use Rattle.motion.specs.StepOf.{moved}
+use Rattle.motion.specs.StepSolutions.{movesBetween}
+use Rattle.plan.proofs.Replayed.{ReplayedPlan, plan-replayed}
 use Rattle.plan.proofs.SolutionsLaws.{plan-solutions}
 
 -- n = 4, edges 0-1, 0-2, 1-2, 1-3, 2-3, rack 1 from 0 to 3, rack 2 from 3 to 0
@@ -39,39 +43,51 @@ casePlan = 0x00 ∷ 0x00 ∷ 0x10 ∷ 0x00 ∷ 0x10 ∷ 0xC2 ∷ 0x08 ∷ 0x00 �
 abbrev caseMoves : List (ℕ × ℕ)
 caseMoves = (0, 1) ∷ (3, 2) ∷ (2, 0) ∷ (1, 3) ∷ []
 
+unfoldable pub plan-open : List ℕ → List ℕ → Answer
+unfolding planAnswer wrongPlanLength planPaddingSet moveCount planMoves judged misplaced replayMoves replayFrom moveFault faultBy
+    onFloor joined among isPair occupied vacant afterMove after goesTo orderAnswer wrongLength misfits recordLength unitCount
+    wrongPositions paddingSet unclean pad wrongEdges some badEdge precedes ascending wrongRacks wrongPlaces repeats orderOf floorOf
+    startsOf goalsOf counts positionCount edgeCount rackCount field number bitsOf bits pairs positions
+plan-open o p = planAnswer o p
+
 -- "The plan above is accepted."
 pub case-1 : planAnswer caseBook casePlan ≡ accepted (4 ∷ [])
-unfolding planAnswer wrongPlanLength planPaddingSet moveCount planMoves judged misplaced replayMoves replayFrom legalMove onFloor joined among isPair occupied vacant afterMove after goesTo orderAnswer wrongLength misfits unitsLength unitCount wrongPositions paddingSet unclean pad wrongEdges some badEdge precedes ascending wrongRacks wrongPlaces repeats orderOf floorOf startsOf goalsOf counts positionCount edgeCount rackCount field number bitsOf bits pairs positions
+unfolding plan-open
 case-1 = refl
 
 -- "Empty plan for the order above: 33, rack 1."
 pub case-7 : planAnswer caseBook (0x00 ∷ 0x00 ∷ 0x00 ∷ []) ≡ refused 33 1
-unfolding planAnswer wrongPlanLength planPaddingSet moveCount planMoves judged misplaced replayMoves replayFrom legalMove onFloor joined among isPair occupied vacant afterMove after goesTo orderAnswer wrongLength misfits unitsLength unitCount wrongPositions paddingSet unclean pad wrongEdges some badEdge precedes ascending wrongRacks wrongPlaces repeats orderOf floorOf startsOf goalsOf counts positionCount edgeCount rackCount field number bitsOf bits pairs positions
+unfolding plan-open
 case-7 = refl
 
 -- one byte too many
 meets-30 : planAnswer caseBook (0x00 ∷ 0x00 ∷ 0x00 ∷ 0x00 ∷ []) ≡ refused 30 0
-unfolding planAnswer wrongPlanLength planPaddingSet moveCount planMoves judged misplaced replayMoves replayFrom legalMove onFloor joined among isPair occupied vacant afterMove after goesTo orderAnswer wrongLength misfits unitsLength unitCount wrongPositions paddingSet unclean pad wrongEdges some badEdge precedes ascending wrongRacks wrongPlaces repeats orderOf floorOf startsOf goalsOf counts positionCount edgeCount rackCount field number bitsOf bits pairs positions
+unfolding plan-open
 meets-30 = refl
 
 -- one move, and the last bit of its pad is set
 meets-31 : planAnswer caseBook (0x00 ∷ 0x00 ∷ 0x04 ∷ 0x00 ∷ 0x11 ∷ []) ≡ refused 31 0
-unfolding planAnswer wrongPlanLength planPaddingSet moveCount planMoves judged misplaced replayMoves replayFrom legalMove onFloor joined among isPair occupied vacant afterMove after goesTo orderAnswer wrongLength misfits unitsLength unitCount wrongPositions paddingSet unclean pad wrongEdges some badEdge precedes ascending wrongRacks wrongPlaces repeats orderOf floorOf startsOf goalsOf counts positionCount edgeCount rackCount field number bitsOf bits pairs positions
+unfolding plan-open
 meets-31 = refl
+
+-- 0>1 and 3>0, which no edge joins
+meets-32-edge : planAnswer caseBook (0x00 ∷ 0x00 ∷ 0x08 ∷ 0x00 ∷ 0x10 ∷ 0xC0 ∷ []) ≡ refused 32 2
+unfolding plan-open
+meets-32-edge = refl
 
 -- 0>1 and again 0>1, which no rack can make
 meets-32 : planAnswer caseBook (0x00 ∷ 0x00 ∷ 0x08 ∷ 0x00 ∷ 0x10 ∷ 0x01 ∷ []) ≡ refused 32 2
-unfolding planAnswer wrongPlanLength planPaddingSet moveCount planMoves judged misplaced replayMoves replayFrom legalMove onFloor joined among isPair occupied vacant afterMove after goesTo orderAnswer wrongLength misfits unitsLength unitCount wrongPositions paddingSet unclean pad wrongEdges some badEdge precedes ascending wrongRacks wrongPlaces repeats orderOf floorOf startsOf goalsOf counts positionCount edgeCount rackCount field number bitsOf bits pairs positions
+unfolding plan-open
 meets-32 = refl
 
 -- 0>1, 1>3 into rack 2, and a third move that would be wrong too: the first such counts
 meets-32-first : planAnswer caseBook (0x00 ∷ 0x00 ∷ 0x0C ∷ 0x00 ∷ 0x10 ∷ 0x43 ∷ 0x00 ∷ 0x10 ∷ []) ≡ refused 32 2
-unfolding planAnswer wrongPlanLength planPaddingSet moveCount planMoves judged misplaced replayMoves replayFrom legalMove onFloor joined among isPair occupied vacant afterMove after goesTo orderAnswer wrongLength misfits unitsLength unitCount wrongPositions paddingSet unclean pad wrongEdges some badEdge precedes ascending wrongRacks wrongPlaces repeats orderOf floorOf startsOf goalsOf counts positionCount edgeCount rackCount field number bitsOf bits pairs positions
+unfolding plan-open
 meets-32-first = refl
 
 -- rack 1 goes to its goal, 0>2, 3>1, 2>3: rack 2 is left at 1
 meets-33 : planAnswer caseBook (0x00 ∷ 0x00 ∷ 0x0C ∷ 0x00 ∷ 0x20 ∷ 0xC1 ∷ 0x08 ∷ 0x30 ∷ []) ≡ refused 33 2
-unfolding planAnswer wrongPlanLength planPaddingSet moveCount planMoves judged misplaced replayMoves replayFrom legalMove onFloor joined among isPair occupied vacant afterMove after goesTo orderAnswer wrongLength misfits unitsLength unitCount wrongPositions paddingSet unclean pad wrongEdges some badEdge precedes ascending wrongRacks wrongPlaces repeats orderOf floorOf startsOf goalsOf counts positionCount edgeCount rackCount field number bitsOf bits pairs positions
+unfolding plan-open
 meets-33 = refl
 
 -- a plan of no bytes, for an order of no bytes: the lowest number
@@ -80,19 +96,29 @@ unfolding planAnswer orderAnswer wrongLength misfits
 passes-10-up = refl
 
 pub case-well-formed : WellFormed caseBook
-unfolding planAnswer wrongPlanLength planPaddingSet moveCount planMoves judged misplaced replayMoves replayFrom legalMove onFloor joined among isPair occupied vacant afterMove after goesTo orderAnswer wrongLength misfits unitsLength unitCount wrongPositions paddingSet unclean pad wrongEdges some badEdge precedes ascending wrongRacks wrongPlaces repeats orderOf floorOf startsOf goalsOf counts positionCount edgeCount rackCount field number bitsOf bits pairs positions
+unfolding plan-open
 case-well-formed = record { length-right = refl; positions-right = refl; padding-clear = refl; edges-right = refl; racks-right = refl }
 
--- the four moves' arrangements are a solution, and the case book's bytes are their one record
-pub case-accepted : AcceptedPlan caseBook casePlan (4 ∷ [])
-case-accepted = plan-solutions caseBook .0 casePlan (4 ∷ []) .0 case-1
+-- the four moves' arrangements are a solution, and the case book's bytes are its record
+pub case-replayed : ReplayedPlan caseBook casePlan (4 ∷ [])
+case-replayed = plan-replayed caseBook .0 casePlan (4 ∷ []) .0 case-1
 
 pub case-solution : SolutionOf caseBook 4 ((0 ∷ 3 ∷ []) ∷ (1 ∷ 3 ∷ []) ∷ (1 ∷ 2 ∷ []) ∷ (1 ∷ 0 ∷ []) ∷ (3 ∷ 0 ∷ []) ∷ [])
 unfolding moveCount planMoves startsOf edgeCount rackCount field number bitsOf bits pairs positions trace afterMove after goesTo
-case-solution = case-accepted .solution
+case-solution = case-replayed .solution
 
-pub case-only : OnlyRecord caseBook 4 ((0 ∷ 3 ∷ []) ∷ (1 ∷ 3 ∷ []) ∷ (1 ∷ 2 ∷ []) ∷ (1 ∷ 0 ∷ []) ∷ (3 ∷ 0 ∷ []) ∷ [])
-case-only = plan-solutions caseBook .1 case-well-formed 4 _ (lit< tt) case-solution
+pub case-accepted : AcceptedPlan caseBook casePlan (4 ∷ [])
+unfolding movesBetween moved planRecord planBits toBytes bytes padded pad number bits pairBits
+case-accepted =
+    record {
+      order-right = case-well-formed;
+      moves = 4;
+      few = lit< tt;
+      arrangements = (0 ∷ 3 ∷ []) ∷ (1 ∷ 3 ∷ []) ∷ (1 ∷ 2 ∷ []) ∷ (1 ∷ 0 ∷ []) ∷ (3 ∷ 0 ∷ []) ∷ [];
+      solution = case-solution;
+      is = refl;
+      counted = refl;
+    }
 
 case-small : BelowPairs 64 caseMoves
 case-small = more₂ (lit< tt) (lit< tt) (more₂ (lit< tt) (lit< tt) (more₂ (lit< tt) (lit< tt) (more₂ (lit< tt) (lit< tt) none₂)))
@@ -104,16 +130,20 @@ case-written = refl
 pub case-read : Written caseMoves
 case-read = written caseMoves (lit< tt) case-small
 
+-- and by the theorem it is accepted
+pub case-told : planAnswer caseBook casePlan ≡ accepted (4 ∷ [])
+case-told = plan-solutions caseBook casePlan (4 ∷ []) (rw (← case-written) (case-read .are-bytes)) .1 case-accepted
+
 -- n = 1, one rack from 0 to 0
 abbrev fullFloor : List ℕ
 fullFloor = 0x02 ∷ 0x00 ∷ 0x04 ∷ 0x00 ∷ 0x00 ∷ []
 
 full-well-formed : WellFormed fullFloor
-unfolding planAnswer wrongPlanLength planPaddingSet moveCount planMoves judged misplaced replayMoves replayFrom legalMove onFloor joined among isPair occupied vacant afterMove after goesTo orderAnswer wrongLength misfits unitsLength unitCount wrongPositions paddingSet unclean pad wrongEdges some badEdge precedes ascending wrongRacks wrongPlaces repeats orderOf floorOf startsOf goalsOf counts positionCount edgeCount rackCount field number bitsOf bits pairs positions
+unfolding plan-open
 full-well-formed = record { length-right = refl; positions-right = refl; padding-clear = refl; edges-right = refl; racks-right = refl }
 
 full-accepted : planAnswer fullFloor (0x00 ∷ 0x00 ∷ 0x00 ∷ []) ≡ accepted (0 ∷ [])
-unfolding planAnswer wrongPlanLength planPaddingSet moveCount planMoves judged misplaced replayMoves replayFrom legalMove onFloor joined among isPair occupied vacant afterMove after goesTo orderAnswer wrongLength misfits unitsLength unitCount wrongPositions paddingSet unclean pad wrongEdges some badEdge precedes ascending wrongRacks wrongPlaces repeats orderOf floorOf startsOf goalsOf counts positionCount edgeCount rackCount field number bitsOf bits pairs positions
+unfolding plan-open
 full-accepted = refl
 
 pub full-empty : EmptyPlan fullFloor (0x00 ∷ 0x00 ∷ 0x00 ∷ []) (0 ∷ [])
@@ -125,11 +155,11 @@ abbrev bareFloor : List ℕ
 bareFloor = 0x02 ∷ 0x00 ∷ 0x00 ∷ []
 
 bare-well-formed : WellFormed bareFloor
-unfolding planAnswer wrongPlanLength planPaddingSet moveCount planMoves judged misplaced replayMoves replayFrom legalMove onFloor joined among isPair occupied vacant afterMove after goesTo orderAnswer wrongLength misfits unitsLength unitCount wrongPositions paddingSet unclean pad wrongEdges some badEdge precedes ascending wrongRacks wrongPlaces repeats orderOf floorOf startsOf goalsOf counts positionCount edgeCount rackCount field number bitsOf bits pairs positions
+unfolding plan-open
 bare-well-formed = record { length-right = refl; positions-right = refl; padding-clear = refl; edges-right = refl; racks-right = refl }
 
 bare-accepted : planAnswer bareFloor (0x00 ∷ 0x00 ∷ 0x00 ∷ []) ≡ accepted (0 ∷ [])
-unfolding planAnswer wrongPlanLength planPaddingSet moveCount planMoves judged misplaced replayMoves replayFrom legalMove onFloor joined among isPair occupied vacant afterMove after goesTo orderAnswer wrongLength misfits unitsLength unitCount wrongPositions paddingSet unclean pad wrongEdges some badEdge precedes ascending wrongRacks wrongPlaces repeats orderOf floorOf startsOf goalsOf counts positionCount edgeCount rackCount field number bitsOf bits pairs positions
+unfolding plan-open
 bare-accepted = refl
 
 pub bare-empty : EmptyPlan bareFloor (0x00 ∷ 0x00 ∷ 0x00 ∷ []) (0 ∷ [])

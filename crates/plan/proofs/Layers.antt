@@ -8,7 +8,7 @@
 --     order-turned-down, record-turned-down, answer-is   the checker's answer at each return
 -- Assumes nothing.
 use Prim.Native.Nat.{ℕ, _-_, _*_, _^_, _≤_, _<_}
-use mathlib.Core.Path.{_≡_, refl, sym, ap, _∙_}
+use mathlib.Core.Path.{_≡_, refl, sym, _∙_}
 use mathlib.Core.Bool.{Bool, true, false}
 use mathlib.Core.List.{List, [], _∷_}
 use native.Mathlib.Omega.{arith}
@@ -31,7 +31,7 @@ use Rattle.plan.specs.Readers.{recordAnswer, tableAnswer}
 
 -- 32, 33 and acceptance
 abbrev pub judgement : List ℕ → List ℕ → Answer
-judgement o p = judged 32 33 (goalsOf o) (moveCount p ∷ []) (replayMoves (floorOf o) (startsOf o) (planMoves p))
+judgement o p = judged 33 (goalsOf o) (moveCount p ∷ []) (replayMoves (floorOf o) (startsOf o) (planMoves p))
 
 pub plan-is : (o p : List ℕ) → planAnswer o p ≡ passUp (orderAnswer o) (passUp (recordAnswer p) (judgement o p))
 unfolding planAnswer recordAnswer
@@ -47,7 +47,7 @@ plan-is o p = chain (wrongPlanLength p) (planPaddingSet p)
 pub record RecordGave (p : List ℕ) (k : ℕ) : Type 0 where
   pub length-right : wrongPlanLength p ≡ false
   pub padding-clear : planPaddingSet p ≡ false
-  pub fit : Fitting p (moveCount p)
+  pub fit : Fitting p (2 * moveCount p)
   pub count-is : k ≡ moveCount p
   pub count-below : k < 2 ^ 22
 
@@ -62,28 +62,40 @@ record-gave p k a =
     record {
       length-right = l;
       padding-clear = refuse-not (planPaddingSet p) 31 0 (accepted (field p 0 22 ∷ [])) (k ∷ []) e₁;
-      fit = fitting p (field p 0 22) l;
+      fit = fitting p (2 * field p 0 22) l;
       count-is = count;
       count-below = omega (arith, field-lt p 0 22);
     }
 
 module _ (o : List ℕ) (n e m : ℕ) (gave : OrderGave o n e m) (p : List ℕ) (k : ℕ) (record-is : RecordGave p k) where
   pub plan-room : 12 * k ≤ 8 * length (take (length p - 3) (drop 3 p))
-  plan-room = omega (arith, tail-units p (moveCount p) (record-is .fit), record-is .count-is)
+  plan-room = omega (arith, tail-units p (2 * moveCount p) (record-is .fit), record-is .count-is)
 
   moves-are : pairs (take (length p - 3) (drop 3 p)) 0 k ≡ planMoves p
   unfolding planMoves
   moves-are = rw (rest-is 3 p, ← pairs-drop p 3 0 k, record-is .count-is) refl
 
-  pub judgement-is : tableAnswer (take (length o - 3) (drop 3 o)) e m (take (length p - 3) (drop 3 p)) k ≡ judgement o p
+  -- the order and the plan behind their heads
+  abbrev rest : List ℕ → List ℕ
+  rest l = take (length l - 3) (drop 3 l)
+
+  pub judgement-is : tableAnswer (rest o) e m (rest p) k ≡ judgement o p
   unfolding tableAnswer planMoves
   judgement-is =
-      rw (tail-edges o e m (gave .edges-are) (gave .racks-are), tail-starts o e m (gave .edges-are) (gave .racks-are), tail-goals o e m (gave .edges-are) (gave .racks-are), moves-are, record-is .count-is)
+      let w = gave .placed-well in
+      let edges = tail-edges o e m (gave .edges-are) (gave .racks-are) in
+      let starts = tail-starts o e m (gave .edges-are) (gave .racks-are) in
+      let goals = tail-goals o e m (gave .edges-are) (gave .racks-are) in
+      rw (edges, starts, goals, moves-are, record-is .count-is)
       (unfold matrixOf tableOf in
-      moves-judged (floorOf o) (gave .placed-well .few-positions) (gave .placed-well .edges-below) (gave .placed-well .edges-right) (startsOf o) (gave .placed-well .starts-sound) (pairs-lt p 24 (moveCount p)) 32 33 (goalsOf o) (moveCount p ∷ []) (gave .placed-well .goals-length ∙ sym (gave .placed-well .starts-length)))
+      moves-judged (floorOf o) (w .few-positions) (w .edges-below) (w .edges-right) (startsOf o) (w .starts-sound)
+      (pairs-lt p 24 (moveCount p)) 33 (goalsOf o) (moveCount p ∷ []) (w .goals-length ∙ sym (w .starts-length)))
 
-  pub answer-is : accepted (n ∷ e ∷ m ∷ []) ≡ orderAnswer o → accepted (k ∷ []) ≡ recordAnswer p → tableAnswer (take (length o - 3) (drop 3 o)) e m (take (length p - 3) (drop 3 p)) k ≡ planAnswer o p
-  answer-is a b = judgement-is ∙ all-accepted (planAnswer o p) (orderAnswer o) (recordAnswer p) (judgement o p) (plan-is o p) (n ∷ e ∷ m ∷ []) a (k ∷ []) b
+  pub answer-is : accepted (n ∷ e ∷ m ∷ []) ≡ orderAnswer o → accepted (k ∷ []) ≡ recordAnswer p
+      → tableAnswer (rest o) e m (rest p) k ≡ planAnswer o p
+  answer-is a b =
+      judgement-is
+      ∙ all-accepted (planAnswer o p) (orderAnswer o) (recordAnswer p) (judgement o p) (plan-is o p) (n ∷ e ∷ m ∷ []) a (k ∷ []) b
 
 -- a refusal below is the answer above
 pub order-turned-down : (o p : List ℕ) (below r : Answer) (number place : ℕ) → below ≡ orderAnswer o → below ≡ refused number place → r ≡ passUp below (accepted (0 ∷ [])) → r ≡ planAnswer o p

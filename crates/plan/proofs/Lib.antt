@@ -6,4 +6,5 @@ pub mod Examples
 pub mod Limits
 pub mod PlanRecord
 pub mod SizeLaws
+pub mod Replayed
 pub mod SolutionsLaws

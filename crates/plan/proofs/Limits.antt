@@ -17,7 +17,7 @@ use native.Mathlib.Omega.{arith}
 use lib.ListN.{length}
 use Rattle.answers.specs.Answer.{accepted}
 use Rattle.field.specs.Bits.{bits, number, bitsOf, field, pad}
-use Rattle.field.specs.Units.{unitsLength, misfits, unclean}
+use Rattle.field.specs.Units.{recordLength, misfits, unclean}
 use Rattle.order.specs.Order.{rackCount, floorOf, startsOf, goalsOf, WellFormed}
 use Rattle.motion.specs.Arrangement.{Arrangement}
 use Rattle.motion.proofs.Lawful.{Leads, still, lawful-none, replayMoves-ended}
@@ -26,7 +26,7 @@ use Rattle.motion.proofs.SoundLaws.{full-leads, no-racks-leads}
 use Rattle.tables.proofs.AcceptedLaws.{well-placed}
 use Rattle.plan.specs.Plan.{moveCount, planMoves, wrongPlanLength, planPaddingSet, planAnswer}
 use Rattle.plan.proofs.PlanRecord.{moves-counted}
-use Rattle.plan.proofs.SolutionsLaws.{plan-solutions}
+use Rattle.plan.proofs.Replayed.{plan-replayed}
 
 module _ (o p v : List ℕ) where
   pub record LeadingPlan : Type 0 where
@@ -46,7 +46,7 @@ module _ (o p v : List ℕ) where
   pub accepted-leads : (planAnswer o p ≡ accepted v) ↔ LeadingPlan
   accepted-leads = (
     (λ a.
-        let t = plan-solutions o .0 p v .0 a in
+        let t = plan-replayed o .0 p v .0 a in
         let solved = pebble-replay (floorOf o) (rackCount o) (startsOf o) (goalsOf o) (well-placed o (t .order-right) .task) .0 (planMoves p) in
         record {
           order-right = t .order-right;
@@ -57,7 +57,7 @@ module _ (o p v : List ℕ) where
         }),
     (λ t.
         let solved = pebble-replay (floorOf o) (rackCount o) (startsOf o) (goalsOf o) (well-placed o (t .order-right) .task) .0 (planMoves p) in
-        plan-solutions o .0 p v .1
+        plan-replayed o .0 p v .1
         (record {
           order-right = t .order-right;
           length-right = t .length-right;
@@ -121,7 +121,7 @@ module _ (o p v : List ℕ) where
 
 -- the plan without moves
 nothing-empty : (o : List ℕ) → startsOf o ≡ goalsOf o → EmptyPlan o (0x00 ∷ 0x00 ∷ 0x00 ∷ []) (0 ∷ [])
-unfolding wrongPlanLength planPaddingSet moveCount misfits unitsLength unclean pad field number bitsOf bits
+unfolding wrongPlanLength planPaddingSet moveCount misfits recordLength unclean pad field number bitsOf bits
 nothing-empty o e = record { length-right = refl; padding-clear = refl; empty = refl; none-counted = refl; settled = e }
 
 nothing-counted : moveCount (0x00 ∷ 0x00 ∷ 0x00 ∷ []) ≡ 0

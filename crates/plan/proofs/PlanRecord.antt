@@ -25,7 +25,7 @@ use Rattle.field.specs.Head.{headBytes}
 use Rattle.field.proofs.WholeBytes.{toBytes-append}
 use Rattle.field.specs.Packing.{pack}
 use Rattle.field.proofs.PackingLaws.{pack-is}
-use Rattle.field.specs.Units.{unitsLength}
+use Rattle.field.specs.Units.{recordLength}
 use Rattle.field.proofs.UnitLaws.{Fitting, fitting, fits, Clean, cleanly, clean, pad-after-head}
 use Rattle.plan.specs.Plan.{planBits, planRecord, moveCount, planMoves, wrongPlanLength, planPaddingSet}
 
@@ -37,8 +37,8 @@ pub length-planBits : (ms : List (ℕ × ℕ)) → length (planBits ms) ≡ 24 +
 unfolding planBits
 length-planBits ms = simp (length-append, length-bits, length-pairBits)
 
-pub length-record : (ms : List (ℕ × ℕ)) → length (planRecord ms) ≡ unitsLength (length ms)
-unfolding planRecord unitsLength
+pub length-record : (ms : List (ℕ × ℕ)) → length (planRecord ms) ≡ recordLength (2 * length ms)
+unfolding planRecord recordLength
 length-record ms = length-toBytes (planBits ms) ∙ rw (length-planBits ms) (omega arith)
 
 planBits-are : (ms : List (ℕ × ℕ)) → Bits (planBits ms)
@@ -48,6 +48,10 @@ planBits-are ms = below-append (below-append (bits-are 22 (length ms)) (bits-are
 planBits-padded : (ms : List (ℕ × ℕ)) → padded (planBits ms) ≡ planBits ms ++ replicate (pad (12 * length ms)) 0
 unfolding padded
 planBits-padded ms = padded-by (planBits ms) (pad (12 * length ms)) (ap pad (length-planBits ms) ∙ pad-after-head (12 * length ms))
+
+-- a move is two positions
+twelve : (k : ℕ) → 6 * (2 * k) ≡ 12 * k
+twelve k = omega arith
 
 pub record Written (ms : List (ℕ × ℕ)) : Type 0 where
   pub are-bytes : Bytes (planRecord ms)
@@ -90,13 +94,13 @@ module _ (ms : List (ℕ × ℕ)) (few : length ms < 2 ^ 22) (small : BelowPairs
       toBytes-append 3 (headBits-are (length ms)) (length-headBits (length ms)) (pairBits-are ms) ∙ ap₂ _++_ (head-bytes (length ms) few) (sym (pack-is small))
 
   pub written : Written ms
-  unfolding moveCount planMoves wrongPlanLength planPaddingSet unitsLength
+  unfolding moveCount planMoves wrongPlanLength planPaddingSet recordLength
   written =
       let length-is = length-record ms in
       record {
         are-bytes = unfold planRecord in toBytes-are (planBits-are ms);
-        length-right = rw count (fits (planRecord ms) (length ms) (rw length-is (omega arith)) length-is);
-        padding-clear = rw count (clean (planRecord ms) (length ms) spare padding);
+        length-right = rw count (fits (planRecord ms) (2 * length ms) (rw length-is (omega arith)) length-is);
+        padding-clear = rw count (clean (planRecord ms) (2 * length ms) spare (rw (twelve (length ms)) padding));
         count-is = count;
         moves-are = rw count (pairs-at (planRecord ms) (bits 22 (length ms) ++ bits 2 0) ms (replicate (pad (12 * length ms)) 0) 24 at-moves head-length small);
       }
@@ -104,11 +108,11 @@ module _ (ms : List (ℕ × ℕ)) (few : length ms < 2 ^ 22) (small : BelowPairs
 module _ (p : List ℕ) (b : Bytes p) (l : wrongPlanLength p ≡ false) (c : planPaddingSet p ≡ false) where
   room : 24 + 12 * moveCount p + pad (12 * moveCount p) ≡ 8 * length p
   unfolding wrongPlanLength
-  room = let f : Fitting p (moveCount p) = fitting p (moveCount p) l in omega (arith, up-to-byte (12 * moveCount p))
+  room = let f : Fitting p (2 * moveCount p) = fitting p (2 * moveCount p) l in omega (arith, up-to-byte (12 * moveCount p))
 
-  clear : Clean p (moveCount p)
+  clear : Clean p (2 * moveCount p)
   unfolding planPaddingSet
-  clear = cleanly p (moveCount p) c
+  clear = cleanly p (2 * moveCount p) c
 
   read-bits : bits 22 (moveCount p) ++ bits 2 0 ++ pairBits (planMoves p) ++ replicate (pad (12 * moveCount p)) 0 ≡ bitsOf p
   unfolding planMoves moveCount
@@ -119,7 +123,7 @@ module _ (p : List ℕ) (b : Bytes p) (l : wrongPlanLength p ≡ false) (c : pla
       (join p 24 (12 * k)
       (join p 22 2 (bits-field p 0 22 (omega arith)) (ap (bits 2) (sym (clear .spare-clear)) ∙ bits-field p 22 2 (omega arith)))
       (bits-pairs p 24 k (omega arith)))
-      (zeros-at p (24 + 12 * k) (pad (12 * k)) (omega arith) (clear .pad-clear))
+      (zeros-at p (24 + 12 * k) (pad (12 * k)) (omega arith) (rw (twelve k) at (clear .pad-clear)))
       ∙ take-all (24 + 12 * k + pad (12 * k)) (bitsOf p) (rw length-bitsOf (omega arith))
 
   pub record-read : planRecord (planMoves p) ≡ p

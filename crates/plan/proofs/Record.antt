@@ -3,7 +3,7 @@
 --     short, wrong-length, padding, sound     the answer at each return
 --     count-fits, fitted                      what its calls ask
 -- Assumes nothing.
-use Prim.Native.Nat.{ℕ, _^_, _<_}
+use Prim.Native.Nat.{ℕ, _*_, _^_, _<_}
 use mathlib.Core.Path.{_≡_, refl, sym, ap, _∙_}
 use mathlib.Core.Bool.{Bool, true, false, not}
 use mathlib.Core.List.{List, [], _∷_}
@@ -20,16 +20,16 @@ use Rattle.plan.specs.Readers.{recordAnswer}
 
 pub short : (p : List ℕ) → length p < 3 → refused 30 0 ≡ recordAnswer p
 unfolding recordAnswer wrongPlanLength
-short p h = simp (misfits-short p (moveCount p) h)
+short p h = simp (misfits-short p (2 * moveCount p) h)
 
 module _ (p : List ℕ) (k : ℕ) (count : k ≡ field p 0 22) where
-  pub count-fits : k < 2 ^ 32
+  pub count-fits : 2 * k < 2 ^ 32
   count-fits = omega (arith, field-lt p 0 22)
 
-  module _ (f : Bool) (t : f ≡ not (misfits p k)) where
+  module _ (f : Bool) (t : f ≡ not (misfits p (2 * k))) where
     length-test : f ≡ not (wrongPlanLength p)
     unfolding wrongPlanLength moveCount
-    length-test = t ∙ ap (λ (u : ℕ). not (misfits p u)) count
+    length-test = t ∙ ap (λ (u : ℕ). not (misfits p (2 * u))) count
 
     pub wrong-length : f ≡ false → refused 30 0 ≡ recordAnswer p
     unfolding recordAnswer
@@ -39,13 +39,13 @@ module _ (p : List ℕ) (k : ℕ) (count : k ≡ field p 0 22) where
       right-length : wrongPlanLength p ≡ false
       right-length = not-true (wrongPlanLength p) (sym length-test ∙ o)
 
-      pub fitted : misfits p k ≡ false
-      fitted = not-true (misfits p k) (sym t ∙ o)
+      pub fitted : misfits p (2 * k) ≡ false
+      fitted = not-true (misfits p (2 * k)) (sym t ∙ o)
 
-      module _ (g : Bool) (u : g ≡ not (unclean p k)) where
+      module _ (g : Bool) (u : g ≡ not (unclean p (2 * k))) where
         clean-test : g ≡ not (planPaddingSet p)
         unfolding planPaddingSet moveCount
-        clean-test = u ∙ ap (λ (n : ℕ). not (unclean p n)) count
+        clean-test = u ∙ ap (λ (n : ℕ). not (unclean p (2 * n))) count
 
         pub padding : g ≡ false → refused 31 0 ≡ recordAnswer p
         unfolding recordAnswer

@@ -13,16 +13,15 @@ use native.Mathlib.Omega.{arith}
 use lib.ListN.{length}
 use Rattle.answers.specs.Answer.{accepted}
 use Rattle.field.proofs.BitLaws.{field-lt}
-use Rattle.field.specs.Units.{unitsLength}
+use Rattle.field.specs.Units.{recordLength}
 use Rattle.plan.specs.Plan.{planRecord, moveCount, planAnswer}
 use Rattle.plan.proofs.PlanRecord.{length-record}
-use Rattle.plan.specs.Solutions.{AcceptedPlan}
-use Rattle.plan.proofs.SolutionsLaws.{plan-solutions}
+use Rattle.plan.proofs.Replayed.{ReplayedPlan, plan-replayed}
 
 pub moves-small : (o p : List ℕ) (k : ℕ) → accepted (k ∷ []) ≡ planAnswer o p → k < 2 ^ 22
 unfolding moveCount
 moves-small o p k e =
-    let gave : AcceptedPlan o p (k ∷ []) = plan-solutions o .0 p (k ∷ []) .0 (sym e) in
+    let gave : ReplayedPlan o p (k ∷ []) = plan-replayed o .0 p (k ∷ []) .0 (sym e) in
     subst (λ (n : ℕ). n < 2 ^ 22) (head-eq-of-cons-eq (gave .counted)) (field-lt p 0 22)
 
 module _ (n : ℕ) where
@@ -32,14 +31,14 @@ module _ (n : ℕ) where
       let cube : n * (n * n) ≤ 64 * (n * n) = mul-le-mul-right (n * n) few in
       (omega arith, omega arith)
 
-  pub most-bytes : unitsLength (8 * (n * (n * n))) ≡ 12 * (n * (n * n)) + 3
-  unfolding unitsLength
+  pub most-bytes : recordLength (2 * (8 * (n * (n * n)))) ≡ 12 * (n * (n * n)) + 3
+  unfolding recordLength
   most-bytes = omega arith
 
   module _ (ms : List (ℕ × ℕ)) where
     pub record-full : length ms ≡ 8 * (n * (n * n)) → length (planRecord ms) ≡ 12 * (n * (n * n)) + 3
-    record-full e = length-record ms ∙ ap unitsLength e ∙ most-bytes
+    record-full e = length-record ms ∙ ap (λ (k : ℕ). recordLength (2 * k)) e ∙ most-bytes
 
     pub record-fits : length ms ≤ 8 * (n * (n * n)) → length (planRecord ms) ≤ 12 * (n * (n * n)) + 3
-    unfolding unitsLength
+    unfolding recordLength
     record-fits few = omega (arith, length-record ms)

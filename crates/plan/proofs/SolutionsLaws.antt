@@ -1,122 +1,59 @@
 -- Laws of what specs/Solutions.antt defines.
 --
---     only-record          every solution with fewer than 2^22 moves has it
---     plan-solutions       a plan is accepted exactly if it describes a solution, and every solution with fewer than 2^22 moves has
---                          exactly one record, which is accepted
+--     replay-moves         the moves of an accepted plan are those between the arrangements of its replay
+--     plan-solutions       demand 2 for plans: a byte string is accepted exactly if it is the record of a solution's moves
 -- Assumes nothing.
-use Prim.Native.Nat.{ℕ, _^_, _≤_, _<_}
+use Prim.Native.Nat.{ℕ}
 use mathlib.Core.List.{List, [], _∷_}
 use mathlib.Core.Logic.{_↔_}
-use mathlib.Core.Path.{_≡_, sym, ap, _∙_}
-use native.Mathlib.Omega.{arith}
-use lib.ListN.{length}
-use Rattle.answers.specs.Answer.{Answer, accepted, refuse}
-use Rattle.answers.proofs.AnswerLaws.{refuse-not, refuse-else, passUp-low, passUp-high, passUp-accepted}
-use Rattle.field.specs.Bytes.{BelowPairs, none₂, more₂}
-use Rattle.order.specs.Floor.{Floor}
-use Rattle.order.specs.Order.{rackCount, floorOf, startsOf, goalsOf, counts, orderAnswer, WellFormed}
-use Rattle.order.proofs.OrderLaws.{well-formed, accepted-is}
+use mathlib.Core.Path.{_≡_, refl, sym, ap, _∙_}
+use Rattle.answers.specs.Answer.{accepted}
+use Rattle.field.specs.Bytes.{Bytes}
+use Rattle.field.proofs.BitLaws.{field-lt}
+use Rattle.order.specs.Order.{rackCount, floorOf, startsOf, goalsOf, WellFormed}
 use Rattle.motion.specs.Arrangement.{Arrangement}
 use Rattle.motion.specs.Move.{afterMove}
-use Rattle.motion.proofs.MoveLaws.{onFloor-parts, legal-parts}
 use Rattle.motion.specs.Replay.{ended, replayMoves, trace}
-use Rattle.motion.proofs.Lawful.{Leads, still, _then_, replayMoves-ended}
-use Rattle.motion.proofs.SoundLaws.{leads-length}
-use Rattle.motion.specs.Judgement.{judged}
-use Rattle.motion.proofs.JudgementLaws.{judged-accepted}
-use Rattle.motion.proofs.PebbleLaws.{OnlyMoves, pebble-replay}
+use Rattle.motion.specs.StepSolutions.{movesBetween}
+use Rattle.motion.proofs.Lawful.{replayMoves-ended}
+use Rattle.motion.proofs.PebbleLaws.{pebble-replay}
+use Rattle.motion.proofs.BetweenLaws.{moves-between}
 use Rattle.tables.proofs.AcceptedLaws.{well-placed}
-use Rattle.plan.specs.Plan.{planRecord, moveCount, planMoves, wrongPlanLength, planPaddingSet, planAnswer}
-use Rattle.plan.proofs.PlanRecord.{moves-counted, Written, written, record-read}
-use Rattle.plan.specs.Solutions.{SolutionOf, arrangements, AcceptedPlan, OnlyRecord}
+use Rattle.plan.specs.Plan.{planRecord, moveCount, planMoves, planAnswer}
+use Rattle.plan.specs.Solutions.{AcceptedPlan}
+use Rattle.plan.proofs.PlanRecord.{moves-counted, record-read}
+use Rattle.plan.proofs.Replayed.{ReplayedPlan, arrangements, the-moves, accepted-record, plan-replayed}
 
-module _ (o p v : List ℕ) where
-  judgement : Answer
-  judgement = judged 32 33 (goalsOf o) (moveCount p ∷ []) (replayMoves (floorOf o) (startsOf o) (planMoves p))
+replay-moves : (o : List ℕ) (ms : List (ℕ × ℕ)) → WellFormed o → replayMoves (floorOf o) (startsOf o) ms ≡ ended (goalsOf o)
+    → movesBetween (trace afterMove (startsOf o) ms) ≡ ms
+replay-moves o ms w e =
+    moves-between (floorOf o) (well-placed o w .starts-sound) (replayMoves-ended (floorOf o) (startsOf o) ms (goalsOf o) .0 e)
 
-  -- what 32 and 33 leave, for an order that 10 to 14 pass
-  judged-solution : WellFormed o → (judgement ≡ accepted v) ↔ ((moveCount p ∷ [] ≡ v) × SolutionOf o (moveCount p) (arrangements o p))
-  unfolding judgement
-  judged-solution w =
-      let g = well-placed o w in
-      let x = replayMoves (floorOf o) (startsOf o) (planMoves p) in
-      let same : (A : Arrangement) → x ≡ ended A → length A ≡ length (goalsOf o) = λ A e. leads-length (floorOf o) (replayMoves-ended (floorOf o) (startsOf o) (planMoves p) A .0 e) ∙ g .starts-length ∙ sym (g .goals-length) in
-      let by = judged-accepted 32 33 (goalsOf o) (moveCount p ∷ []) v x same in
-      let solved = pebble-replay (floorOf o) (rackCount o) (startsOf o) (goalsOf o) (g .task) .0 (planMoves p) in
-      (λ a. (by .0 a .1, rw moves-counted at (solved .0 (by .0 a .0))), λ t. by .1 (solved .1 (rw moves-counted (t .1)), t .0))
+solution-of : (o p v : List ℕ) → Bytes p → ReplayedPlan o p v → AcceptedPlan o p v
+unfolding moveCount
+solution-of o p v bytes t =
+    let w = t .order-right in
+    let solved = pebble-replay (floorOf o) (rackCount o) (startsOf o) (goalsOf o) (well-placed o w .task) .0 (planMoves p) in
+    record {
+      order-right = w;
+      moves = moveCount p;
+      few = field-lt p 0 22;
+      arrangements = arrangements o p;
+      solution = t .solution;
+      is = sym (record-read p bytes (t .length-right) (t .padding-clear))
+          ∙ ap planRecord (sym (replay-moves o (planMoves p) w (solved .1 (rw moves-counted (t .solution)))));
+      counted = sym (t .counted);
+    }
 
-  accepted-to : planAnswer o p ≡ accepted v → AcceptedPlan o p v
-  unfolding planAnswer judgement
-  accepted-to e =
-      let a₂ = judged 32 33 (goalsOf o) (moveCount p ∷ []) (replayMoves (floorOf o) (startsOf o) (planMoves p)) in
-      let a₁ = refuse (planPaddingSet p) 31 0 a₂ in
-      let a₀ = refuse (wrongPlanLength p) 30 0 a₁ in
-      let low = passUp-low (orderAnswer o) a₀ v e in
-      let w : WellFormed o = well-formed o (low .0) (low .1) in
-      let e₀ : a₀ ≡ accepted v = passUp-high (orderAnswer o) a₀ v e in
-      let e₁ : a₁ ≡ accepted v = refuse-else (wrongPlanLength p) 30 0 a₁ v e₀ in
-      let e₂ : a₂ ≡ accepted v = refuse-else (planPaddingSet p) 31 0 a₂ v e₁ in
-      let t = judged-solution w .0 e₂ in
-      record {
-        order-right = w;
-        length-right = refuse-not (wrongPlanLength p) 30 0 a₁ v e₀;
-        padding-clear = refuse-not (planPaddingSet p) 31 0 a₂ v e₁;
-        counted = t .0;
-        solution = t .1;
-      }
+accepted-from : (o p v : List ℕ) → AcceptedPlan o p v → planAnswer o p ≡ accepted v
+accepted-from o p v t =
+    let w = t .order-right in
+    let of = the-moves o w (t .moves) (t .arrangements) (t .few) (t .solution) in
+    let listed : movesBetween (t .arrangements) ≡ of .moves =
+    ap movesBetween (sym (of .traced)) ∙ replay-moves o (of .moves) w (of .accepted) in
+    ap (planAnswer o) (t .is ∙ ap planRecord listed)
+    ∙ accepted-record o w (t .moves) (t .arrangements) (t .few) (t .solution)
+    ∙ ap accepted (sym (t .counted))
 
-  accepted-from : AcceptedPlan o p v → planAnswer o p ≡ accepted v
-  unfolding planAnswer judgement
-  accepted-from t =
-      passUp-accepted (orderAnswer o) _ (counts o) (accepted-is o (t .order-right))
-      ∙ rw (t .length-right, t .padding-clear) (judged-solution (t .order-right) .1 (t .counted, t .solution))
-
--- moves that lead anywhere have their positions on the floor
-pub leads-small : (F : Floor) → F .positions ≤ 64 → {A B : Arrangement} {ms : List (ℕ × ℕ)} → Leads F A ms B → BelowPairs 64 ms
-leads-small F few still = none₂
-leads-small F few (_then_ {A = A} {x = m} l rest) =
-    let t = onFloor-parts F m .0 (legal-parts F A m .0 l .0) in
-    more₂ {p = m} (omega (arith, t .0)) (omega (arith, t .1)) (leads-small F few rest)
-
-module _ (o : List ℕ) (w : WellFormed o) (ξ : ℕ) (S : List Arrangement) (few : ξ < 2 ^ 22) (s : SolutionOf o ξ S) where
-  the-moves : OnlyMoves (floorOf o) (startsOf o) (goalsOf o) ξ S
-  the-moves = pebble-replay (floorOf o) (rackCount o) (startsOf o) (goalsOf o) (well-placed o w .task) .1 ξ S s
-
-  the-record : Written (the-moves .moves)
-  the-record =
-      let n : length (the-moves .moves) ≡ ξ = the-moves .steps in
-      written (the-moves .moves) (rw n few)
-      (leads-small (floorOf o) (well-placed o w .few-positions) (replayMoves-ended (floorOf o) (startsOf o) (the-moves .moves) (goalsOf o) .0 (the-moves .accepted)))
-
-  the-count : moveCount (planRecord (the-moves .moves)) ≡ ξ
-  the-count = the-record .count-is ∙ the-moves .steps
-
-  the-trace : arrangements o (planRecord (the-moves .moves)) ≡ S
-  the-trace = ap (trace afterMove (startsOf o)) (the-record .moves-are) ∙ the-moves .traced
-
-  pub only-record : OnlyRecord o ξ S
-  only-record =
-      record {
-        plan = planRecord (the-moves .moves);
-        are-bytes = the-record .are-bytes;
-        length-right = the-record .length-right;
-        padding-clear = the-record .padding-clear;
-        described = the-trace;
-        is-accepted = accepted-from o (planRecord (the-moves .moves)) (ξ ∷ [])
-            (record {
-              order-right = w;
-              length-right = the-record .length-right;
-              padding-clear = the-record .padding-clear;
-              counted = ap (λ (k : ℕ). k ∷ []) the-count;
-              solution = rw (the-count, the-trace) s;
-            });
-        only = λ p b l c e. sym (record-read p b l c) ∙ ap planRecord (the-moves .only (planMoves p) e);
-      }
-
--- For every order o: (a) a byte string p is accepted as its plan, with the counts v, exactly if o is well formed, 30 and 31 pass p, v is the
--- count of p's moves, and the arrangements of p's replay are a solution with as many moves; (b) where o is well formed, every solution with
--- fewer than 2^22 moves is described by exactly one byte string that 30 and 31 pass, and this one is accepted with as many moves.
-pub plan-solutions : (o : List ℕ)
-    → ((p v : List ℕ) → (planAnswer o p ≡ accepted v) ↔ AcceptedPlan o p v)
-    × (WellFormed o → (ξ : ℕ) (S : List Arrangement) → ξ < 2 ^ 22 → SolutionOf o ξ S → OnlyRecord o ξ S)
-plan-solutions o = (λ p v. (accepted-to o p v, accepted-from o p v), only-record o)
+pub plan-solutions : (o p v : List ℕ) → Bytes p → (planAnswer o p ≡ accepted v) ↔ AcceptedPlan o p v
+plan-solutions o p v bytes = (λ e. solution-of o p v bytes (plan-replayed o .0 p v .0 e), accepted-from o p v)

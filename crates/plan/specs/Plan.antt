@@ -7,7 +7,7 @@
 --     wrongPlanLength p, planPaddingSet p    30 and 31 apply to p
 --     planAnswer o p   the plan checker's answer for the order o and the plan p
 -- Assumes nothing.
-use Prim.Native.Nat.{ℕ}
+use Prim.Native.Nat.{ℕ, _*_}
 use mathlib.Core.Bool.{Bool}
 use mathlib.Core.List.{List, [], _∷_, _++_}
 use lib.ListN.{length}
@@ -33,17 +33,17 @@ planMoves p = pairs p 24 (moveCount p)
 
 -- 30: "plan under 3 bytes, or its length is not the one k gives"
 unfoldable pub wrongPlanLength : List ℕ → Bool
-wrongPlanLength p = misfits p (moveCount p)
+wrongPlanLength p = misfits p (2 * moveCount p)
 
 -- 31: "a spare or pad bit of the plan is set"
 unfoldable pub planPaddingSet : List ℕ → Bool
-planPaddingSet p = unclean p (moveCount p)
+planPaddingSet p = unclean p (2 * moveCount p)
 
--- 32, move number: "this move, the first such, is not legal at its turn"; 33, rack: "after the plan this rack, the lowest such, is not at
--- its goal". Accepted, the count is k.
+-- the fault of the first move that is not legal at its turn, with the move's number; 33, rack: "after the plan this rack, the lowest such,
+-- is not at its goal". Accepted, the count is k.
 unfoldable pub planAnswer : List ℕ → List ℕ → Answer
 planAnswer o p =
     passUp (orderAnswer o)
     (refuse (wrongPlanLength p) 30 0
     (refuse (planPaddingSet p) 31 0
-    (judged 32 33 (goalsOf o) (moveCount p ∷ []) (replayMoves (floorOf o) (startsOf o) (planMoves p)))))
+    (judged 33 (goalsOf o) (moveCount p ∷ []) (replayMoves (floorOf o) (startsOf o) (planMoves p)))))

@@ -18,5 +18,5 @@ recordAnswer p = refuse (wrongPlanLength p) 30 0 (refuse (planPaddingSet p) 31 0
 
 unfoldable pub tableAnswer : List ℕ → ℕ → ℕ → List ℕ → ℕ → Answer
 tableAnswer s e m t k =
-    judgedOn 32 33 (positions s (6 * (2 * e + m)) m) (k ∷ [])
+    judgedOn 33 (positions s (6 * (2 * e + m)) m) (k ∷ [])
     (replayOn (marked (replicate 4096 0) (pairs s 0 e)) (placed (replicate 64 0) 1 (positions s (6 * (2 * e)) m)) (pairs t 0 k))

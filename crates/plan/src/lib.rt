@@ -2,6 +2,7 @@
 // record is and what each number means; `check` is the entry point.
 use answers::Fault;
 use order::OrderVerdict;
+use tables::Replay;
 ghost use mathlib.Core.Path.{_≡_};
 ghost use mathlib.Core.List.{[], _∷_};
 ghost use Prim.Native.Nat.{_+_, _*_, _^_, _≤_, _<_};
@@ -9,12 +10,12 @@ ghost use lib.ListN.{length};
 ghost use Rattle.answers.specs.Answer.{accepted, passUp};
 ghost use Rattle.field.specs.Bits.{pairs};
 ghost use Rattle.order.specs.Verdict.{answerOf as orderAnswerOf};
-ghost use Rattle.tables.specs.Tables.{legalEntries};
+ghost use Rattle.tables.specs.Tables.{entriesFault};
 ghost use Rattle.tables.specs.MovesOn.{replayOn};
-ghost use Rattle.tables.specs.Ending.{Ends};
+ghost use Rattle.tables.specs.Ending.{endOf};
 ghost use Rattle.plan.specs.Plan.{planAnswer};
 ghost use Rattle.plan.specs.Readers.{recordAnswer, tableAnswer};
-ghost use Rattle.plan.specs.Verdict.{answerOf};
+ghost use Rattle.plan.specs.Verdict.{answerOf, faultOf};
 
 // The verdict on a plan: specs/Verdict.antt gives it document 01's number and values.
 pub enum PlanVerdict {
@@ -40,36 +41,43 @@ fn read_record(plan: &[u8]) -> PlanVerdict
         return PlanVerdict::Refused(Fault::PlanLength, 0);
     }
     let k = field::count_at_head(plan);
-    if !field::units_fit(plan, k) {
+    if !field::units_fit(plan, 2 * k) {
         return PlanVerdict::Refused(Fault::PlanLength, 0);
     }
-    if !field::units_clean(plan, k) {
+    if !field::units_clean(plan, 2 * k) {
         return PlanVerdict::Refused(Fault::PlanPadding, 0);
     }
     PlanVerdict::Accepted(k)
 }
 
-// Whether a move is legal, from what the tables have: the entry of the matrix for its two positions, the rack at the position left and
-// the rack at the position entered.
-fn legal(edge: u8, left: u8, entered: u8) -> bool
-    ensures { λ r. ⌜ r ≡ legalEntries edge left entered ⌝ }
-{
-    if edge == 0 {
-        return false;
-    }
-    if left == 0 {
-        return false;
-    }
-    if entered != 0 {
-        return false;
-    }
-    true
+// The verdict on a move at its turn: specs/Verdict.antt gives it document 01's number, or 0.
+pub enum MoveVerdict {
+    Legal,
+    Illegal(Fault),
 }
 
-// Replays the k moves of a plan's tail on the table of racks: the number of the first that is not legal, or 0.
-fn replay(tail: &[u8], k: usize, matrix: &[u8; 4096], racks: &mut [u8; 64]) -> usize
+// A move's fault, from what the tables have: the entry of the matrix for its two positions, the rack at the position left and the rack at
+// the position entered.
+fn move_fault(edge: u8, left: u8, entered: u8) -> MoveVerdict
+    ensures { λ r. ⌜ faultOf r ≡ entriesFault edge left entered ⌝ }
+{
+    if edge == 0 {
+        return MoveVerdict::Illegal(Fault::PlanMove);
+    }
+    if left == 0 {
+        return MoveVerdict::Illegal(Fault::PlanMove);
+    }
+    if entered != 0 {
+        return MoveVerdict::Illegal(Fault::PlanMove);
+    }
+    MoveVerdict::Legal
+}
+
+// Replays the k moves of a plan's tail on the table of racks: to the first that is not legal.
+fn replay(tail: &[u8], k: usize, matrix: &[u8; 4096], racks: &mut [u8; 64]) -> Replay
+    requires { ⌜ k < 2 ^ 22 ⌝ }
     requires { ⌜ 12 * k ≤ 8 * length (now tail) ⌝ }
-    ensures { λ r. ⌜ Ends (replayOn (now (matrix .entry)) (now (racks .entry)) (pairs (now (tail .entry)) 0 k)) k r (now (racks .exit)) ⌝ }
+    ensures { λ r. ⌜ endOf r (now (racks .exit)) ≡ replayOn (now (matrix .entry)) (now (racks .entry)) (pairs (now (tail .entry)) 0 k) ⌝ }
 {
     let mut j = 0;
     while j < k {
@@ -77,28 +85,30 @@ fn replay(tail: &[u8], k: usize, matrix: &[u8; 4096], racks: &mut [u8; 64]) -> u
         let a = step.first;
         let b = step.second;
         let rack = racks[a];
-        if !legal(matrix[a * 64 + b], rack, racks[b]) {
-            return j + 1;
+        let verdict = move_fault(matrix[a * 64 + b], rack, racks[b]);
+        if let MoveVerdict::Illegal(fault) = verdict {
+            return Replay::Stopped(fault, (j + 1) as u32);
         }
         racks[a] = 0;
         racks[b] = rack;
         j += 1;
     }
-    0
+    Replay::Ended
 }
 
-// 32 and 33, by tables: a matrix of the floor's edges, and the rack at each position.
+// The replay's fault, then 33, by tables: a matrix of the floor's edges, and the rack at each position.
 fn judge(order: &[u8], e: usize, m: usize, plan: &[u8], k: usize) -> PlanVerdict
-    requires { ⌜ (e < 256) × (m ≤ 64) × (12 * (e + m) ≤ 8 * length (now order)) × (k < 2 ^ 22) × (12 * k ≤ 8 * length (now plan)) ⌝ }
+    requires { ⌜ (e < 256) × (m ≤ 64) × (12 * (e + m) ≤ 8 * length (now order)) ⌝ }
+    requires { ⌜ (k < 2 ^ 22) × (12 * k ≤ 8 * length (now plan)) ⌝ }
     ensures { λ r. ⌜ answerOf r ≡ tableAnswer (now (order .entry)) e m (now (plan .entry)) k ⌝ }
 {
     let mut matrix = [0u8; 4096];
     order::mark_edges(order, e, &mut matrix);
     let mut racks = [0u8; 64];
     order::place_racks(order, 2 * e, m, &mut racks);
-    let illegal = replay(plan, k, &matrix, &mut racks);
-    if illegal != 0 {
-        return PlanVerdict::Refused(Fault::PlanMove, illegal as u32);
+    let replayed = replay(plan, k, &matrix, &mut racks);
+    if let Replay::Stopped(fault, place) = replayed {
+        return PlanVerdict::Refused(fault, place);
     }
     let rack = tables::misplaced(order, 2 * e + m, m, &racks);
     if rack != 0 {

@@ -16,19 +16,20 @@ use mathlib.Core.List.{List, [], _∷_}
 use native.Mathlib.Omega.{arith}
 use lib.ListN.{length, getD, replicate, length-replicate}
 use lib.Dec.{lit≤}
+use Rattle.answers.specs.Ascii.{ascii}
 use Rattle.answers.specs.Answer.{accepted, refused}
 use Rattle.answers.specs.Family.{familyWord, within}
 use Rattle.field.specs.Bits.{bits, number, bitsOf, field, pairs, positions, pairBits, positionBits, pad, padded, bytes, toBytes}
-use Rattle.field.specs.Units.{unitsLength, misfits, unclean}
+use Rattle.field.specs.Units.{recordLength, misfits, unclean}
 use Rattle.field.specs.Writing.{written}
 use Rattle.order.specs.Floor.{isPair, among, joined}
-use Rattle.order.specs.Order.{orderBits, orderRecord, positionCount, edgeCount, rackCount, unitCount, floorOf, startsOf, goalsOf, orderOf, wrongLength, wrongPositions, paddingSet, some, badEdge, precedes, ascending, wrongEdges, repeats, wrongPlaces, wrongRacks, counts, orderAnswer}
+use Rattle.order.specs.Order.{orderBits, orderRecord, positionCount, edgeCount, rackCount, unitCount, floorOf, startsOf, goalsOf, orderOf}
+use Rattle.order.specs.Order.{wrongLength, wrongPositions, paddingSet, some, badEdge, precedes, ascending, wrongEdges, repeats}
+use Rattle.order.specs.Order.{wrongPlaces, wrongRacks, counts, orderAnswer}
 use Rattle.order.specs.EdgeSets.{listed, isEdge, floorFrom}
-use Rattle.motion.specs.Arrangement.{occupied, vacant}
-use Rattle.motion.specs.Move.{onFloor, legalMove, goesTo, after, afterMove}
-use Rattle.motion.specs.Replay.{replayFrom, replayMoves}
+use Rattle.plan.proofs.Examples.{plan-open}
 use Rattle.plan.specs.Plan.{planBits, planRecord}
-use Rattle.text.specs.Text.{digits, decimal, space, newline, refusedText, refusalLine}
+use Rattle.writers.specs.Lines.{digits, decimal, refusalLine}
 use Rattle.floor.specs.FloorAnswer.{biConnected?, ring?, floorAnswer}
 use Rattle.floor.specs.Plannable.{Plannable}
 use Rattle.floor.proofs.FloorLaws.{plannable}
@@ -44,7 +45,10 @@ allOfEighteen = orderRecord (record { floor = floorFrom 18 (λ a b. true); start
 
 -- the hypotheses of `printed-large` hold of something
 pub large : Plannable allOfEighteen × (18 ≤ positionCount allOfEighteen)
-unfolding allOfEighteen orderRecord orderBits floorFrom listed isEdge bits pairBits positionBits toBytes padded pad bytes floorAnswer biConnected? ring? joined among isPair orderAnswer wrongLength misfits unitsLength unitCount wrongPositions paddingSet unclean wrongEdges some badEdge precedes ascending wrongRacks wrongPlaces repeats orderOf floorOf startsOf goalsOf counts positionCount edgeCount rackCount field number bitsOf pairs positions
+unfolding allOfEighteen orderRecord orderBits floorFrom listed isEdge bits pairBits positionBits toBytes padded pad bytes floorAnswer
+    biConnected? ring? joined among isPair orderAnswer wrongLength misfits recordLength unitCount wrongPositions paddingSet unclean
+    wrongEdges some badEdge precedes ascending wrongRacks wrongPlaces repeats orderOf floorOf startsOf goalsOf counts positionCount
+    edgeCount rackCount field number bitsOf pairs positions
 large = (plannable allOfEighteen [] refl, lit≤ tt)
 
 pub refusals-met :
@@ -54,13 +58,16 @@ pub refusals-met :
     × (refusals threeInRing 65536 ≡ refused 22 0)
     × (refusals allOfEighteen 65536 ≡ refused 23 0)
     × (refusals twoRacks 65536 ≡ accepted [])
-unfolding refusals allOfEighteen orderRecord orderBits floorFrom listed isEdge bits pairBits positionBits toBytes padded pad bytes floorAnswer biConnected? ring? joined among isPair orderAnswer wrongLength misfits unitsLength unitCount wrongPositions paddingSet unclean wrongEdges some badEdge precedes ascending wrongRacks wrongPlaces repeats orderOf floorOf startsOf goalsOf counts positionCount edgeCount rackCount field number bitsOf pairs positions
+unfolding refusals allOfEighteen orderRecord orderBits floorFrom listed isEdge bits pairBits positionBits toBytes padded pad bytes
+    floorAnswer biConnected? ring? joined among isPair orderAnswer wrongLength misfits recordLength unitCount wrongPositions paddingSet
+    unclean wrongEdges some badEdge precedes ascending wrongRacks wrongPlaces repeats orderOf floorOf startsOf goalsOf counts positionCount
+    edgeCount rackCount field number bitsOf pairs positions
 refusals-met = (refl, refl, refl, refl, refl, refl)
 
 -- refused 23 0 floor
 pub floor-line : refusalLine 23 0
     ≡ 114 ∷ 101 ∷ 102 ∷ 117 ∷ 115 ∷ 101 ∷ 100 ∷ 32 ∷ 50 ∷ 51 ∷ 32 ∷ 48 ∷ 32 ∷ 102 ∷ 108 ∷ 111 ∷ 111 ∷ 114 ∷ 10 ∷ []
-unfolding refusalLine refusedText space newline decimal digits familyWord within
+unfolding refusalLine decimal digits familyWord within ascii
 floor-line = refl
 
 abbrev moves₁ : List (ℕ × ℕ)
@@ -74,7 +81,7 @@ unfolding planRecord planBits bits pairBits toBytes padded pad bytes number
 record₁ = refl
 
 solves₁ : Solves twoRacks (positionCount twoRacks) moves₁
-unfolding positionCount edgeCount rackCount floorOf startsOf goalsOf field number bitsOf bits pairs positions replayMoves replayFrom legalMove onFloor joined among isPair occupied vacant goesTo after afterMove
+unfolding plan-open
 solves₁ = record {
   few = lit≤ tt;
   replayed = refl;

@@ -19,13 +19,13 @@ use lib.Dec.{ltb}
 use lib.ListN.{length, take, drop}
 use lib.Seq.{take-at}
 use Rattle.answers.specs.Answer.{Answer, accepted, refused, refuse}
-use Rattle.field.specs.Units.{unitsLength}
+use Rattle.field.specs.Units.{recordLength}
 use Rattle.field.proofs.UnitLaws.{fitting}
 use Rattle.field.specs.Writing.{written, Wrote}
 use Rattle.field.proofs.WritingLaws.{written-front, wrote-as}
 use Rattle.order.specs.Order.{positionCount}
 use Rattle.plan.specs.Plan.{planRecord, planAnswer, moveCount, wrongPlanLength}
-use Rattle.text.specs.Text.{refusalLine}
+use Rattle.writers.specs.Lines.{refusalLine}
 use Rattle.floor.specs.FloorAnswer.{floorAnswer}
 use Rattle.floor.specs.Plannable.{Plannable}
 use Rattle.floor.proofs.FloorLaws.{plannable-is}
@@ -39,19 +39,19 @@ front : (s l : List ℕ) (n : ℕ) → length l ≡ n → take n (written s 0 l)
 front s l n e = ap (take n) (written-front s l) ∙ take-at l (drop (length l) s) n e
 
 module _ (s : List ℕ) (can : Plannable s) (ms : List (ℕ × ℕ)) (solves : Solves s (positionCount s) ms) where
-  pub record-length : length (planRecord ms) ≡ unitsLength (length ms)
-  unfolding wrongPlanLength unitsLength
+  pub record-length : length (planRecord ms) ≡ recordLength (2 * length ms)
+  unfolding wrongPlanLength recordLength
   record-length =
       let p = planRecord ms in
       let w = packed s can ms solves in
-      fitting p (moveCount p) (w .length-right) .length-is ∙ ap (λ (k : ℕ). 3 + (12 * k + 7) / 8) (w .count-is)
+      fitting p (2 * moveCount p) (w .length-right) .length-is ∙ ap (λ (k : ℕ). 3 + (6 * (2 * k) + 7) / 8) (w .count-is)
 
   pub text-made : (B : List ℕ) → planText (accepted (length ms ∷ [])) (written B 0 (planRecord ms)) ≡ planRecord ms
-  text-made B = front B (planRecord ms) (unitsLength (length ms)) record-length
+  text-made B = front B (planRecord ms) (recordLength (2 * length ms)) record-length
 
 module _ {s B : List ℕ} (lent : length B ≡ 65536) where
   pub made-printed : {B′ : List ℕ} {k n : ℕ} → PlanMade s B (accepted (k ∷ [])) B′ → n ≡ 3 + (12 * k + 7) / 8 → Printed s B B′ n
-  unfolding unitsLength
+  unfolding recordLength
   made-printed (made ms right solves) e =
       let can = unrefused s (length B) right in
       let text = text-made s can ms solves B in

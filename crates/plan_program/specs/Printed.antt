@@ -5,14 +5,14 @@
 --     Printed s out out′ n   for the input s the program writes n bytes: those at the front of out′, which was out before
 --     PlanPrinted s p             the byte string p is the record of a plan for the order s
 -- Assumes nothing.
-use Prim.Native.Nat.{ℕ}
+use Prim.Native.Nat.{ℕ, _*_}
 use mathlib.Core.Path.{_≡_}
 use mathlib.Core.List.{List, [], _∷_}
 use lib.ListN.{length, getD, take}
 use Rattle.answers.specs.Answer.{Answer, accepted, refused}
-use Rattle.field.specs.Units.{unitsLength}
+use Rattle.field.specs.Units.{recordLength}
 use Rattle.field.specs.Writing.{Wrote}
-use Rattle.text.specs.Text.{refusalLine}
+use Rattle.writers.specs.Lines.{refusalLine}
 use Rattle.planner.specs.Planner.{PlanMade}
 use Rattle.order.specs.Order.{positionCount}
 use Rattle.plan.specs.Plan.{planRecord, planAnswer}
@@ -20,7 +20,7 @@ use Rattle.planner.specs.Moves.{Solves}
 
 -- "writes the plan record", whose length the count of its moves gives; "On a refusal a program prints one line and no other"
 abbrev pub planText : Answer → List ℕ → List ℕ
-planText (accepted counts) lent = take (unitsLength (getD counts 0 0)) lent
+planText (accepted counts) lent = take (recordLength (2 * getD counts 0 0)) lent
 planText (refused number place) lent = refusalLine number place
 
 -- "The plan program reads an order from standard input, lends 65,536 bytes (so n up to 17), and writes the plan record."

@@ -10,7 +10,7 @@ pub fn plan_program(input: &[u8], out: &mut [u8; 65536]) -> usize
     match planner::make(input, out) {
         PlannerVerdict::Planned(moves) => 3 + (12 * moves + 7) / 8,
         PlannerVerdict::Refused(fault, place) => {
-            text::put_refusal(answers::number(fault), place, out, 0)
+            writers::put_refusal(answers::number(fault), place, out, 0)
         }
     }
 }

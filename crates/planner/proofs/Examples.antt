@@ -20,16 +20,16 @@ use Rattle.field.specs.Packing.{pack}
 use Rattle.field.specs.Writing.{written}
 use Rattle.order.specs.Floor.{isPair, among, joined}
 use Rattle.order.specs.Order.{positionCount, edgeCount, rackCount, floorOf, startsOf, goalsOf, counts}
+use Rattle.order.specs.Tables.{decodedRows, decodedStarts, decodedGoals}
 use Rattle.order.proofs.OrderLaws.{accepted-is}
 use Rattle.motion.specs.Arrangement.{occupied, vacant}
-use Rattle.motion.specs.Move.{onFloor, legalMove, goesTo, after, afterMove}
+use Rattle.motion.specs.Move.{onFloor, faultBy, moveFault, goesTo, after, afterMove}
 use Rattle.motion.specs.Replay.{replayFrom, replayMoves}
 use Rattle.tables.specs.Accepted.{OrderGave}
 use Rattle.tables.proofs.AcceptedLaws.{order-gave}
 use Rattle.plan.specs.Plan.{planRecord}
-use Rattle.floor.specs.Plannable.{Plannable}
 use Rattle.floor.proofs.ExamplesLaws.{twoRacks, floors-judged, plannable-met}
-use Rattle.planner.specs.Moves.{Solves, Moves}
+use Rattle.planner.specs.Moves.{Solves, SomeTables, Moves}
 use Rattle.planner.specs.Planner.{refusals, PlanMade, turned-down, made}
 
 order-read : OrderGave twoRacks 4 5 2
@@ -37,14 +37,22 @@ order-read =
     order-gave twoRacks 4 5 2
     (unfold counts positionCount edgeCount rackCount field number bitsOf bits in sym (accepted-is twoRacks (plannable-met .right)))
 
-pub plan-moves-met : OrderGave twoRacks 4 5 2 × Plannable twoRacks × (12 * (4 * (4 * 4)) ≤ length (replicate {A = ℕ} 768 0))
-plan-moves-met = (order-read, plannable-met, (let n = length-replicate {A = ℕ} 768 0 in omega arith))
+pub plan-moves-met : SomeTables 4 2 (decodedRows twoRacks) (decodedStarts twoRacks) (decodedGoals twoRacks)
+    × (12 * (4 * (4 * 4)) ≤ length (replicate {A = ℕ} 768 0))
+plan-moves-met = (
+  record {
+    order = twoRacks;
+    tables = record { edges = 5; gave = order-read; can = plannable-met; rows-are = refl; starts-are = refl; goals-are = refl };
+  },
+  (let n = length-replicate {A = ℕ} 768 0 in omega arith),
+)
 
 abbrev pub plan : List (ℕ × ℕ)
 plan = (0, 1) ∷ (3, 2) ∷ (2, 0) ∷ (1, 3) ∷ []
 
 pub solves-met : Solves twoRacks 4 plan
-unfolding replayMoves replayFrom legalMove onFloor joined among isPair occupied vacant afterMove after goesTo floorOf startsOf goalsOf positionCount edgeCount rackCount field number bitsOf bits pairs positions
+unfolding replayMoves replayFrom moveFault faultBy onFloor joined among isPair occupied vacant afterMove after goesTo floorOf startsOf
+    goalsOf positionCount edgeCount rackCount field number bitsOf bits pairs positions
 solves-met = record { few = lit≤ tt; replayed = refl; still = λ e. absurd (apart (ap (λ (l : List ℕ). getD l 0 0) e)) }
   where
     apart : _≡_ {A = ℕ} 0 3 → ⊥

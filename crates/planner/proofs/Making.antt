@@ -1,7 +1,8 @@
 -- The planner's answers above the floor judge's: what it turns down, and what it leaves behind where it plans.
 --
 --     planner-refused            the floor judge's refusal is passed up
---     head-there, gave           what an order that can be planned gives
+--     counted, gave              what the counts that the floor judge hands on are
+--     tables                     what the order is decoded to, as the moves are made from it
 --     cube                       how large the products are
 --     planner-short, room        the buffer is too short, or it has room for the moves
 --     few-moves                  their number fits the head
@@ -23,22 +24,24 @@ use Rattle.field.specs.Packing.{pack}
 use Rattle.field.proofs.PackingLaws.{length-pack}
 use Rattle.field.proofs.RecordLaws.{rest-is}
 use Rattle.field.specs.Writing.{written}
-use Rattle.order.specs.Order.{positionCount, floorOf, startsOf, goalsOf, orderAnswer, counts, CountsOf}
-use Rattle.order.proofs.OrderLaws.{right-head, accepted-is}
+use Rattle.order.specs.Order.{positionCount, floorOf, startsOf, goalsOf, orderAnswer, counts}
+use Rattle.order.specs.Tables.{decodedRows, decodedStarts, decodedGoals}
+use Rattle.order.proofs.OrderLaws.{accepted-is}
 use Rattle.motion.proofs.Lawful.{replayMoves-ended}
 use Rattle.tables.specs.Accepted.{OrderGave}
 use Rattle.tables.proofs.AcceptedLaws.{order-gave}
 use Rattle.plan.specs.Plan.{planRecord}
 use Rattle.plan.proofs.PlanRecord.{record-parts}
-use Rattle.plan.proofs.SolutionsLaws.{leads-small}
+use Rattle.plan.proofs.Replayed.{leads-small}
 use Rattle.floor.specs.FloorAnswer.{floorAnswer}
 use Rattle.floor.specs.Plannable.{Plannable}
 use Rattle.floor.proofs.FloorLaws.{plannable-is}
-use Rattle.planner.specs.Moves.{Solves, Moves}
+use Rattle.planner.specs.Moves.{Solves, TablesOf, Moves}
 use Rattle.planner.specs.Planner.{refusals, PlanMade, turned-down, made}
 
-pub head-there : (o : List ℕ) → Plannable o → 3 ≤ length o
-head-there o can = right-head o (can .right .length-right) (can .right .positions-right) .fit .head-there
+pub counted : (o : List ℕ) → Plannable o → (a : Answer) → a ≡ passUp (floorAnswer o) (accepted (counts o)) → a ≡ orderAnswer o
+counted o can a handed =
+    handed ∙ ap (λ (b : Answer). passUp b (accepted (counts o))) (plannable-is o can) ∙ sym (accepted-is o (can .right))
 
 module _ (o B : List ℕ) where
   pub planner-refused : (a r : Answer) (k place : ℕ) → a ≡ floorAnswer o → a ≡ refused k place → r ≡ passUp a (accepted (0 ∷ [])) → PlanMade o B r B
@@ -50,9 +53,17 @@ module _ (o B : List ℕ) where
       let down : r ≡ refused k place = er ∙ ap (λ (x : Answer). passUp x (accepted (0 ∷ []))) ek in
       subst (λ (x : Answer). PlanMade o B x B) (sym down) (turned-down up)
 
-  module _ (can : Plannable o) (n e m : ℕ) (c : CountsOf o n e m) where
+  module _ (can : Plannable o) (n e m : ℕ) (c : accepted (n ∷ e ∷ m ∷ []) ≡ orderAnswer o) where
     pub gave : OrderGave o n e m
-    gave = order-gave o n e m (unfold counts in rw (c .positions-are, c .edges-are, c .racks-are) (sym (accepted-is o (can .right))))
+    gave = order-gave o n e m c
+
+    positions-are : n ≡ positionCount o
+    unfolding floorOf
+    positions-are = gave .positions-are
+
+    pub tables : (g h k : List ℕ) → g ≡ decodedRows o → h ≡ decodedStarts o → k ≡ decodedGoals o → TablesOf o n m g h k
+    tables g h k rows starts goals =
+        record { edges = e; gave = gave; can = can; rows-are = rows; starts-are = starts; goals-are = goals }
 
     few : n ≤ 64
     few = let f = gave .placed-well .few-positions in let p = gave .positions-are in omega arith
@@ -65,7 +76,7 @@ module _ (o B : List ℕ) where
 
     answer-is : refusals o (length B) ≡ refuse (ltb (length B) (12 * (n * (n * n)) + 3)) 23 0 (accepted [])
     unfolding refusals
-    answer-is = rw (plannable-is o can, c .positions-are) refl
+    answer-is = rw (plannable-is o can, positions-are) refl
 
     pub planner-short : length B < 12 * (n * (n * n)) + 3 → PlanMade o B (refused 23 0) B
     planner-short h = turned-down {number = 23} {place = 0} (answer-is ∙ rw (lt-ltb (length B) (12 * (n * (n * n)) + 3) h) refl)
@@ -103,4 +114,5 @@ module _ (o B : List ℕ) where
             is ∙ ap (λ (b : List ℕ). written b 0 (headBytes k)) behind ∙ front-written B (headBytes k) (pack ms) (length-headBytes k) short ∙ ap (written B 0) (sym parts) in
             subst (λ (b : List ℕ). PlanMade o B (accepted (k ∷ [])) b) (sym all)
             (subst (λ (j : ℕ). PlanMade o B (accepted (j ∷ [])) (written B 0 (planRecord ms))) (sym (moves .count))
-            (made ms (answer-is ∙ rw (le-ltb (length B) (12 * (n * (n * n)) + 3) enough) refl) (subst (λ (j : ℕ). Solves o j ms) (c .positions-are) (moves .solves))))
+            (made ms (answer-is ∙ rw (le-ltb (length B) (12 * (n * (n * n)) + 3) enough) refl)
+            (subst (λ (j : ℕ). Solves o j ms) positions-are (moves .solves))))

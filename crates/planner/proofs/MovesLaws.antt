@@ -12,12 +12,11 @@ use mathlib.Core.List.{List, [], _++_}
 use mathlib.Core.Logic.{_↔_, _≢_}
 use native.Mathlib.Omega.{arith}
 use lib.Dec.{T}
-use lib.ListN.{length, take, drop, replicate}
-use Rattle.field.specs.Bits.{pairs, positions}
+use lib.ListN.{length}
 use Rattle.order.specs.Floor.{Floor, joined}
 use Rattle.order.specs.Order.{positionCount, rackCount, floorOf, startsOf, goalsOf}
-use Rattle.order.specs.Tables.{placed}
-use Rattle.order.proofs.TailLaws.{tail-starts, tail-goals}
+use Rattle.order.specs.Tables.{racksAt, decodedRows, decodedStarts, decodedGoals}
+use Rattle.order.proofs.TablesLaws.{decoded-starts, decoded-goals}
 use Rattle.motion.specs.Replay.{ended, replayMoves, replayFrom}
 use Rattle.motion.specs.Sound.{Sound}
 use Rattle.tables.proofs.TablesLaws.{Holds}
@@ -27,14 +26,13 @@ use Rattle.graph.specs.Connected.{BiConnected, Ring}
 use Rattle.graph.specs.Rows.{Edge, Rows}
 use Rattle.graph.specs.EdgeCount.{edgeCount}
 use Rattle.breakdown.specs.Answer.{Answer}
-use Rattle.moving.specs.Went.{Same}
-use Rattle.moving.proofs.WentLaws.{same-refl}
-use Rattle.moving.specs.Journey.{row, Packed, Trip}
-use Rattle.moving.proofs.JourneyLaws.{packed-nothing, trip-packed, went-written}
-use Rattle.planning.specs.Placed.{Placed, Filled}
-use Rattle.planning.proofs.Planned.{trip-planned}
-use Rattle.floor.specs.JoinedRows.{joinedRows}
-use Rattle.floor.proofs.JoinedRowsLaws.{rowsOf}
+use Rattle.shunting.specs.declared.State.{State}
+use Rattle.shunting.specs.Went.{Same}
+use Rattle.shunting.proofs.WentLaws.{same-refl}
+use Rattle.shunting.specs.Journey.{row, Packed, Trip}
+use Rattle.shunting.proofs.JourneyLaws.{packed-nothing, trip-packed, went-written}
+use Rattle.solving.specs.Placed.{Placed, Filled}
+use Rattle.solving.proofs.Planned.{trip-planned}
 use Rattle.floor.specs.FloorAnswer.{Joins}
 use Rattle.floor.proofs.FloorRows.{edge-joins, filled-is, filled-rows}
 use Rattle.floor.specs.Plannable.{Plannable}
@@ -43,16 +41,18 @@ use Rattle.planner.proofs.OrderTables.{held-by, held-placed, held-agree
 use Rattle.planner.specs.Moves.{Moves}
 
 module _ (o : List ℕ) (n e m : ℕ) (gave : OrderGave o n e m) where
-  pub start-holds : (h : List ℕ) → h ≡ placed (replicate 64 0) 1 (positions (take (length o - 3) (drop 3 o)) (6 * (2 * e)) m) → Holds (startsOf o) h
+  pub start-holds : (h : List ℕ) → h ≡ decodedStarts o → Holds (startsOf o) h
+  unfolding racksAt
   start-holds h is =
       let w = gave .placed-well in
-      subst (Holds (startsOf o)) (sym (is ∙ ap (placed (replicate 64 0) 1) (tail-starts o e m (gave .edges-are) (gave .racks-are))))
+      subst (Holds (startsOf o)) (sym (is ∙ decoded-starts o (gave .right)))
       (placed-holds (floorOf o .positions) (startsOf o) (w .few-positions) (w .starts-sound))
 
-  pub goal-holds : (h : List ℕ) → h ≡ placed (replicate 64 0) 1 (positions (take (length o - 3) (drop 3 o)) (6 * (2 * e + m)) m) → Holds (goalsOf o) h
+  pub goal-holds : (h : List ℕ) → h ≡ decodedGoals o → Holds (goalsOf o) h
+  unfolding racksAt
   goal-holds h is =
       let w = gave .placed-well in
-      subst (Holds (goalsOf o)) (sym (is ∙ ap (placed (replicate 64 0) 1) (tail-goals o e m (gave .edges-are) (gave .racks-are))))
+      subst (Holds (goalsOf o)) (sym (is ∙ decoded-goals o (gave .right)))
       (placed-holds (floorOf o .positions) (goalsOf o) (w .few-positions) (w .goals-sound))
 
   pub start-placed : (h : List ℕ) → Holds (startsOf o) h → Placed n m (row h)
@@ -72,7 +72,7 @@ module _ (o : List ℕ) (n e m : ℕ) (gave : OrderGave o n e m) where
         positions-is : floorOf o .positions ≡ positionCount o
         positions-is = unfold floorOf in refl
 
-    module _ (g : List ℕ) (filled : g ≡ joinedRows (replicate 64 0) (pairs (take (length o - 3) (drop 3 o)) 0 e)) where
+    module _ (g : List ℕ) (filled : g ≡ decodedRows o) where
       pub rows-right : Rows n g
       rows-right = filled-rows o n e m gave g filled
 
@@ -90,11 +90,16 @@ module _ (o : List ℕ) (n e m : ℕ) (gave : OrderGave o n e m) where
             edge-joins (floorOf o) (gave .placed-well .edges-below) a b (subst (λ (x : List ℕ). Edge x a b) (filled-is o n e m gave g filled) edge),
           )
 
-      pub planned : (h k start goal start′ t t′ : List ℕ) (w : ℕ) → Holds (startsOf o) h → Holds (goalsOf o) k → (((p : ℕ) → p < 64 → row h p ≡ row k p) → ⊥)
+      -- the racks `start`, with those of the order real and nothing written yet
+      abbrev begun : List ℕ → State
+      begun start = record { racks = start; real = m; written = 0; logged = 0 }
+
+      pub planned : (h k start goal t : List ℕ) {t′ : List ℕ} {s : State} → Holds (startsOf o) h → Holds (goalsOf o) k
+          → (((p : ℕ) → p < 64 → row h p ≡ row k p) → ⊥)
           → Filled m (row h) (row start) → Filled m (row k) (row goal) → 12 * (n * (n * n)) ≤ length t
-          → Trip g m (8 * (n * (n * n))) start t 0 start′ t′ w → Same (row start′) (row goal)
-          → Moves o n t t′ w
-      planned h k start goal start′ t t′ w a b differ fa fb room trip ends =
+          → Trip g (8 * (n * (n * n))) (begun start) t s t′ → Same (row (s .racks)) (row goal)
+          → Moves o n t t′ (s .written)
+      planned h k start goal t a b differ fa fb room trip ends =
           let well = gave .placed-well in
           record {
             moves = trip .written;
@@ -102,7 +107,7 @@ module _ (o : List ℕ) (n e m : ℕ) (gave : OrderGave o n e m) where
             solves = record {
               few = (let x = went-written (trip .went) in let y = trip .few in omega arith);
               replayed =
-                  trip-planned (floorOf o) joins n m (startsOf o) (goalsOf o) (row h) (row k) (row start) (row goal)
+                  trip-planned (floorOf o) joins n (begun start) (startsOf o) (goalsOf o) (row h) (row k) (row start) (row goal)
                   (well .starts-length ∙ sym (well .goals-length)) (held-by a) (held-by b) (start-placed h a) (goal-placed k b) fa fb trip
                   (same-refl (row start)) ends;
               still = λ e. absurd (differ (same-tables e));

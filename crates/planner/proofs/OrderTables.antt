@@ -16,9 +16,9 @@ use Rattle.motion.specs.Arrangement.{Arrangement}
 use Rattle.motion.proofs.ArrangementLaws.{occupied-rack, vacant-racks, occupied-or-vacant}
 use Rattle.motion.specs.Sound.{Sound}
 use Rattle.tables.proofs.TablesLaws.{Holds}
-use Rattle.moving.specs.Journey.{row}
-use Rattle.planning.specs.Placed.{Placed}
-use Rattle.planning.proofs.Held.{HeldBy, held-one, held-same}
+use Rattle.shunting.specs.Journey.{row}
+use Rattle.solving.specs.Placed.{Placed}
+use Rattle.solving.proofs.Held.{HeldBy, held-one, held-same}
 
 module _ {A : Arrangement} {h : List ℕ} (holds : Holds A h) where
   pub held-by : HeldBy A (row h)

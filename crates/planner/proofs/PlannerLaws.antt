@@ -26,7 +26,7 @@ use Rattle.tables.proofs.AcceptedLaws.{well-placed}
 use Rattle.plan.specs.Plan.{planRecord, planAnswer}
 use Rattle.plan.proofs.PlanRecord.{Written, written as written-right}
 use Rattle.plan.proofs.SizeLaws.{most-moves}
-use Rattle.plan.proofs.SolutionsLaws.{leads-small}
+use Rattle.plan.proofs.Replayed.{leads-small}
 use Rattle.floor.specs.FloorAnswer.{floorAnswer}
 use Rattle.floor.specs.Plannable.{Plannable}
 use Rattle.floor.proofs.FloorLaws.{plannable}
@@ -66,7 +66,7 @@ module _ (o : List ℕ) (can : Plannable o) (ms : List (ℕ × ℕ)) (solves : S
       let x = replayMoves (floorOf o) (startsOf o) ms in
       passUp-accepted (orderAnswer o) _ (counts o) (accepted-is o (can .right))
       ∙ rw (packed .length-right, packed .padding-clear, packed .count-is, packed .moves-are)
-      (judged-accepted 32 33 (goalsOf o) (length ms ∷ []) (length ms ∷ []) x same .1 (solves .replayed, refl))
+      (judged-accepted 33 (goalsOf o) (length ms ∷ []) (length ms ∷ []) x same .1 (solves .replayed, refl))
 
 pub moves-few : {o B B′ : List ℕ} {k : ℕ} → PlanMade o B (accepted (k ∷ [])) B′ → k < 2 ^ 22
 moves-few {o} {B} (made ms right solves) = solves-few o (unrefused o (length B) right) ms solves

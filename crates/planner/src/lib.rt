@@ -2,6 +2,7 @@
 // afterwards, specs/Moves.antt what is promised of the moves; `make` is the entry point.
 use answers::Fault;
 use floor::FloorVerdict;
+use shunting::State;
 ghost use mathlib.Core.Bool.{true};
 ghost use mathlib.Core.Logic.{_↔_};
 ghost use mathlib.Core.Path.{_≡_};
@@ -9,11 +10,9 @@ ghost use mathlib.Core.List.{[], _∷_};
 ghost use Prim.Native.Nat.{ℕ, _*_, _≤_, _<_};
 ghost use lib.ListN.{length};
 ghost use Rattle.answers.specs.Answer.{accepted, passUp};
-ghost use Rattle.tables.specs.Accepted.{OrderGave};
-ghost use Rattle.floor.specs.Plannable.{Plannable};
 ghost use Rattle.floor.specs.Verdict.{answerOf as floorAnswerOf};
-ghost use Rattle.moving.specs.Journey.{row};
-ghost use Rattle.planner.specs.Moves.{Moves};
+ghost use Rattle.shunting.specs.Journey.{row};
+ghost use Rattle.planner.specs.Moves.{SomeTables, MovesMade};
 ghost use Rattle.planner.specs.Planner.{PlanMade, answerOf};
 
 // The verdict of the planner: specs/Planner.antt gives it document 01's number and values.
@@ -36,24 +35,36 @@ fn same_tables(start: &[u8; 64], goal: &[u8; 64]) -> bool
     true
 }
 
-// The moves of a plan for an order of n positions, e edges and m racks that can be planned, packed at the front of the plan's bytes behind its head. Where
-// each start is its goal there are none. Yields how many there are.
-fn plan_moves(order: &[u8], n: usize, e: usize, m: usize, tail: &mut [u8]) -> usize
-    requires { ⌜ OrderGave (now order) n e m × Plannable (now order) ⌝ ∗ ⌜ 12 * (n * (n * n)) ≤ length (now tail) ⌝ }
-    ensures { λ r. ⌜ Moves (now (order .entry)) n (now (tail .entry)) (now (tail .exit)) r ⌝ }
+// The moves of a plan for an order of n positions and m racks that can be planned, from what it was decoded to, packed at the front of
+// the plan's bytes behind its head. Where each start is its goal there are none. Yields how many there are.
+fn plan_moves(
+    n: usize,
+    m: usize,
+    rows: &[u64; 64],
+    starts: [u8; 64],
+    goals: [u8; 64],
+    tail: &mut [u8],
+) -> usize
+    requires { ⌜ SomeTables n m (now rows) starts goals ⌝ }
+    requires { ⌜ 12 * (n * (n * n)) ≤ length (now tail) ⌝ }
+    ensures { λ r. ⌜ MovesMade n m (now (rows .entry)) starts goals (now (tail .entry)) (now (tail .exit)) r ⌝ }
 {
-    let mut start = [0u8; 64];
-    order::place_racks(&order[3..], 2 * e, m, &mut start);
-    let mut goal = [0u8; 64];
-    order::place_racks(&order[3..], 2 * e + m, m, &mut goal);
+    let mut start = starts;
+    let mut goal = goals;
     if same_tables(&start, &goal) {
         return 0;
     }
-    planning::fill(n, m, &mut start);
-    planning::fill(n, m, &mut goal);
-    let rows = floor::rows_of(&order[3..], e);
-    let found = breakdown::break_down(&rows, n);
-    planning::solve(&rows, n, found, &goal, m, &mut start, tail)
+    solving::fill(n, m, &mut start);
+    solving::fill(n, m, &mut goal);
+    let found = breakdown::break_down(rows, n);
+    let state = State {
+        racks: start,
+        real: m,
+        written: 0,
+        logged: 0,
+    };
+    let end = solving::solve(rows, n, found, &goal, state, tail);
+    end.written
 }
 
 // The floor judge's refusal as the planner's: the same fault at the same place.
@@ -70,18 +81,19 @@ fn refusal(floor: FloorVerdict) -> PlannerVerdict
 pub fn make(order: &[u8], buffer: &mut [u8]) -> PlannerVerdict
     ensures { λ r. ⌜ PlanMade (now (order .entry)) (now (buffer .entry)) (answerOf r) (now (buffer .exit)) ⌝ }
 {
-    let below = floor::judge(order);
-    let FloorVerdict::Accepted = below else {
+    let mut rows = [0u64; 64];
+    let mut starts = [0u8; 64];
+    let mut goals = [0u8; 64];
+    let below = floor::judge(order, &mut rows, &mut starts, &mut goals);
+    let FloorVerdict::Accepted(counts) = below else {
         return refusal(below);
     };
-    let counts = order::counts_of(order);
     let n = counts.positions;
-    let e = counts.edges;
     let m = counts.racks;
     if buffer.len() < 12 * (n * (n * n)) + 3 {
         return PlannerVerdict::Refused(Fault::PlanBuffer, 0);
     }
-    let k = plan_moves(order, n, e, m, &mut buffer[3..]);
+    let k = plan_moves(n, m, &rows, starts, goals, &mut buffer[3..]);
     field::put_head(buffer, k);
     PlannerVerdict::Planned(k)
 }

@@ -64,11 +64,13 @@ noted-fit first w t a b h f =
     record { at-most = set-most 64 w ((t - 1 - first) * 64 + a) (b + 1) (f .at-most) (omega arith) } in
     cond-either EntriesFit (ltb first t) (cond-either EntriesFit (ltb (t - 1 - first) 4096) set-fit f) f
 
-pub entries-pass : (first : ℕ) (P : Pass) {ms : List (ℕ × ℕ)} → BelowPairs 64 ms → EntriesFit (P .window) → EntriesFit (pass first P ms .window)
+pub entries-pass : (first : ℕ) (P : Pass) {ms : List (ℕ × ℕ)} → BelowPairs 64 ms → EntriesFit (P .window)
+    → EntriesFit (pass first P ms .window)
 unfolding pass
 entries-pass first P none₂ f = f
 entries-pass first P (more₂ {p = m} h k b) f =
-    entries-pass first (passed first P m) b (unfold passed in noted-fit first (P .window) (stepBy (P .arrived) (P .left) (m .0) (m .1)) (m .0) (m .1) k f)
+    entries-pass first (passed first P m) b
+    (unfold passed in noted-fit first (P .window) (stepBy (P .arrived) (P .left) (m .0) (m .1)) (m .0) (m .1) k f)
 
 pub entries-empty : EntriesFit emptyWindow
 unfolding emptyWindow
@@ -81,7 +83,8 @@ same-greatest : (f g : ℕ) (P Q : Pass) (ms : List (ℕ × ℕ)) → P .arrived
 unfolding pass
 same-greatest f g P Q [] a l e = e
 same-greatest f g P Q (m ∷ ms) a l e =
-    same-greatest f g (passed f P m) (passed g Q m) ms (unfold passed in rw (a, l) refl) (unfold passed in rw (a, l) refl) (unfold passed in rw (a, l, e) refl)
+    same-greatest f g (passed f P m) (passed g Q m) ms (unfold passed in rw (a, l) refl) (unfold passed in rw (a, l) refl)
+    (unfold passed in rw (a, l, e) refl)
 
 pub greatest-same : (first : ℕ) (ms : List (ℕ × ℕ)) → pass first (started emptyWindow) ms .greatest ≡ latest ms
 unfolding latest

@@ -18,9 +18,11 @@ use mathlib.Core.List.{List, [], _∷_, reverseAux, List·Memᴰ, List·Memᴰ·
 use native.Mathlib.Omega.{arith}
 use lib.ListN.{length, length-append}
 use Rattle.order.specs.Floor.{Floor}
-use Rattle.motion.specs.Arrangement.{Arrangement}
+use Rattle.motion.specs.Arrangement.{Arrangement, rackAt}
+use Rattle.motion.proofs.ArrangementLaws.{rackAt-finds}
 use Rattle.motion.proofs.MoveLaws.{legal-parts, after-length}
 use Rattle.motion.specs.Replay.{ended, replayMoves, replaySteps}
+use Rattle.motion.proofs.StepDecision.{legalStep?}
 use Rattle.motion.proofs.Lawful.{Leads, LeadsSteps, still, _then_, replayMoves-ended, replaySteps-ended}
 use Rattle.motion.specs.Sound.{Sound}
 use Rattle.motion.proofs.ListLaws.{by-member}
@@ -29,24 +31,24 @@ use Rattle.motion.proofs.StepTestsLaws.{left}
 use Rattle.motion.proofs.LegalStepLaws.{legalStep-iff}
 use Rattle.motion.proofs.StepLimits.{step-size}
 use Rattle.field.proofs.PackingLaws.{length-pack}
-use Rattle.timetable.specs.Reading.{moveCount}
+use Rattle.timetable.specs.Reading.{moveTotal}
 use Rattle.scheduling.specs.Rows.{stepBytes, stepsBytes}
-use Rattle.scheduling.specs.Making.{Timed, rackAt, ofRack, stepFor, timed, greatest, movesIn, inStep, stepsFrom, madeSteps}
+use Rattle.scheduling.specs.Making.{Timed, ofRack, stepFor, timed, greatest, movesIn, inStep, stepsFrom, madeSteps}
 use Rattle.scheduling.proofs.Timing.{Ruled, none, ruled-timed, stepFor-bounds, ruled-filled, length-movesIn, steps-total, steps-length, steps-at, history, history-length, history-greatest, history-made, history-differ}
-use Rattle.scheduling.proofs.Schedule.{Scheduled, rackAt-finds, scheduled-none, scheduled-more, scheduled-leads}
+use Rattle.scheduling.proofs.Schedule.{Scheduled, scheduled-none, scheduled-more, scheduled-leads}
 
 pub step-short : (ms : List (ℕ × ℕ)) → 1 ≤ length ms → length (stepBytes ms) ≤ 3 * length ms
 unfolding stepBytes
 step-short ms h = omega (arith, length-pack ms)
 
-pub steps-short : (steps : List (List (ℕ × ℕ))) → ((ms : List (ℕ × ℕ)) → List·Memᴰ ms steps → 1 ≤ length ms) → length (stepsBytes steps) ≤ 3 * moveCount steps
-unfolding stepsBytes moveCount
+pub steps-short : (steps : List (List (ℕ × ℕ))) → ((ms : List (ℕ × ℕ)) → List·Memᴰ ms steps → 1 ≤ length ms) → length (stepsBytes steps) ≤ 3 * moveTotal steps
+unfolding stepsBytes moveTotal
 steps-short [] h = omega arith
 steps-short (ms ∷ steps) h =
     omega (arith, length-append (stepBytes ms) (stepsBytes steps), step-short ms (h ms (List·Memᴰ·head refl)), steps-short steps (λ x k. h x (List·Memᴰ·tail k)))
 
-pub steps-few : (steps : List (List (ℕ × ℕ))) → ((ms : List (ℕ × ℕ)) → List·Memᴰ ms steps → 1 ≤ length ms) → length steps ≤ moveCount steps
-unfolding moveCount
+pub steps-few : (steps : List (List (ℕ × ℕ))) → ((ms : List (ℕ × ℕ)) → List·Memᴰ ms steps → 1 ≤ length ms) → length steps ≤ moveTotal steps
+unfolding moveTotal
 steps-few [] h = omega arith
 steps-few (ms ∷ steps) h = omega (arith, h ms (List·Memᴰ·head refl), steps-few steps (λ x k. h x (List·Memᴰ·tail k)))
 
@@ -69,12 +71,12 @@ plan-scheduled {F} {l} s (_then_ {A = B} {x = m} legal p) =
 
 pub record Made (F : Floor) (A : Arrangement) (ms : List (ℕ × ℕ)) (B : Arrangement) : Type 0 where
   -- each step is legal at its turn, and the last comes to where the plan does
-  pub replayed : replaySteps F A (madeSteps A ms) ≡ ended B
+  pub replayed : replaySteps (legalStep? F) A (madeSteps A ms) ≡ ended B
   -- as many steps as the greatest step given, and at most as many as moves
   pub count : length (madeSteps A ms) ≡ greatest (timed A [] ms)
   pub few : length (madeSteps A ms) ≤ length ms
   -- as many moves as the plan has
-  pub moves : moveCount (madeSteps A ms) ≡ length ms
+  pub moves : moveTotal (madeSteps A ms) ≡ length ms
   -- each step has a move, at most one for each rack, and fewer than there are positions
   pub filled : (step : List (ℕ × ℕ)) → List·Memᴰ step (madeSteps A ms) → 1 ≤ length step
   pub most : (step : List (ℕ × ℕ)) → List·Memᴰ step (madeSteps A ms) → length step ≤ min (length A) (F .positions - 1)
@@ -103,8 +105,8 @@ module _ (F : Floor) {A B : Arrangement} {ms : List (ℕ × ℕ)} (sound : Sound
       has-move zero h b e = absurd (omega arith)
       has-move (suc i) h b e = rw (e, length-movesIn (suc i) (history A ms)) (ruled-filled ruled i (omega arith))
 
-  made-total : moveCount (madeSteps A ms) ≡ length ms
-  made-total = ap moveCount steps-made ∙ steps-total ruled (greatest (history A ms)) (omega arith) ∙ history-length A ms
+  made-total : moveTotal (madeSteps A ms) ≡ length ms
+  made-total = ap moveTotal steps-made ∙ steps-total ruled (greatest (history A ms)) (omega arith) ∙ history-length A ms
 
   pub history-lefts : (i : ℕ) → KeysDiffer left (inStep (suc i) (history A ms))
   history-lefts i = scheduled .steps i .lefts

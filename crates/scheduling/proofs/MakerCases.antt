@@ -2,6 +2,7 @@
 --
 --     order₁, plan₁             document 01's order and plan ("Programs")
 --     order₂, plan₂             case 2: on F, rack 1 from 0 to 1, rack 2 from 1 to 3, and the moves 1>3 then 0>1
+--     maker-open o p buffer     the buffer after the maker, with all that it is made of open
 --     made-1, made-2            their timetables, byte for byte
 --     answer-1, answer-2        2 steps and 1 step, in the shortest buffer that has room
 --     buffer-1                  the record in front of a buffer of 16 bytes, and the rest as it was
@@ -16,19 +17,15 @@ use mathlib.Core.Path.{_≡_, refl}
 use mathlib.Core.List.{List, [], _∷_}
 use lib.Dec.{lit≤}
 use Rattle.answers.specs.Answer.{accepted, refused}
-use Rattle.field.specs.Bits.{bits, number, bitsOf, field, pairs, positions, pairBits, pad, padded, bytes, toBytes}
-use Rattle.field.specs.Units.{unitsLength, misfits, unclean}
-use Rattle.order.specs.Floor.{isPair, among, joined}
-use Rattle.order.specs.Order.{positionCount, edgeCount, rackCount, unitCount, floorOf, startsOf, goalsOf, orderOf, wrongLength, wrongPositions, paddingSet, some, badEdge, precedes, ascending, wrongEdges, repeats, wrongPlaces, wrongRacks, counts, orderAnswer}
-use Rattle.motion.specs.Arrangement.{occupied, vacant}
-use Rattle.motion.specs.Move.{onFloor, legalMove, goesTo, after, afterMove}
-use Rattle.motion.specs.Replay.{replayFrom, replayMoves}
-use Rattle.motion.specs.Judgement.{misplaced, judged}
+use Rattle.field.specs.Bits.{pairBits, pad, padded, bytes, toBytes}
+use Rattle.field.specs.Writing.{written}
+use Rattle.motion.specs.Arrangement.{rackFrom, rackAt}
 use Rattle.motion.specs.StepOf.{insert, sort}
 use Rattle.motion.proofs.Inhabited.{floorF, starts, plan, plan-leads, starts-sound}
-use Rattle.plan.specs.Plan.{moveCount, planMoves, wrongPlanLength, planPaddingSet, planAnswer}
+use Rattle.plan.proofs.Examples.{plan-open}
+use Rattle.plan.specs.Plan.{planAnswer}
 use Rattle.timetable.specs.Timetable.{stepBits, allStepBits, timetableBits, timetableRecord}
-use Rattle.scheduling.specs.Making.{rackFrom, rackAt, ofRack, ofLeaving, stepFor, timed, greatest, inStep, movesIn, stepsFrom, madeSteps}
+use Rattle.scheduling.specs.Making.{ofRack, ofLeaving, stepFor, timed, greatest, inStep, movesIn, stepsFrom, madeSteps}
 use Rattle.scheduling.specs.Windows.{allSteps}
 use Rattle.scheduling.proofs.TabledSteps.{allSteps-made}
 use Rattle.scheduling.specs.Maker.{madeOf, makerAnswer, bufferAfter, Timetabled}
@@ -48,54 +45,59 @@ order₂ = 0x08 ∷ 0x0A ∷ 0x08 ∷ 0x00 ∷ 0x10 ∷ 0x02 ∷ 0x04 ∷ 0x20 �
 abbrev pub plan₂ : List ℕ
 plan₂ = 0x00 ∷ 0x00 ∷ 0x08 ∷ 0x04 ∷ 0x30 ∷ 0x01 ∷ []
 
+unfoldable pub maker-open : List ℕ → List ℕ → List ℕ → List ℕ
+unfolding plan-open bufferAfter makerAnswer madeOf madeSteps timed stepFor rackAt rackFrom ofRack ofLeaving greatest stepsFrom movesIn
+    inStep sort insert timetableRecord timetableBits allStepBits stepBits pairBits padded pad toBytes bytes
+maker-open o p buffer = bufferAfter o p buffer
+
 -- "Its timetable is 00 00 08 02 00 10 C2 02 04 30 80."
 pub made-1 : timetableRecord (madeOf order₁ plan₁) ≡ 0x00 ∷ 0x00 ∷ 0x08 ∷ 0x02 ∷ 0x00 ∷ 0x10 ∷ 0xC2 ∷ 0x02 ∷ 0x04 ∷ 0x30 ∷ 0x80 ∷ []
-unfolding madeOf madeSteps timed stepFor rackAt rackFrom ofRack ofLeaving greatest stepsFrom movesIn inStep sort insert timetableRecord timetableBits allStepBits stepBits pairBits padded pad toBytes bytes planMoves moveCount startsOf edgeCount rackCount field number bitsOf bits pairs positions afterMove after goesTo
+unfolding maker-open
 made-1 = refl
 
 -- "moves 1>3 then 0>1 make one step"
 pub made-2 : timetableRecord (madeOf order₂ plan₂) ≡ 0x00 ∷ 0x00 ∷ 0x04 ∷ 0x02 ∷ 0x00 ∷ 0x10 ∷ 0x43 ∷ []
-unfolding madeOf madeSteps timed stepFor rackAt rackFrom ofRack ofLeaving greatest stepsFrom movesIn inStep sort insert timetableRecord timetableBits allStepBits stepBits pairBits padded pad toBytes bytes planMoves moveCount startsOf edgeCount rackCount field number bitsOf bits pairs positions afterMove after goesTo
+unfolding maker-open
 made-2 = refl
 
 accepted-1 : planAnswer order₁ plan₁ ≡ accepted (4 ∷ [])
-unfolding planAnswer wrongPlanLength planPaddingSet moveCount planMoves judged misplaced replayMoves replayFrom legalMove onFloor joined among isPair occupied vacant afterMove after goesTo orderAnswer wrongLength misfits unitsLength unitCount wrongPositions paddingSet unclean wrongEdges some badEdge precedes ascending wrongRacks wrongPlaces repeats orderOf floorOf startsOf goalsOf counts positionCount edgeCount rackCount field number bitsOf bits pairs positions pad
+unfolding maker-open
 accepted-1 = refl
 
 accepted-2 : planAnswer order₂ plan₂ ≡ accepted (2 ∷ [])
-unfolding planAnswer wrongPlanLength planPaddingSet moveCount planMoves judged misplaced replayMoves replayFrom legalMove onFloor joined among isPair occupied vacant afterMove after goesTo orderAnswer wrongLength misfits unitsLength unitCount wrongPositions paddingSet unclean wrongEdges some badEdge precedes ascending wrongRacks wrongPlaces repeats orderOf floorOf startsOf goalsOf counts positionCount edgeCount rackCount field number bitsOf bits pairs positions pad
+unfolding maker-open
 accepted-2 = refl
 
 pub answer-1 : makerAnswer order₁ plan₁ 15 ≡ accepted (2 ∷ [])
-unfolding makerAnswer timed stepFor rackAt rackFrom ofRack ofLeaving greatest pad planAnswer wrongPlanLength planPaddingSet moveCount planMoves judged misplaced replayMoves replayFrom legalMove onFloor joined among isPair occupied vacant afterMove after goesTo orderAnswer wrongLength misfits unitsLength unitCount wrongPositions paddingSet unclean wrongEdges some badEdge precedes ascending wrongRacks wrongPlaces repeats orderOf floorOf startsOf goalsOf counts positionCount edgeCount rackCount field number bitsOf bits pairs positions
+unfolding maker-open
 answer-1 = refl
 
 pub answer-2 : makerAnswer order₂ plan₂ 9 ≡ accepted (1 ∷ [])
-unfolding makerAnswer timed stepFor rackAt rackFrom ofRack ofLeaving greatest pad planAnswer wrongPlanLength planPaddingSet moveCount planMoves judged misplaced replayMoves replayFrom legalMove onFloor joined among isPair occupied vacant afterMove after goesTo orderAnswer wrongLength misfits unitsLength unitCount wrongPositions paddingSet unclean wrongEdges some badEdge precedes ascending wrongRacks wrongPlaces repeats orderOf floorOf startsOf goalsOf counts positionCount edgeCount rackCount field number bitsOf bits pairs positions
+unfolding maker-open
 answer-2 = refl
 
 -- 3 × 4 + 3 bytes are 15
 pub meets-44 : makerAnswer order₁ plan₁ 14 ≡ refused 44 0
-unfolding makerAnswer pad planAnswer wrongPlanLength planPaddingSet moveCount planMoves judged misplaced replayMoves replayFrom legalMove onFloor joined among isPair occupied vacant afterMove after goesTo orderAnswer wrongLength misfits unitsLength unitCount wrongPositions paddingSet unclean wrongEdges some badEdge precedes ascending wrongRacks wrongPlaces repeats orderOf floorOf startsOf goalsOf counts positionCount edgeCount rackCount field number bitsOf bits pairs positions
+unfolding maker-open
 meets-44 = refl
 
 pub low-first : makerAnswer order₁ (0x00 ∷ 0x00 ∷ 0x00 ∷ []) 0 ≡ refused 33 1
-unfolding makerAnswer pad planAnswer wrongPlanLength planPaddingSet moveCount planMoves judged misplaced replayMoves replayFrom legalMove onFloor joined among isPair occupied vacant afterMove after goesTo orderAnswer wrongLength misfits unitsLength unitCount wrongPositions paddingSet unclean wrongEdges some badEdge precedes ascending wrongRacks wrongPlaces repeats orderOf floorOf startsOf goalsOf counts positionCount edgeCount rackCount field number bitsOf bits pairs positions
+unfolding maker-open
 low-first = refl
 
 -- five bytes stand behind the record
 pub buffer-1 : bufferAfter order₁ plan₁ (1 ∷ 2 ∷ 3 ∷ 4 ∷ 5 ∷ 6 ∷ 7 ∷ 8 ∷ 9 ∷ 10 ∷ 11 ∷ 12 ∷ 13 ∷ 14 ∷ 15 ∷ 16 ∷ [])
     ≡ 0x00 ∷ 0x00 ∷ 0x08 ∷ 0x02 ∷ 0x00 ∷ 0x10 ∷ 0xC2 ∷ 0x02 ∷ 0x04 ∷ 0x30 ∷ 0x80 ∷ 12 ∷ 13 ∷ 14 ∷ 15 ∷ 16 ∷ []
-unfolding bufferAfter makerAnswer timed stepFor rackAt rackFrom ofRack ofLeaving greatest madeOf madeSteps stepsFrom movesIn inStep sort insert timetableRecord timetableBits allStepBits stepBits pairBits padded pad toBytes bytes planAnswer wrongPlanLength planPaddingSet moveCount planMoves judged misplaced replayMoves replayFrom legalMove onFloor joined among isPair occupied vacant afterMove after goesTo orderAnswer wrongLength misfits unitsLength unitCount wrongPositions paddingSet unclean wrongEdges some badEdge precedes ascending wrongRacks wrongPlaces repeats orderOf floorOf startsOf goalsOf counts positionCount edgeCount rackCount field number bitsOf bits pairs positions
+unfolding maker-open written
 buffer-1 = refl
 
 pub buffer-44 : bufferAfter order₁ plan₁ (1 ∷ 2 ∷ 3 ∷ 4 ∷ 5 ∷ 6 ∷ 7 ∷ 8 ∷ 9 ∷ 10 ∷ 11 ∷ 12 ∷ 13 ∷ 14 ∷ []) ≡ 1 ∷ 2 ∷ 3 ∷ 4 ∷ 5 ∷ 6 ∷ 7 ∷ 8 ∷ 9 ∷ 10 ∷ 11 ∷ 12 ∷ 13 ∷ 14 ∷ []
-unfolding bufferAfter makerAnswer pad planAnswer wrongPlanLength planPaddingSet moveCount planMoves judged misplaced replayMoves replayFrom legalMove onFloor joined among isPair occupied vacant afterMove after goesTo orderAnswer wrongLength misfits unitsLength unitCount wrongPositions paddingSet unclean wrongEdges some badEdge precedes ascending wrongRacks wrongPlaces repeats orderOf floorOf startsOf goalsOf counts positionCount edgeCount rackCount field number bitsOf bits pairs positions
+unfolding maker-open
 buffer-44 = refl
 
 -- n = 1, one rack from 0 to 0
 pub none-made : makerAnswer (0x02 ∷ 0x00 ∷ 0x04 ∷ 0x00 ∷ 0x00 ∷ []) (0x00 ∷ 0x00 ∷ 0x00 ∷ []) 3 ≡ accepted (0 ∷ [])
-unfolding makerAnswer timed greatest pad planAnswer wrongPlanLength planPaddingSet moveCount planMoves judged misplaced replayMoves replayFrom legalMove onFloor joined among isPair occupied vacant afterMove after goesTo orderAnswer wrongLength misfits unitsLength unitCount wrongPositions paddingSet unclean wrongEdges some badEdge precedes ascending wrongRacks wrongPlaces repeats orderOf floorOf startsOf goalsOf counts positionCount edgeCount rackCount field number bitsOf bits pairs positions
+unfolding maker-open
 none-made = refl
 
 pub theorem-1 : Timetabled order₁ plan₁

@@ -24,10 +24,13 @@ use Rattle.field.proofs.HeadLaws.{length-headBytes}
 use Rattle.field.proofs.BitLaws.{field-lt}
 use Rattle.field.specs.Bytes.{BelowPairs, none₂, more₂}
 use Rattle.order.specs.Floor.{Floor}
+use Rattle.field.specs.Writing.{leftBy}
+use Rattle.field.proofs.WritingLaws.{written-front}
 use Rattle.order.specs.Order.{rackCount, floorOf, startsOf, goalsOf, counts, orderAnswer, WellFormed}
 use Rattle.order.proofs.OrderLaws.{accepted-is}
 use Rattle.motion.specs.Arrangement.{Arrangement}
 use Rattle.motion.specs.Replay.{ended, replayMoves, replaySteps}
+use Rattle.motion.proofs.StepDecision.{legalStep?}
 use Rattle.motion.proofs.Lawful.{Leads, LeadsSteps, still, _then_, replayMoves-ended, replaySteps-ended}
 use Rattle.motion.specs.StepTests.{OnFloor}
 use Rattle.motion.proofs.LegalStepLaws.{legalStep-iff}
@@ -39,16 +42,16 @@ use Rattle.tables.specs.Accepted.{WellPlaced}
 use Rattle.tables.proofs.AcceptedLaws.{well-placed}
 use Rattle.plan.specs.Plan.{moveCount, planMoves, wrongPlanLength, planAnswer}
 use Rattle.plan.proofs.PlanRecord.{moves-counted}
-use Rattle.plan.proofs.SolutionsLaws.{plan-solutions}
+use Rattle.plan.proofs.Replayed.{plan-replayed}
 use Rattle.timetable.specs.Timetable.{timetableRecord, stepCount, partsOf, stepsOf, total, timetableAnswer}
-use Rattle.timetable.specs.Reading.{moveCount as movesOf}
+use Rattle.timetable.specs.Reading.{moveTotal}
 use Rattle.timetable.proofs.ReadingLaws.{total-moves}
 use Rattle.timetable.proofs.TimetableRecord.{Steps, no-steps, one-step, Packable, count-record, stepsOf-record, record-well-packed}
 use Rattle.scheduling.specs.Making.{timed, greatest, madeSteps}
 use Rattle.scheduling.proofs.Made.{Made, made}
 use Rattle.scheduling.specs.Rows.{stepsBytes}
 use Rattle.scheduling.proofs.RecordBytes.{record-bytes}
-use Rattle.scheduling.specs.Maker.{madeOf, makerAnswer, bufferAfter, leaves, Timetabled}
+use Rattle.scheduling.specs.Maker.{madeOf, makerAnswer, bufferAfter, Timetabled}
 
 pub record PlanGave (o p v : List ℕ) : Type 0 where
   pub order-right : WellFormed o
@@ -59,7 +62,7 @@ pub record PlanGave (o p v : List ℕ) : Type 0 where
 
 pub plan-gave : (o p v : List ℕ) → planAnswer o p ≡ accepted v → PlanGave o p v
 plan-gave o p v e =
-    let a = plan-solutions o .0 p v .0 e in
+    let a = plan-replayed o .0 p v .0 e in
     let w = well-placed o (a .order-right) in
     let replayed : replayMoves (floorOf o) (startsOf o) (planMoves p) ≡ ended (goalsOf o) =
     pebble-replay (floorOf o) (rackCount o) (startsOf o) (goalsOf o) (w .task) .0 (planMoves p) .1 (rw moves-counted (a .solution)) in
@@ -113,7 +116,7 @@ module _ (o p v : List ℕ) (e : planAnswer o p ≡ accepted v) where
   unfolding madeOf
   steps-counted = made-of .count
 
-  moves-total : movesOf (madeOf o p) ≡ length (planMoves p)
+  moves-total : moveTotal (madeOf o p) ≡ length (planMoves p)
   unfolding madeOf
   moves-total = made-of .moves
 
@@ -123,14 +126,15 @@ module _ (o p v : List ℕ) (e : planAnswer o p ≡ accepted v) where
       let r = timetableRecord (madeOf o p) in
       let steps : stepCount r ≡ greatest (timed (startsOf o) [] (planMoves p)) = count-record (madeOf o p) made-packable ∙ steps-counted in
       let moves : total (partsOf r) ≡ moveCount p =
-      sym (total-moves r) ∙ ap movesOf (stepsOf-record (madeOf o p) made-packable) ∙ moves-total ∙ moves-counted p in
+      sym (total-moves r) ∙ ap moveTotal (stepsOf-record (madeOf o p) made-packable) ∙ moves-total ∙ moves-counted p in
       ap₂ (λ (x y : ℕ). x ∷ y ∷ []) steps moves
 
-  made-replayed : replaySteps (floorOf o) (startsOf o) (stepsOf (timetableRecord (madeOf o p))) ≡ ended (goalsOf o)
+  made-replayed : replaySteps (legalStep? (floorOf o)) (startsOf o) (stepsOf (timetableRecord (madeOf o p))) ≡ ended (goalsOf o)
   made-replayed = rw (stepsOf-record (madeOf o p) made-packable) (unfold madeOf in made-of .replayed)
 
-  at-goals : (v : List ℕ) → judged 42 43 (goalsOf o) v (ended (goalsOf o)) ≡ accepted v
-  at-goals v = judged-accepted 42 43 (goalsOf o) v v (ended (goalsOf o)) (λ A q. let g : goalsOf o ≡ A = cc in ap length (sym g)) .1 (refl, refl)
+  at-goals : (v : List ℕ) → judged 43 (goalsOf o) v (ended (goalsOf o)) ≡ accepted v
+  at-goals v =
+      judged-accepted 43 (goalsOf o) v v (ended (goalsOf o)) (λ A q. let g : goalsOf o ≡ A = cc in ap length (sym g)) .1 (refl, refl)
 
   made-checked : timetableAnswer o (timetableRecord (madeOf o p)) ≡ accepted (greatest (timed (startsOf o) [] (planMoves p)) ∷ moveCount p ∷ [])
   unfolding timetableAnswer
@@ -167,4 +171,7 @@ pub maker-record : (o p B v : List ℕ) → makerAnswer o p (length B) ≡ accep
     → (bufferAfter o p B ≡ timetableRecord (madeOf o p) ++ drop (length (timetableRecord (madeOf o p))) B) × Timetabled o p
 unfolding bufferAfter
 maker-record o p B v e =
-    (ap (λ (a : Answer). leaves a (timetableRecord (madeOf o p)) B) e, timetabled o p (moveCount p ∷ []) (maker-gave o p (length B) v e .plan-accepted))
+    let r = timetableRecord (madeOf o p) in (
+      ap (λ (a : Answer). leftBy a r B) e ∙ written-front B r,
+      timetabled o p (moveCount p ∷ []) (maker-gave o p (length B) v e .plan-accepted),
+    )

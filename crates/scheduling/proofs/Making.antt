@@ -21,8 +21,8 @@ use Rattle.field.specs.Bits.{pairs}
 use Rattle.field.proofs.BitLaws.{field-lt}
 use Rattle.field.proofs.RecordLaws.{rest-is, pairs-drop}
 use Rattle.field.proofs.UnitLaws.{Fitting, fitting, tail-units}
-use Rattle.field.specs.Writing.{written, Fits}
-use Rattle.field.proofs.WritingLaws.{written-front, length-written}
+use Rattle.field.specs.Writing.{written, leftBy, Fits}
+use Rattle.field.proofs.WritingLaws.{length-written}
 use Rattle.order.specs.Order.{floorOf, startsOf}
 use Rattle.plan.specs.Plan.{moveCount, planMoves, wrongPlanLength, planAnswer}
 use Rattle.plan.proofs.PlanRecord.{moves-counted}
@@ -34,14 +34,14 @@ use Rattle.scheduling.proofs.FillingLaws.{latest-few}
 use Rattle.scheduling.specs.Windows.{allSteps}
 use Rattle.scheduling.proofs.TabledSteps.{latest-rule, allSteps-made}
 use Rattle.scheduling.proofs.RecordBytes.{record-bytes}
-use Rattle.scheduling.specs.Maker.{madeOf, makerAnswer, bufferAfter, leaves}
+use Rattle.scheduling.specs.Maker.{madeOf, makerAnswer, bufferAfter}
 use Rattle.scheduling.proofs.MakerLaws.{PlanGave, plan-gave, made-of, made-packable}
 
 module _ (o p B : List ℕ) where
   -- an answer of the maker, and what it leaves
   after-refusal : (n q : ℕ) → makerAnswer o p (length B) ≡ refused n q → B ≡ bufferAfter o p B
   unfolding bufferAfter
-  after-refusal n q e = sym (ap (λ (a : Answer). leaves a (timetableRecord (madeOf o p)) B) e)
+  after-refusal n q e = sym (ap (λ (a : Answer). leftBy a (timetableRecord (madeOf o p)) B) e)
 
   pub maker-refused : (a r : Answer) (n q : ℕ) → a ≡ planAnswer o p → a ≡ refused n q → r ≡ passUp a (accepted (0 ∷ []))
       → (r ≡ makerAnswer o p (length B)) × (B ≡ bufferAfter o p B)
@@ -63,9 +63,9 @@ module _ (o p B : List ℕ) where
     unfolding moveCount
     count-below = rw count-is (field-lt p 0 22)
 
-    fit : Fitting p (moveCount p)
+    fit : Fitting p (2 * moveCount p)
     unfolding wrongPlanLength
-    fit = fitting p (moveCount p) (gave .length-right)
+    fit = fitting p (2 * moveCount p) (gave .length-right)
 
     pub head-there : 3 ≤ length p
     head-there = fit .head-there
@@ -76,7 +76,7 @@ module _ (o p B : List ℕ) where
     tail-moves = rw (rest-is 3 p, ← pairs-drop p 3 0 k, count-is) refl
 
     pub tail-fits : 12 * k ≤ 8 * length (take (length p - 3) (drop 3 p))
-    tail-fits = rw count-is (tail-units p (moveCount p) fit)
+    tail-fits = let c = count-is in omega (arith, tail-units p (2 * moveCount p) fit)
 
     steps-are : allSteps (pairs (take (length p - 3) (drop 3 p)) 0 k) ≡ madeOf o p
     unfolding madeOf
@@ -131,6 +131,5 @@ module _ (o p B : List ℕ) where
               ap (λ (n : ℕ). accepted (n ∷ [])) rule ∙ sym up,
               buffer
                   ∙ ap (written B 0) (sym whole)
-                  ∙ written-front B (timetableRecord (madeOf o p))
-                  ∙ sym (ap (λ (a : Answer). leaves a (timetableRecord (madeOf o p)) B) up),
+                  ∙ sym (ap (λ (a : Answer). leftBy a (timetableRecord (madeOf o p)) B) up),
             )

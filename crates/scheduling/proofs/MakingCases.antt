@@ -22,15 +22,15 @@ use lib.ListN.{length}
 use Rattle.field.specs.Packing.{pack}
 use Rattle.scheduling.specs.Rows.{stepBytes, stepsBytes}
 use Rattle.order.specs.Floor.{Floor, isPair, among, joined}
-use Rattle.motion.specs.Arrangement.{Arrangement, occupied, vacant}
-use Rattle.motion.specs.Move.{onFloor, legalMove, goesTo, after, afterMove}
+use Rattle.motion.specs.Arrangement.{Arrangement, occupied, vacant, rackFrom, rackAt}
+use Rattle.motion.specs.Move.{onFloor, legalMove, faultBy, moveFault, goesTo, after, afterMove}
 use Rattle.motion.specs.Replay.{replayFrom, replayMoves}
 use Rattle.motion.proofs.Lawful.{Leads, still, replayMoves-ended}
 use Rattle.motion.specs.Sound.{Sound}
 use Rattle.motion.proofs.SoundLaws.{isSound, isSound-sound}
 use Rattle.motion.proofs.Inhabited.{floorF, starts, goals, plan, plan-replayed, plan-leads, starts-sound}
 use Rattle.motion.specs.StepOf.{insert, sort}
-use Rattle.scheduling.specs.Making.{rackFrom, rackAt, ofRack, ofLeaving, stepFor, timed, greatest, inStep, movesIn, stepsFrom, madeSteps}
+use Rattle.scheduling.specs.Making.{ofRack, ofLeaving, stepFor, timed, greatest, inStep, movesIn, stepsFrom, madeSteps}
 use Rattle.scheduling.proofs.StepMoves.{StepMoves, stepMoves-none, joining, carrying}
 use Rattle.scheduling.proofs.Timing.{Ruled, none, ruled-timed, history}
 use Rattle.scheduling.proofs.Schedule.{Scheduled, scheduled-none}
@@ -71,7 +71,7 @@ unfolding isSound occupied vacant
 sound-2 = isSound-sound 4 (0 ∷ 1 ∷ []) .0 tt
 
 leads-2 : Leads floorF (0 ∷ 1 ∷ []) ((1, 3) ∷ (0, 1) ∷ []) (1 ∷ 3 ∷ [])
-unfolding replayMoves replayFrom legalMove onFloor joined among isPair occupied vacant afterMove after goesTo
+unfolding replayMoves replayFrom moveFault faultBy onFloor joined among isPair occupied vacant afterMove after goesTo
 leads-2 = replayMoves-ended floorF (0 ∷ 1 ∷ []) ((1, 3) ∷ (0, 1) ∷ []) (1 ∷ 3 ∷ []) .0 refl
 
 pub case-2-theorem : Made floorF (0 ∷ 1 ∷ []) ((1, 3) ∷ (0, 1) ∷ []) (1 ∷ 3 ∷ [])

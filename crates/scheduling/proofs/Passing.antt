@@ -1,7 +1,8 @@
 -- The loop of a pass: what is left to pass decides the pass at the end.
 --
 --     note-early, note-late, note-in     what `note` does, by the step
---     ToPass s k first w₀ w x y g j      with j of the k moves passed from the window w₀, the window is w, the tables x and y, and the greatest step g
+--     ToPass s k first w₀ w x y g j      with j of the k moves passed from the window w₀, the window is w, the tables x and
+--                                        y, and the greatest step g
 --     pass-first, pass-next, pass-last   how that goes on
 -- Assumes nothing.
 use Prim.Native.Nat.{ℕ, _+_, _-_, _*_, _≤_, _<_, max}
@@ -31,14 +32,16 @@ module _ (first : ℕ) (w : List ℕ) (t a b : ℕ) where
 
 module _ (s : List ℕ) (k first : ℕ) (w₀ : List ℕ) where
   pub record ToPass (w x y : List ℕ) (g j : ℕ) : Type 0 where
-    pub to-do : pass first (record { arrived = x; left = y; window = w; greatest = g }) (pairs s (12 * j) (k - j)) ≡ pass first (started w₀) (pairs s 0 k)
+    pub to-do : pass first (record { arrived = x; left = y; window = w; greatest = g }) (pairs s (12 * j) (k - j))
+        ≡ pass first (started w₀) (pairs s 0 k)
     pub early : Early j (record { arrived = x; left = y; window = w; greatest = g })
 
   pub pass-first : ToPass w₀ (replicate 64 0) (replicate 64 0) 0 0
   unfolding started
   pass-first = record { to-do = rw (sub-zero k) refl; early = early-started w₀ }
 
-  module _ (w x y : List ℕ) (g j : ℕ) (p : ToPass w x y g j) (h : j < k) (a b : ℕ) (ea : a ≡ field s (12 * j) 6) (eb : b ≡ field s (12 * j + 6) 6) where
+  module _ (w x y : List ℕ) (g j : ℕ) (p : ToPass w x y g j) (h : j < k) (a b : ℕ) (ea : a ≡ field s (12 * j) 6)
+      (eb : b ≡ field s (12 * j + 6) 6) where
     P : Pass
     P = record { arrived = x; left = y; window = w; greatest = g }
 

@@ -39,8 +39,10 @@ module _ (ms : List (ℕ × ℕ)) (few : length ms ≤ 255) (below : BelowPairs 
   pub step-bytes : stepRecord ms ≡ stepBytes ms
   unfolding stepRecord stepBytes bitsOf
   step-bytes =
-      sym (toBytes-from (more {x = length ms} (omega arith) pack-bytes) (stepBits-are ms)
-      (ap (λ (l : List ℕ). bits 8 (length ms) ++ l) pack-bits ∙ sym stepBits-whole ∙ sym (padded-whole (stepBits ms) (stepLength (length ms)) (length-stepBits ms))))
+      sym
+      (toBytes-from (more {x = length ms} (omega arith) pack-bytes) (stepBits-are ms)
+      (ap (λ (l : List ℕ). bits 8 (length ms) ++ l) pack-bits ∙ sym stepBits-whole
+      ∙ sym (padded-whole (stepBits ms) (stepLength (length ms)) (length-stepBits ms))))
 
 pub steps-bytes : {l : List (List (ℕ × ℕ))} → Steps l → joined (map stepRecord l) ≡ stepsBytes l
 unfolding joined stepsBytes

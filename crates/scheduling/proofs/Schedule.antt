@@ -1,7 +1,6 @@
 -- The timetable so far, as the rule makes it move by move, and that each move joins it lawfully.
 --
 --     arranged A l i      the arrangement that the timed moves l, latest first, make of A up to step i
---     rackAt-finds        the rack that stands at an occupied position
 --     Scheduled F A l B   the steps of l, made in turn from A, are legal and come to B; where a rack of B stands, it has stood since its last step,
 --                         and what is vacant in B has been so since the last step in which it was left
 --     scheduled-none      no moves are so scheduled
@@ -16,11 +15,11 @@ use mathlib.Core.List.{List, [], _∷_}
 use native.Mathlib.Omega.{arith}
 use native.Mathlib.Decide.{decLe}
 use native.Mathlib.Nat.{add-zero, add-suc, suc-add}
-use lib.Dec.{T, eqb, leb}
+use lib.Dec.{T, leb}
 use lib.ListN.{length, getD}
-use borrow.Author.Tests.{eq-eqb, ne-eqb, le-leb, lt-leb}
+use borrow.Author.Tests.{le-leb, lt-leb}
 use Rattle.order.specs.Floor.{Floor}
-use Rattle.motion.specs.Arrangement.{Arrangement, occupied, vacant}
+use Rattle.motion.specs.Arrangement.{Arrangement, vacant}
 use Rattle.motion.proofs.ArrangementLaws.{occupied-rack, vacant-racks}
 use Rattle.motion.specs.Move.{legalMove, after, afterMove}
 use Rattle.motion.proofs.MoveLaws.{legal-parts, move-length, moved-rack, moved-other, turned, turned-legal}
@@ -28,10 +27,10 @@ use Rattle.motion.proofs.Untouched.{vacant-move}
 use Rattle.motion.specs.Sound.{Sound}
 use Rattle.motion.proofs.SoundLaws.{move-sound}
 use Rattle.motion.proofs.Lawful.{LeadsSteps, still, _then_}
-use Rattle.motion.proofs.Test.{or-parts, eqb-parts, equal?}
+use Rattle.motion.proofs.Test.{equal?}
 use Rattle.motion.proofs.LegalStepLaws.{legalStep-iff}
 use Rattle.motion.specs.StepOf.{sort}
-use Rattle.scheduling.specs.Making.{Timed, rackFrom, rackAt, ofRack, ofLeaving, greatest, inStep, movesIn, stepsFrom}
+use Rattle.scheduling.specs.Making.{Timed, ofRack, ofLeaving, greatest, inStep, movesIn, stepsFrom}
 use Rattle.scheduling.proofs.StepMoves.{StepMoves, Stays, stepMoves-none, stepMoves-legal, stepMoves-after, joining, carrying}
 use Rattle.scheduling.proofs.Timing.{ofRack-same, ofRack-other, ofLeaving-same, ofLeaving-other, greatest-most, inStep-same, inStep-other}
 
@@ -46,25 +45,6 @@ arranged-before A t l i h = rw (lt-leb (t .step) i h)
 arranged-from : (A : Arrangement) (t : Timed) (l : List Timed) (i : ℕ) → t .step ≤ i → arranged A (t ∷ l) i ≡ afterMove (arranged A l i) (t .move)
 unfolding arranged
 arranged-from A t l i h = rw (le-leb (t .step) i h)
-
-rackFrom-later : (k q : ℕ) (A : Arrangement) (p : ℕ) → q ≢ p → rackFrom k (q ∷ A) p ≡ rackFrom (suc k) A p
-unfolding rackFrom
-rackFrom-later k q A p e = rw (ne-eqb q p e)
-
-rackFrom-finds : (k : ℕ) (A : Arrangement) (p : ℕ) → T (occupied A p) → (r : ℕ) × (r < length A) × (getD A r 0 ≡ p) × (rackFrom k A p ≡ k + r)
-unfolding rackFrom occupied
-rackFrom-finds k [] p o = absurd o
-rackFrom-finds k (q ∷ A) p o =
-    ⊎-elim
-    (λ (e : q ≡ p). (0, omega arith, e, rw (eq-eqb q p e) (omega arith)))
-    (λ (e : q ≢ p).
-    let w = rackFrom-finds (suc k) A p (⊎-elim (λ t. absurd (e (eqb-parts q p .0 t))) (λ t. t) (or-parts (eqb q p) (occupied A p) .0 o)) in
-    (suc (w .0), omega (arith, w .1), w .2, rackFrom-later k q A p e ∙ omega (arith, w .3)))
-    (equal? q p)
-
-pub rackAt-finds : (A : Arrangement) (p : ℕ) → T (occupied A p) → (r : ℕ) × (r < length A) × (getD A r 0 ≡ p) × (rackAt A p ≡ suc r)
-unfolding rackAt
-rackAt-finds A p o = let w = rackFrom-finds 1 A p o in (w .0, w .1, w .2, omega (arith, w .3))
 
 pub record Scheduled (F : Floor) (A : Arrangement) (l : List Timed) (B : Arrangement) : Type 0 where
   -- each step is legal, and leads on

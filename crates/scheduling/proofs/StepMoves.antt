@@ -8,11 +8,12 @@
 --     stepMoves-after       which makes B of A
 --     stays-left            no move leaves the position of a rack that stays
 --     vacant-entered        no move enters a position that is vacant after the step
---     Stays F A B m         a rack that stands at one position before and after the step from A to B, and a legal move m that then takes it away
+--     Stays F A B m         a rack that stands at one position before and after the step from A to B, and a legal move
+--                           m that then takes it away
 --     joining               a move of a rack that stays, into a position vacant after the step, can be made in the step
 --     carrying              a rack that stays, carried beforehand to a position vacant before and after the step, changes nothing in it
 -- Assumes nothing.
-use Prim.Native.Nat.{ℕ, _<_}
+use Prim.Native.Nat.{ℕ, suc, _<_}
 use mathlib.Core.Path.{_≡_, refl, sym, _∙_, ap, subst, fun-ext}
 use mathlib.Core.Logic.{_≢_, ⊎-elim, ∥∥₁-elim}
 use mathlib.Core.HLevel.{⊥-prop, ¬-prop}
@@ -30,11 +31,10 @@ use Rattle.motion.proofs.MoveLaws.{legal-parts, legal-apart, after-length, afte
 use Rattle.motion.proofs.Untouched.{vacant-move}
 use Rattle.motion.specs.Sound.{Sound}
 use Rattle.motion.proofs.Test.{equal?}
-use Rattle.motion.specs.Step.{Train, leader, follows}
 use Rattle.motion.proofs.ListLaws.{by-member, pairwise-more, keys-same}
 use Rattle.motion.specs.StepTests.{KeysDiffer, entered}
 use Rattle.motion.proofs.StepTestsLaws.{left, onFloor-iff, occupied-iff, Goes, taken, stays, goesTo-cases, goesTo-stays, goesTo-takes}
-use Rattle.motion.specs.LegalStep.{LegalStep}
+use Rattle.motion.specs.LegalStep.{Train, leader, follows, LegalStep}
 use Rattle.motion.proofs.LegalStepLaws.{after-nothing}
 use Rattle.motion.specs.StepOf.{sort}
 use Rattle.motion.proofs.StepOfLaws.{sort-iff, sort-ascends}
@@ -47,11 +47,11 @@ pub record StepMoves (F : Floor) (A : Arrangement) (ms : List (ℕ × ℕ)) (B :
   -- no two enter one position
   pub alone : (m m′ : ℕ × ℕ) → List·Memᴰ m ms → List·Memᴰ m′ ms → m .1 ≡ m′ .1 → m .0 ≡ m′ .0
   pub apart : (m : ℕ × ℕ) → List·Memᴰ m ms → m .0 ≢ m .1
-  pub trains : (m : ℕ × ℕ) → List·Memᴰ m ms → Train A ms m
+  pub trains : (m : ℕ × ℕ) → List·Memᴰ m ms → (k : ℕ) × Train A ms k m
   pub leads : after A ms ≡ B
 
-pub train-more : {A B : Arrangement} {ms ns : List (ℕ × ℕ)} {m : ℕ × ℕ} → ((x : ℕ × ℕ) → List·Memᴰ x ms → List·Memᴰ x ns)
-    → ((x : ℕ × ℕ) → List·Memᴰ x ms → T (vacant A (x .1)) → T (vacant B (x .1))) → Train A ms m → Train B ns m
+pub train-more : {A B : Arrangement} {ms ns : List (ℕ × ℕ)} {i : ℕ} {m : ℕ × ℕ} → ((x : ℕ × ℕ) → List·Memᴰ x ms → List·Memᴰ x ns)
+    → ((x : ℕ × ℕ) → List·Memᴰ x ms → T (vacant A (x .1)) → T (vacant B (x .1))) → Train A ms i m → Train B ns i m
 train-more {m} h w (leader k v) = leader (h m k) (w m k v)
 train-more {m} h w (follows k e t) = follows (h m k) e (train-more h w t)
 
@@ -90,7 +90,8 @@ module _ {F : Floor} {A B : Arrangement} {ms : List (ℕ × ℕ)} (s : StepMoves
             ∥∥₁-elim l ⊥-prop
             (λ l. lt-irrefl (y .0) (subst (λ (p : ℕ). p < y .0) (s .alone x y (sort-iff x ms .0 k) (sort-iff y ms .0 l) e) h))))
             up;
-        trains = λ m k. train-more (λ x n. sort-iff x ms .1 n) (λ x n v. v) (s .trains m (sort-iff m ms .0 k));
+        trains = λ m k.
+            let t = s .trains m (sort-iff m ms .0 k) in (t .0, train-more (λ x n. sort-iff x ms .1 n) (λ x n v. v) (t .1));
       }
 
   sort-goes : (p : ℕ) → goesTo (sort ms) p ≡ goesTo ms p
@@ -142,23 +143,27 @@ module _ {F : Floor} {A B : Arrangement} {ms : List (ℕ × ℕ)} {m : ℕ × �
 
   only-after : (i : ℕ) → i < length A → getD A i 0 ≢ m .0 → getD B i 0 ≢ m .0
   only-after i h ne e =
-      let same : i ≡ w .rack = w .sound-after .apart i (w .rack) (rw (same-length s) h) (rw (same-length s) (w .is)) (e ∙ sym (w .behind)) in
+      let same : i ≡ w .rack =
+      w .sound-after .apart i (w .rack) (rw (same-length s) h) (rw (same-length s) (w .is)) (e ∙ sym (w .behind)) in
       ne (ap (λ (j : ℕ). getD A j 0) same ∙ w .before)
 
   -- who stood where m goes has left, or nobody stood there
-  joined-train : Train A (m ∷ ms) m
-  joined-train = ⊎-elim behind-it (leader (List·Memᴰ·head refl)) (occupied-or-vacant A (m .1))
+  joined-train : (k : ℕ) × Train A (m ∷ ms) k m
+  joined-train = ⊎-elim behind-it (λ v. (1, leader (List·Memᴰ·head refl) v)) (occupied-or-vacant A (m .1))
     where
-      behind-it : T (occupied A (m .1)) → Train A (m ∷ ms) m
+      behind-it : T (occupied A (m .1)) → (k : ℕ) × Train A (m ∷ ms) k m
       behind-it o = on (goesTo-cases ms (m .1))
         where
           q : (i : ℕ) × (i < length A) × (getD A i 0 ≡ m .1)
           q = occupied-rack A (m .1) .0 o
 
-          on : Goes ms (m .1) → Train A (m ∷ ms) m
-          on (taken x k e g) = follows (List·Memᴰ·head refl) (sym e) (train-more (λ x k. List·Memᴰ·tail k) (λ x k v. v) (s .trains x k))
+          on : Goes ms (m .1) → (k : ℕ) × Train A (m ∷ ms) k m
+          on (taken x k e g) =
+              let t = s .trains x k in
+              (suc (t .0), follows (List·Memᴰ·head refl) (sym e) (train-more (λ x k. List·Memᴰ·tail k) (λ x k v. v) (t .1)))
           on (stays h g) =
-              absurd (vacant-racks B (m .1) .0 vacated (q .0) (rw (same-length s) (q .1)) (goes s (q .0) (q .1) ∙ ap (goesTo ms) (q .2) ∙ g))
+              absurd
+              (vacant-racks B (m .1) .0 vacated (q .0) (rw (same-length s) (q .1)) (goes s (q .0) (q .1) ∙ ap (goesTo ms) (q .2) ∙ g))
 
   joined-after : (i : ℕ) → i < length A → getD (after A (m ∷ ms)) i 0 ≡ getD (afterMove B m) i 0
   unfolding goesTo
@@ -185,8 +190,8 @@ module _ {F : Floor} {A B : Arrangement} {ms : List (ℕ × ℕ)} {m : ℕ × �
         apart = λ x k. by-member k (λ e. rw e (legal-apart F B m (w .legal))) (s .apart x);
         trains =
             λ x k.
-            by-member k (λ e. subst (Train A (m ∷ ms)) (sym e) joined-train)
-            (λ n. train-more (λ y l. List·Memᴰ·tail l) (λ y l v. v) (s .trains x n));
+            by-member k (λ e. let t = joined-train in (t .0, subst (Train A (m ∷ ms) (t .0)) (sym e) (t .1)))
+            (λ n. let t = s .trains x n in (t .0, train-more (λ y l. List·Memᴰ·tail l) (λ y l v. v) (t .1)));
         leads =
             ext-getD 0 (after A (m ∷ ms)) (afterMove B m) (after-length A (m ∷ ms) ∙ sym (move-length B m ∙ same-length s))
             (λ i h. joined-after i (rw (after-length A (m ∷ ms)) at h));
@@ -226,7 +231,8 @@ module _ {F : Floor} {A B : Arrangement} {ms : List (ℕ × ℕ)} {m : ℕ × �
           apart = s .apart;
           trains =
               λ x k.
-              train-more (λ y l. l) (λ y l t. vacant-move A m (y .1) t (λ e. vacant-entered s (m .1) vacated y l (sym e))) (s .trains x k);
+              let t = s .trains x k in
+              (t .0, train-more (λ y l. l) (λ y l v. vacant-move A m (y .1) v (λ e. vacant-entered s (m .1) vacated y l (sym e))) (t .1));
           leads =
               ext-getD 0 (after (afterMove A m) ms) (afterMove B m)
               (after-length (afterMove A m) ms ∙ move-length A m ∙ sym (move-length B m ∙ same-length s))

@@ -1,11 +1,12 @@
--- A pass agrees with the making rule: for moves that are each legal at its turn, from a sound start, the tables hold what the rule asks for, and
--- the window holds the moves of its steps.
+-- A pass agrees with the making rule: for moves that are each legal at its turn, from a sound start, the tables hold what the rule asks
+-- for, and the window holds the moves of its steps.
 --
 --     entryOf l i p          the entry of position p in the row of step i, by the timed moves l, latest first
 --     entryOf-same, entryOf-place, entryOf-step    with one more move: its own entry, and another position's or step's
 --     length-noted, noted-same, noted-other    a move noted in the window: the length stays, its own entry, and any other
 --     step-ruled             the step by the tables is that of the rule
---     Agrees A l first P     the pass P, of a window of the steps after step `first`, agrees with the timed moves l, which left the arrangement A
+--     Agrees A l first P     the pass P, of a window of the steps after step `first`, agrees with the timed moves l,
+--                            which left the arrangement A
 --     agrees-started         before the first move it does
 --     agrees-next            and after each move
 --     agrees-pass            so it does after a plan's moves
@@ -22,8 +23,8 @@ use lib.ListN.{length, getD, set, length-set, length-replicate}
 use lib.Seq.{getD-set-same, getD-set-other}
 use lib.Dec.{T, eqb}
 use Rattle.order.specs.Floor.{Floor}
-use Rattle.motion.specs.Arrangement.{Arrangement}
-use Rattle.motion.proofs.ArrangementLaws.{vacant-racks}
+use Rattle.motion.specs.Arrangement.{Arrangement, rackAt}
+use Rattle.motion.proofs.ArrangementLaws.{vacant-racks, rackAt-finds}
 use Rattle.motion.specs.Move.{legalMove, afterMove}
 use Rattle.motion.proofs.MoveLaws.{onFloor-parts, legal-parts, move-length, moved-rack, moved-other}
 use Rattle.motion.proofs.Lawful.{Leads, still, _then_}
@@ -33,9 +34,8 @@ use Rattle.motion.proofs.Test.{equal?}
 use Rattle.motion.proofs.ListLaws.{by-member}
 use Rattle.motion.proofs.StepTestsLaws.{left}
 use Rattle.tables.proofs.TableLaws.{zeros-at}
-use Rattle.scheduling.specs.Making.{Timed, rackAt, ofRack, ofLeaving, stepFor, timed, greatest, inStep}
+use Rattle.scheduling.specs.Making.{Timed, ofRack, ofLeaving, stepFor, timed, greatest, inStep}
 use Rattle.scheduling.proofs.Timing.{ofRack-same, ofRack-other, ofLeaving-same, ofLeaving-other, inStep-same, inStep-other}
-use Rattle.scheduling.proofs.Schedule.{rackAt-finds}
 use Rattle.scheduling.specs.Filling.{Pass, started, stepBy, noted, passed, pass, emptyWindow}
 
 unfoldable pub entryOf : List Timed → ℕ → ℕ → ℕ
@@ -77,7 +77,8 @@ module _ (first : ℕ) (w : List ℕ) (t a b : ℕ) where
     other : (i * 64 + p ≢ (t - 1 - first) * 64 + a) → getD (set w ((t - 1 - first) * 64 + a) (b + 1)) (i * 64 + p) 0 ≡ getD w (i * 64 + p) 0
     other d = getD-set-other w ((t - 1 - first) * 64 + a) (i * 64 + p) (b + 1) 0 d
 
-    pub noted-other : (first < t → i * 64 + p ≢ (t - 1 - first) * 64 + a) → getD (noted first w t a b) (i * 64 + p) 0 ≡ getD w (i * 64 + p) 0
+    pub noted-other : (first < t → i * 64 + p ≢ (t - 1 - first) * 64 + a)
+        → getD (noted first w t a b) (i * 64 + p) 0 ≡ getD w (i * 64 + p) 0
     unfolding noted
     noted-other d =
         dite (decLt first t)
@@ -163,30 +164,28 @@ module _ (F : Floor) (few : F .positions ≤ 64) (A : Arrangement) (l : List Tim
   unfolding t s
   leavings-after p h =
       ⊎-elim
-      (λ (e : m .0 ≡ p).
-      rw (← e) (getD-set-same (P .left) (m .0) (stepFor l (rackAt A (m .0)) m) 0 (omega (arith, left-below, g .left-size)) ∙ sym (ofLeaving-same t l (m .0) refl)))
-      (λ (e : m .0 ≢ p).
-      getD-set-other (P .left) (m .0) p (stepFor l (rackAt A (m .0)) m) 0 (λ q. e (sym q)) ∙ g .leavings p h ∙ sym (ofLeaving-other t l p e))
+      (λ (e : m .0 ≡ p). rw (← e)
+      (getD-set-same (P .left) (m .0) (stepFor l (rackAt A (m .0)) m) 0 (omega (arith, left-below, g .left-size))
+      ∙ sym (ofLeaving-same t l (m .0) refl)))
+      (λ (e : m .0 ≢ p). getD-set-other (P .left) (m .0) p (stepFor l (rackAt A (m .0)) m) 0 (λ q. e (sym q)) ∙ g .leavings p h
+      ∙ sym (ofLeaving-other t l p e))
       (equal? (m .0) p)
 
-  entries-after : (i p : ℕ) → i < 4096 → p < 64 → getD (noted first (P .window) s (m .0) (m .1)) (i * 64 + p) 0 ≡ entryOf (t ∷ l) (first + suc i) p
+  entries-after : (i p : ℕ) → i < 4096 → p < 64
+      → getD (noted first (P .window) s (m .0) (m .1)) (i * 64 + p) 0 ≡ entryOf (t ∷ l) (first + suc i) p
   unfolding t s
   entries-after i p h k =
       ⊎-elim
-      (λ (e : stepFor l (rackAt A (m .0)) m ≡ first + suc i).
-      ⊎-elim
-      (λ (d : m .0 ≡ p).
-      noted-same first (P .window) (stepFor l (rackAt A (m .0)) m) (m .0) (m .1) (g .window-size) left-below i p h k e d
+      (λ (e : stepFor l (rackAt A (m .0)) m ≡ first + suc i). ⊎-elim
+      (λ (d : m .0 ≡ p). noted-same first (P .window) (stepFor l (rackAt A (m .0)) m) (m .0) (m .1) (g .window-size) left-below i p h k e d
       ∙ sym (entryOf-same t l (first + suc i) p e d))
-      (λ (d : m .0 ≢ p).
-      noted-other first (P .window) (stepFor l (rackAt A (m .0)) m) (m .0) (m .1) (g .window-size) left-below i p h k (λ b q. d (omega (arith, left-below)))
-      ∙ g .entries i p h k
-      ∙ sym (entryOf-place t l (first + suc i) p e d))
+      (λ (d : m .0 ≢ p). noted-other first (P .window) (stepFor l (rackAt A (m .0)) m) (m .0) (m .1) (g .window-size) left-below i p h k
+      (λ b q. d (omega (arith, left-below)))
+      ∙ g .entries i p h k ∙ sym (entryOf-place t l (first + suc i) p e d))
       (equal? (m .0) p))
-      (λ (e : stepFor l (rackAt A (m .0)) m ≢ first + suc i).
-      noted-other first (P .window) (stepFor l (rackAt A (m .0)) m) (m .0) (m .1) (g .window-size) left-below i p h k (λ b q. e (omega (arith, left-below)))
-      ∙ g .entries i p h k
-      ∙ sym (entryOf-step t l (first + suc i) p e))
+      (λ (e : stepFor l (rackAt A (m .0)) m ≢ first + suc i). noted-other first (P .window) (stepFor l (rackAt A (m .0)) m) (m .0) (m .1)
+      (g .window-size) left-below i p h k (λ b q. e (omega (arith, left-below)))
+      ∙ g .entries i p h k ∙ sym (entryOf-step t l (first + suc i) p e))
       (equal? (stepFor l (rackAt A (m .0)) m) (first + suc i))
 
   within-after : (i : ℕ) (x : ℕ × ℕ) → List·Memᴰ x (inStep i (t ∷ l)) → x .0 < 64
@@ -198,7 +197,8 @@ module _ (F : Floor) (few : F .positions ≤ 64) (A : Arrangement) (l : List Tim
       (λ (e : stepFor l (rackAt A (m .0)) m ≢ i). g .within i x (rw (inStep-other i t l e) at n))
       (equal? (stepFor l (rackAt A (m .0)) m) i)
 
-  pub agrees-next : Agrees (afterMove A m) (record { rack = rackAt A (m .0); move = m; step = stepFor l (rackAt A (m .0)) m } ∷ l) first (passed first P m)
+  pub agrees-next : Agrees (afterMove A m) (record { rack = rackAt A (m .0); move = m; step = stepFor l (rackAt A (m .0)) m } ∷ l) first
+      (passed first P m)
   unfolding passed t s
   agrees-next =
       rw step-ruled
@@ -213,8 +213,8 @@ module _ (F : Floor) (few : F .positions ≤ 64) (A : Arrangement) (l : List Tim
         within = within-after;
       })
 
-pub agrees-pass : (F : Floor) → F .positions ≤ 64 → (first : ℕ) (P : Pass) {A B : Arrangement} {l : List Timed} {ms : List (ℕ × ℕ)} → Sound (F .positions) A
-    → Leads F A ms B → Agrees A l first P → Agrees B (reverseAux (timed A l ms) l) first (pass first P ms)
+pub agrees-pass : (F : Floor) → F .positions ≤ 64 → (first : ℕ) (P : Pass) {A B : Arrangement} {l : List Timed} {ms : List (ℕ × ℕ)}
+    → Sound (F .positions) A → Leads F A ms B → Agrees A l first P → Agrees B (reverseAux (timed A l ms) l) first (pass first P ms)
 unfolding timed pass
 agrees-pass F few first P sound still g = g
 agrees-pass F few first P {l} sound (_then_ {A = A} {x = m} legal p) g =

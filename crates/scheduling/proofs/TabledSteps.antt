@@ -15,7 +15,8 @@
 use Prim.Native.Nat.{ℕ, zero, suc, _+_, _-_, _*_, _/_, _≤_, _<_, min}
 use mathlib.Core.Path.{_≡_, refl, sym, ap, ap₂, _∙_, subst}
 use mathlib.Core.Logic.{_≢_, _↔_, ⊎-elim, dite}
-use mathlib.Core.List.{List, [], _∷_, _++_, append-nil, List·Memᴰ, List·Memᴰ·head, List·Memᴰ·tail, List·Memᴰ·not-nil, Pairwise·nil, Pairwise·of-cons}
+use mathlib.Core.List.{List, [], _∷_, _++_, append-nil, List·Memᴰ, List·Memᴰ·head, List·Memᴰ·tail, List·Memᴰ·not-nil, Pairwise·nil}
+use mathlib.Core.List.{Pairwise·of-cons}
 use native.Mathlib.Omega.{arith}
 use native.Mathlib.Nat.{add-zero, suc-add, zero-add}
 use native.Mathlib.Bridge.{le-prop}
@@ -50,7 +51,8 @@ row-none : (t : List ℕ) (i p k : ℕ) → getD t (i * 64 + p) 0 ≡ 0 → rowF
 unfolding rowFrom
 row-none t i p k z = rw (eq-eqb (getD t (i * 64 + p) 0) 0 z) refl
 
-row-some : (t : List ℕ) (i p k : ℕ) → getD t (i * 64 + p) 0 ≢ 0 → rowFrom t i p (suc k) ≡ (p, getD t (i * 64 + p) 0 - 1) ∷ rowFrom t i (p + 1) k
+row-some : (t : List ℕ) (i p k : ℕ) → getD t (i * 64 + p) 0 ≢ 0
+    → rowFrom t i p (suc k) ≡ (p, getD t (i * 64 + p) 0 - 1) ∷ rowFrom t i (p + 1) k
 unfolding rowFrom
 row-some t i p k d = rw (ne-eqb (getD t (i * 64 + p) 0) 0 d) refl
 
@@ -91,11 +93,10 @@ row-from t i p (suc k) x e =
     let here : getD t (i * 64 + p) 0 ≡ suc (x .1) = ap (λ (q : ℕ). getD t (i * 64 + q) 0) (sym a) ∙ e .is in
     rw (row-some t i p k (λ z. omega arith)) (List·Memᴰ·head (same-move x (p, getD t (i * 64 + p) 0 - 1) a (omega arith))))
     (λ (a : x .0 ≢ p).
-    let rest : List·Memᴰ x (rowFrom t i (p + 1) k) = row-from t i (p + 1) k x (record { from = omega (arith, e .from); below = omega (arith, e .below); is = e .is }) in
-    ⊎-elim
-    (λ (z : getD t (i * 64 + p) 0 ≡ 0). rw (row-none t i p k z) rest)
-    (λ (d : getD t (i * 64 + p) 0 ≢ 0). rw (row-some t i p k d) (List·Memᴰ·tail rest))
-    (equal? (getD t (i * 64 + p) 0) 0))
+    let rest : List·Memᴰ x (rowFrom t i (p + 1) k) =
+    row-from t i (p + 1) k x (record { from = omega (arith, e .from); below = omega (arith, e .below); is = e .is }) in
+    ⊎-elim (λ (z : getD t (i * 64 + p) 0 ≡ 0). rw (row-none t i p k z) rest)
+    (λ (d : getD t (i * 64 + p) 0 ≢ 0). rw (row-some t i p k d) (List·Memᴰ·tail rest)) (equal? (getD t (i * 64 + p) 0) 0))
     (equal? (x .0) p)
 
 pub row-iff : (t : List ℕ) (i p k : ℕ) (x : ℕ × ℕ) → List·Memᴰ x (rowFrom t i p k) ↔ Entered t i p k x
@@ -113,7 +114,8 @@ row-ascends t i p (suc k) =
     (equal? (getD t (i * 64 + p) 0) 0)
 
 -- the entry of a position, and the move of the step that leaves it
-pub entry-iff : (l : List Timed) (i : ℕ) (x : ℕ × ℕ) → KeysDiffer left (inStep i l) → (entryOf l i (x .0) ≡ suc (x .1)) ↔ List·Memᴰ x (inStep i l)
+pub entry-iff : (l : List Timed) (i : ℕ) (x : ℕ × ℕ) → KeysDiffer left (inStep i l)
+    → (entryOf l i (x .0) ≡ suc (x .1)) ↔ List·Memᴰ x (inStep i l)
 unfolding inStep entryOf
 entry-iff [] i x d = (λ e. absurd (omega arith), λ n. absurd (List·Memᴰ·not-nil n))
 entry-iff (t ∷ l) i x d =
@@ -121,21 +123,23 @@ entry-iff (t ∷ l) i x d =
     (λ (e : t .step ≡ i).
     let d′ : KeysDiffer left (t .move ∷ inStep i l) = subst (KeysDiffer left) (inStep-same i t l e) d in
     ⊎-elim
-    (λ (q : t .move .0 ≡ x .0).
-    rw (entryOf-same t l i (x .0) e q, inStep-same i t l e) (
+    (λ (q : t .move .0 ≡ x .0). rw (entryOf-same t l i (x .0) e q, inStep-same i t l e) (
       λ v. List·Memᴰ·head (same-move x (t .move) (sym q) (omega arith)),
-      λ n. by-member n (λ v. let to : x .1 ≡ t .move .1 = ap (λ (y : ℕ × ℕ). y .1) v in omega arith) (λ n. absurd (pairwise-rel d′ n q)),
+      λ n. by-member n (λ v. let to : x .1 ≡ t .move .1 = ap (λ (y : ℕ × ℕ). y .1) v in omega arith)
+          (λ n. absurd (pairwise-rel d′ n q)),
     ))
     (λ (q : t .move .0 ≢ x .0).
     let rest = entry-iff l i x (Pairwise·of-cons d′) in
     rw (entryOf-place t l i (x .0) e q, inStep-same i t l e)
     (λ v. List·Memᴰ·tail (rest .0 v), λ n. by-member n (λ v. absurd (q (sym (ap left v)))) (λ n. rest .1 n)))
     (equal? (t .move .0) (x .0)))
-    (λ (e : t .step ≢ i). rw (entryOf-step t l i (x .0) e, inStep-other i t l e) (entry-iff l i x (subst (KeysDiffer left) (inStep-other i t l e) d)))
+    (λ (e : t .step ≢ i). rw (entryOf-step t l i (x .0) e, inStep-other i t l e)
+    (entry-iff l i x (subst (KeysDiffer left) (inStep-other i t l e) d)))
     (equal? (t .step) i)
 
 -- the rows of a window
-module _ (A : Arrangement) (l : List Timed) (first : ℕ) (P : Pass) (g : Agrees A l first P) (differ : (j : ℕ) → 1 ≤ j → KeysDiffer left (inStep j l)) where
+module _ (A : Arrangement) (l : List Timed) (first : ℕ) (P : Pass) (g : Agrees A l first P)
+    (differ : (j : ℕ) → 1 ≤ j → KeysDiffer left (inStep j l)) where
   pub row-made : (i : ℕ) → i < 4096 → rowMoves (P .window) i ≡ movesIn (first + suc i) l
   unfolding rowMoves movesIn
   row-made i h =
@@ -182,7 +186,8 @@ stepsFrom-split i (suc a) b l =
     rw (more, stepsFrom-split (suc i) a b l, on) refl
 
 -- a plan
-module _ (F : Floor) (few : F .positions ≤ 64) {A B : Arrangement} {ms : List (ℕ × ℕ)} (sound : Sound (F .positions) A) (leads : Leads F A ms B) where
+module _ (F : Floor) (few : F .positions ≤ 64) {A B : Arrangement} {ms : List (ℕ × ℕ)} (sound : Sound (F .positions) A)
+    (leads : Leads F A ms B) where
   agreed : (first : ℕ) → Agrees B (history A ms) first (pass first (started emptyWindow) ms)
   agreed first = agrees-pass F few first (started emptyWindow) sound leads (agrees-started A first)
 
@@ -197,7 +202,8 @@ module _ (F : Floor) (few : F .positions ≤ 64) {A B : Arrangement} {ms : List 
   pub window-made : (first : ℕ) → windowSteps ms first ≡ stepsFrom (first + 1) (rowsOf (latest ms) first) (history A ms)
   unfolding windowSteps windowOf rowsOf
   window-made first =
-      rows-made B (history A ms) first (pass first (started emptyWindow) ms) (agreed first) differ (min (latest ms - first) 4096) 0 (omega arith)
+      rows-made B (history A ms) first (pass first (started emptyWindow) ms) (agreed first) differ (min (latest ms - first) 4096) 0
+      (omega arith)
 
   pub windows-made : (n : ℕ) → windows ms n ≡ stepsFrom 1 (min (latest ms) (4096 * n)) (history A ms)
   unfolding windows rowsOf
@@ -206,15 +212,21 @@ module _ (F : Floor) (few : F .positions ≤ 64) {A B : Arrangement} {ms : List 
       ap₂ _++_ (windows-made n) (window-made (4096 * n))
       ∙ dite (decLe (4096 * n) (latest ms)) full past
     where
-      full : 4096 * n ≤ latest ms → stepsFrom 1 (min (latest ms) (4096 * n)) (history A ms) ++ stepsFrom (4096 * n + 1) (rowsOf (latest ms) (4096 * n)) (history A ms)
+      full : 4096 * n ≤ latest ms
+          →
+          stepsFrom 1 (min (latest ms) (4096 * n)) (history A ms) ++ stepsFrom (4096 * n + 1) (rowsOf (latest ms) (4096 * n)) (history A ms)
           ≡ stepsFrom 1 (min (latest ms) (4096 * suc n)) (history A ms)
       full h =
           let here : min (latest ms) (4096 * n) ≡ 4096 * n = omega arith in
           let start : 4096 * n + 1 ≡ 1 + 4096 * n = omega arith in
           let count : 4096 * n + rowsOf (latest ms) (4096 * n) ≡ min (latest ms) (4096 * suc n) = omega arith in
-          rw (here, start) (sym (stepsFrom-split 1 (4096 * n) (rowsOf (latest ms) (4096 * n)) (history A ms)) ∙ ap (λ (k : ℕ). stepsFrom 1 k (history A ms)) count)
+          rw (here, start)
+          (sym (stepsFrom-split 1 (4096 * n) (rowsOf (latest ms) (4096 * n)) (history A ms))
+          ∙ ap (λ (k : ℕ). stepsFrom 1 k (history A ms)) count)
 
-      past : (4096 * n ≤ latest ms → ⊥) → stepsFrom 1 (min (latest ms) (4096 * n)) (history A ms) ++ stepsFrom (4096 * n + 1) (rowsOf (latest ms) (4096 * n)) (history A ms)
+      past : (4096 * n ≤ latest ms → ⊥)
+          →
+          stepsFrom 1 (min (latest ms) (4096 * n)) (history A ms) ++ stepsFrom (4096 * n + 1) (rowsOf (latest ms) (4096 * n)) (history A ms)
           ≡ stepsFrom 1 (min (latest ms) (4096 * suc n)) (history A ms)
       past h =
           let none : rowsOf (latest ms) (4096 * n) ≡ 0 = omega arith in

@@ -23,7 +23,8 @@ use Prim.Native.Nat.{ℕ, zero, suc, _+_, _≤_, _<_, max}
 use mathlib.Core.Path.{_≡_, refl, sym, _∙_, ap, ap₂, subst}
 use mathlib.Core.Logic.{_≢_, _↔_, _⊎_, inl, inr, ⊎-elim, dite}
 use mathlib.Core.HLevel.{¬-prop}
-use mathlib.Core.List.{List, [], _∷_, reverseAux, reverse, List·Memᴰ, List·Memᴰ·head, List·Memᴰ·tail, List·Memᴰ·not-nil, Pairwise·nil, Pairwise·of-cons}
+use mathlib.Core.List.{List, [], _∷_, reverseAux, reverse, List·Memᴰ, List·Memᴰ·head, List·Memᴰ·tail, List·Memᴰ·not-nil, Pairwise·nil}
+use mathlib.Core.List.{Pairwise·of-cons}
 use native.Mathlib.Omega.{arith}
 use native.Mathlib.Decide.{decLt}
 use lib.Dec.{eqb, ltb}
@@ -37,7 +38,7 @@ use Rattle.motion.specs.StepTests.{KeysDiffer}
 use Rattle.motion.proofs.StepTestsLaws.{left}
 use Rattle.motion.specs.StepOf.{insert, sort}
 use Rattle.motion.proofs.StepOfLaws.{sort-iff, sort-ascends, ascending-same}
-use Rattle.timetable.specs.Reading.{moveCount}
+use Rattle.timetable.specs.Reading.{moveTotal}
 use Rattle.scheduling.specs.Making.{Timed, ofRack, ofLeaving, stepFor, timed, greatest, inStep, movesIn, stepsFrom, madeSteps}
 
 pub data Ruled : List Timed → Type 0 where
@@ -117,7 +118,8 @@ ruled-filled (more {t = t} {l = l} e r) i h =
 length-insert : (m : ℕ × ℕ) (ms : List (ℕ × ℕ)) → length (insert m ms) ≡ suc (length ms)
 unfolding insert
 length-insert m [] = refl
-length-insert m (x ∷ ms) = cond-either (λ (l : List (ℕ × ℕ)). length l ≡ suc (suc (length ms))) (ltb (m .0) (x .0)) refl (ap suc (length-insert m ms))
+length-insert m (x ∷ ms) =
+    cond-either (λ (l : List (ℕ × ℕ)). length l ≡ suc (suc (length ms))) (ltb (m .0) (x .0)) refl (ap suc (length-insert m ms))
 
 length-sort : (ms : List (ℕ × ℕ)) → length (sort ms) ≡ length ms
 unfolding sort
@@ -133,31 +135,35 @@ steps-other : (k i : ℕ) (t : Timed) (l : List Timed) → t .step < i → steps
 unfolding stepsFrom movesIn
 steps-other zero i t l h = refl
 steps-other (suc k) i t l h =
-    ap₂ (λ (x : List (ℕ × ℕ)) (y : List (List (ℕ × ℕ))). x ∷ y) (ap sort (inStep-other i t l (λ e. omega arith))) (steps-other k (suc i) t l (omega arith))
+    ap₂ (λ (x : List (ℕ × ℕ)) (y : List (List (ℕ × ℕ))). x ∷ y) (ap sort (inStep-other i t l (λ e. omega arith)))
+    (steps-other k (suc i) t l (omega arith))
 
-total-more : (k i : ℕ) (t : Timed) (l : List Timed) → i ≤ t .step → t .step < i + k → moveCount (stepsFrom i k (t ∷ l)) ≡ suc (moveCount (stepsFrom i k l))
-unfolding stepsFrom moveCount
+total-more : (k i : ℕ) (t : Timed) (l : List Timed) → i ≤ t .step → t .step < i + k
+    → moveTotal (stepsFrom i k (t ∷ l)) ≡ suc (moveTotal (stepsFrom i k l))
+unfolding stepsFrom moveTotal
 total-more zero i t l h b = absurd (omega arith)
 total-more (suc k) i t l h b =
     ⊎-elim
     (λ (e : t .step ≡ i).
     let here : length (movesIn i (t ∷ l)) ≡ suc (length (movesIn i l)) =
     length-movesIn i (t ∷ l) ∙ ap length (inStep-same i t l e) ∙ ap suc (sym (length-movesIn i l)) in
-    let rest : moveCount (stepsFrom (suc i) k (t ∷ l)) ≡ moveCount (stepsFrom (suc i) k l) = ap moveCount (steps-other k (suc i) t l (omega arith)) in
+    let rest : moveTotal (stepsFrom (suc i) k (t ∷ l)) ≡ moveTotal (stepsFrom (suc i) k l) =
+    ap moveTotal (steps-other k (suc i) t l (omega arith)) in
     omega arith)
     (λ (e : t .step ≢ i).
     let here : length (movesIn i (t ∷ l)) ≡ length (movesIn i l) =
     length-movesIn i (t ∷ l) ∙ ap length (inStep-other i t l e) ∙ sym (length-movesIn i l) in
-    let rest : moveCount (stepsFrom (suc i) k (t ∷ l)) ≡ suc (moveCount (stepsFrom (suc i) k l)) = total-more k (suc i) t l (omega arith) (omega arith) in
+    let rest : moveTotal (stepsFrom (suc i) k (t ∷ l)) ≡ suc (moveTotal (stepsFrom (suc i) k l)) =
+    total-more k (suc i) t l (omega arith) (omega arith) in
     omega arith)
     (equal? (t .step) i)
 
-total-none : (k i : ℕ) → moveCount (stepsFrom i k []) ≡ 0
-unfolding stepsFrom moveCount movesIn inStep sort
+total-none : (k i : ℕ) → moveTotal (stepsFrom i k []) ≡ 0
+unfolding stepsFrom moveTotal movesIn inStep sort
 total-none zero i = refl
 total-none (suc k) i = omega (arith, total-none k (suc i))
 
-pub steps-total : {l : List Timed} → Ruled l → (k : ℕ) → greatest l ≤ k → moveCount (stepsFrom 1 k l) ≡ length l
+pub steps-total : {l : List Timed} → Ruled l → (k : ℕ) → greatest l ≤ k → moveTotal (stepsFrom 1 k l) ≡ length l
 unfolding greatest
 steps-total none k h = total-none k 1
 steps-total (more {t = t} {l = l} e r) k h =
@@ -168,7 +174,8 @@ unfolding stepsFrom
 steps-length zero i l = refl
 steps-length (suc k) i l = ap suc (steps-length k (suc i) l)
 
-pub steps-at : (k i : ℕ) (l : List Timed) (ms : List (ℕ × ℕ)) → List·Memᴰ ms (stepsFrom i k l) → (j : ℕ) × (i ≤ j) × (j < i + k) × (ms ≡ movesIn j l)
+pub steps-at : (k i : ℕ) (l : List Timed) (ms : List (ℕ × ℕ)) → List·Memᴰ ms (stepsFrom i k l)
+    → (j : ℕ) × (i ≤ j) × (j < i + k) × (ms ≡ movesIn j l)
 unfolding stepsFrom
 steps-at zero i l ms n = absurd (List·Memᴰ·not-nil n)
 steps-at (suc k) i l ms n =
@@ -225,11 +232,13 @@ turned-differs i l d =
     let e : inStep i (reverse l) ≡ reverse (inStep i l) = inStep-turned i l [] in
     ap sort e ∙ sort-turned (inStep i l) (subst (KeysDiffer left) e d)
 
-steps-turned : (k i : ℕ) (l : List Timed) → ((j : ℕ) → i ≤ j → KeysDiffer left (inStep j (reverse l))) → stepsFrom i k (reverse l) ≡ stepsFrom i k l
+steps-turned : (k i : ℕ) (l : List Timed) → ((j : ℕ) → i ≤ j → KeysDiffer left (inStep j (reverse l)))
+    → stepsFrom i k (reverse l) ≡ stepsFrom i k l
 unfolding stepsFrom
 steps-turned zero i l d = refl
 steps-turned (suc k) i l d =
-    ap₂ (λ (x : List (ℕ × ℕ)) (y : List (List (ℕ × ℕ))). x ∷ y) (turned-differs i l (d i (omega arith))) (steps-turned k (suc i) l (λ j h. d j (omega arith)))
+    ap₂ (λ (x : List (ℕ × ℕ)) (y : List (List (ℕ × ℕ))). x ∷ y) (turned-differs i l (d i (omega arith)))
+    (steps-turned k (suc i) l (λ j h. d j (omega arith)))
 
 length-timed : (A : Arrangement) (l : List Timed) (ms : List (ℕ × ℕ)) → length (timed A l ms) ≡ length ms
 unfolding timed

@@ -38,8 +38,12 @@ module _ (t s : List ℕ) (n at : ℕ) where
     few row h =
         let all : n ≡ row + (n - row) = omega arith in
         let parts : stepsBytes (rows t 0 n) ≡ stepsBytes (rows t 0 row) ++ stepsBytes (rows t (0 + row) (n - row)) =
-        ap (λ (k : ℕ). stepsBytes (rows t 0 k)) all ∙ ap stepsBytes (rows-split t 0 row (n - row)) ∙ stepsBytes-append (rows t 0 row) (rows t (0 + row) (n - row)) in
-        record { room = omega (arith, fits .room, ap length parts, length-append (stepsBytes (rows t 0 row)) (stepsBytes (rows t (0 + row) (n - row)))) }
+        ap (λ (k : ℕ). stepsBytes (rows t 0 k)) all ∙ ap stepsBytes (rows-split t 0 row (n - row))
+        ∙ stepsBytes-append (rows t 0 row) (rows t (0 + row) (n - row)) in
+        record {
+          room = omega
+              (arith, fits .room, ap length parts, length-append (stepsBytes (rows t 0 row)) (stepsBytes (rows t (0 + row) (n - row))));
+        }
 
     next-bytes : (row : ℕ) → stepsBytes (rows t 0 (row + 1)) ≡ stepsBytes (rows t 0 row) ++ stepBytes (rowMoves t row)
     unfolding stepsBytes
@@ -61,9 +65,11 @@ module _ (t s : List ℕ) (n at : ℕ) where
       unfolding WroteRows
       rows-room h = fits-next (stepsBytes (rows t 0 row)) (stepBytes (rowMoves t row)) w (few-more row h)
 
-      pub rows-more : row < n → (next′ : ℕ) (b′ : List ℕ) → Wrote b next (stepBytes (rowMoves t row)) b′ next′ → WroteRows b′ next′ (row + 1)
+      pub rows-more : row < n → (next′ : ℕ) (b′ : List ℕ) → Wrote b next (stepBytes (rowMoves t row)) b′ next′
+          → WroteRows b′ next′ (row + 1)
       unfolding WroteRows
-      rows-more h next′ b′ v = wrote-as (sym (next-bytes row)) (wrote-then (stepsBytes (rows t 0 row)) (stepBytes (rowMoves t row)) (few-more row h) w v)
+      rows-more h next′ b′ v =
+          wrote-as (sym (next-bytes row)) (wrote-then (stepsBytes (rows t 0 row)) (stepBytes (rowMoves t row)) (few-more row h) w v)
 
       pub rows-all : row ≤ n → n ≤ row → Wrote s at (stepsBytes (rows t 0 n)) b next
       unfolding WroteRows
@@ -90,7 +96,8 @@ module _ (ms : List (ℕ × ℕ)) (first r : ℕ) (w : List ℕ) (f : Filled fir
     pub filled-room : (at : ℕ) (B : List ℕ) → Fits B at (stepsBytes (windowSteps ms first)) → Fits B at (stepsBytes (rows w 0 n))
     filled-room at B fits = fits-as (ap stepsBytes filled-steps) fits
 
-    pub filled-wrote : (at next : ℕ) (B b : List ℕ) → Wrote B at (stepsBytes (rows w 0 n)) b next → (r ≡ latest ms) × Wrote B at (stepsBytes (windowSteps ms first)) b next
+    pub filled-wrote : (at next : ℕ) (B b : List ℕ) → Wrote B at (stepsBytes (rows w 0 n)) b next
+        → (r ≡ latest ms) × Wrote B at (stepsBytes (windowSteps ms first)) b next
     filled-wrote at next B b v = (filled-latest, wrote-as (ap stepsBytes filled-steps) v)
 
 -- one window after another
@@ -144,7 +151,10 @@ module _ (ms : List (ℕ × ℕ)) (s : List ℕ) where
     unfolding allSteps
     few-windows n h =
         let all : latest ms / 4096 + 1 ≡ n + (latest ms / 4096 + 1 - n) = omega arith in
-        record { room = omega (arith, fits .room, ap (λ (k : ℕ). length (stepsBytes (windows ms k))) all, windows-most ms n (latest ms / 4096 + 1 - n)) }
+        record {
+          room = omega
+              (arith, fits .room, ap (λ (k : ℕ). length (stepsBytes (windows ms k))) all, windows-most ms n (latest ms / 4096 + 1 - n));
+        }
 
     module _ (b : List ℕ) (at n : ℕ) (w : WroteWindows b at n) where
       pub windows-length : n ≤ latest ms / 4096 + 1 → length b ≡ length s
@@ -159,9 +169,11 @@ module _ (ms : List (ℕ × ℕ)) (s : List ℕ) where
         unfolding WroteWindows
         windows-room = fits-next (stepsBytes (windows ms n)) (stepsBytes (windowSteps ms (4096 * n))) w more-fits
 
-        pub windows-more : (at′ : ℕ) (b′ : List ℕ) → Wrote b at (stepsBytes (windowSteps ms (4096 * n))) b′ at′ → WroteWindows b′ at′ (n + 1)
+        pub windows-more : (at′ : ℕ) (b′ : List ℕ) → Wrote b at (stepsBytes (windowSteps ms (4096 * n))) b′ at′
+            → WroteWindows b′ at′ (n + 1)
         unfolding WroteWindows
-        windows-more at′ b′ v = wrote-as (sym (window-bytes n)) (wrote-then (stepsBytes (windows ms n)) (stepsBytes (windowSteps ms (4096 * n))) more-fits w v)
+        windows-more at′ b′ v =
+            wrote-as (sym (window-bytes n)) (wrote-then (stepsBytes (windows ms n)) (stepsBytes (windowSteps ms (4096 * n))) more-fits w v)
 
       module _ (h : n ≤ latest ms / 4096 + 1) (u : latest ms ≤ 4096 * n) where
         -- behind the last step a window has no steps

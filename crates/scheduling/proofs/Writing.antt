@@ -1,5 +1,5 @@
--- Writing a step: the moves of a row, one after another behind the count, which is written last. The positions that they leave are taken from the
--- row's set, the lowest first.
+-- Writing a step: the moves of a row, one after another behind the count, which is written last. The positions that they leave are taken
+-- from the row's set, the lowest first.
 --
 --     part-put, part-room                    a pair put into the part behind the count
 --     entryMoves p e                         the move of an entry, if it is one
@@ -11,7 +11,8 @@
 --     entry-fits, count-few, writing-next    at an entry that is one: its move has room, and how it is written
 --     Rest t i s at rest n b                 the buffer b and the count n while the moves that leave `rest` are left to write
 --     rest-first, rest-small, rest-some, rest-room, rest-few, rest-next, rest-last    how that begins, goes on and ends
---     count-at-most, end-is, length-same, at-inside    after all: at most 64 moves, where the step ends, the same length, and room for the count
+--     count-at-most, end-is, length-same, at-inside    after all: at most 64 moves, where the step ends, the same
+--                                                      length, and room for the count
 -- Assumes nothing.
 use Prim.Native.Nat.{ℕ, zero, suc, _+_, _-_, _*_, _/_, _≤_, _<_}
 use mathlib.Core.Path.{_≡_, refl, sym, ap, ap₂, _∙_}
@@ -43,7 +44,8 @@ module _ (s : List ℕ) (at n p e : ℕ) where
       drop-of-length-le (drop (at + 1) s) {i = length s - (at + 1)} (rw (length-drop (at + 1) s) (le-refl (length s - (at + 1)))) in
       rw (nothing, append-nil ys, y, rest-is (at + 1) s) refl
 
-  pub part-room : at + 1 + (12 * (n + 1) + 7) / 8 ≤ length s → (12 * (n + 1) + 7) / 8 ≤ length (take (length s - (at + 1)) (drop (at + 1) s))
+  pub part-room : at + 1 + (12 * (n + 1) + 7) / 8 ≤ length s
+      → (12 * (n + 1) + 7) / 8 ≤ length (take (length s - (at + 1)) (drop (at + 1) s))
   part-room h = rw (rest-is (at + 1) s, length-drop (at + 1) s) (omega arith)
 
 -- the move of an entry, if it is one
@@ -55,9 +57,11 @@ unfolding rowFrom entryMoves
 row-next t i q zero = let none : q + 0 ≡ q = omega arith in rw none refl
 row-next t i q (suc k) =
     let on : q + 1 + k ≡ q + suc k = omega arith in
-    rw (row-next t i (q + 1) k, on) (by (eqb (getD t (i * 64 + q) 0) 0) (rowFrom t i (q + 1) k) (entryMoves (q + suc k) (getD t (i * 64 + (q + suc k)) 0)))
+    rw (row-next t i (q + 1) k, on)
+    (by (eqb (getD t (i * 64 + q) 0) 0) (rowFrom t i (q + 1) k) (entryMoves (q + suc k) (getD t (i * 64 + (q + suc k)) 0)))
   where
-    by : (b : Bool) (x y : List (ℕ × ℕ)) → cond b (x ++ y) ((q, getD t (i * 64 + q) 0 - 1) ∷ (x ++ y)) ≡ cond b x ((q, getD t (i * 64 + q) 0 - 1) ∷ x) ++ y
+    by : (b : Bool) (x y : List (ℕ × ℕ))
+        → cond b (x ++ y) ((q, getD t (i * 64 + q) 0 - 1) ∷ (x ++ y)) ≡ cond b x ((q, getD t (i * 64 + q) 0 - 1) ∷ x) ++ y
     by true x y = refl
     by false x y = refl
 
@@ -73,7 +77,8 @@ row-split t i q (suc k) l =
     let on : q + 1 + k ≡ q + suc k = omega arith in
     rw (more, row-split t i (q + 1) k l, on) (by (eqb (getD t (i * 64 + q) 0) 0) (rowFrom t i (q + 1) k) (rowFrom t i (q + suc k) l))
   where
-    by : (b : Bool) (x y : List (ℕ × ℕ)) → cond b (x ++ y) ((q, getD t (i * 64 + q) 0 - 1) ∷ (x ++ y)) ≡ cond b x ((q, getD t (i * 64 + q) 0 - 1) ∷ x) ++ y
+    by : (b : Bool) (x y : List (ℕ × ℕ))
+        → cond b (x ++ y) ((q, getD t (i * 64 + q) 0 - 1) ∷ (x ++ y)) ≡ cond b x ((q, getD t (i * 64 + q) 0 - 1) ∷ x) ++ y
     by true x y = refl
     by false x y = refl
 
@@ -81,7 +86,8 @@ pub row-none : (t : List ℕ) (i q k : ℕ) → ((x : ℕ) → q ≤ x → x < q
 unfolding rowFrom
 row-none t i q zero none = refl
 row-none t i q (suc k) none =
-    rw (eq-eqb (getD t (i * 64 + q) 0) 0 (none q (le-refl q) (omega arith))) (row-none t i (q + 1) k (λ x l u. none x (omega arith) (omega arith)))
+    rw (eq-eqb (getD t (i * 64 + q) 0) 0 (none q (le-refl q) (omega arith)))
+    (row-none t i (q + 1) k (λ x l u. none x (omega arith) (omega arith)))
 
 pub row-most : (t : List ℕ) (i p : ℕ) → p ≤ 64 → length (rowFrom t i 0 p) ≤ length (rowMoves t i)
 unfolding rowMoves
@@ -95,7 +101,8 @@ unfolding rowFrom
 row-few t i q zero = omega arith
 row-few t i q (suc k) = by (eqb (getD t (i * 64 + q) 0) 0) (row-few t i (q + 1) k)
   where
-    by : (b : Bool) → length (rowFrom t i (q + 1) k) ≤ k → length (cond b (rowFrom t i (q + 1) k) ((q, getD t (i * 64 + q) 0 - 1) ∷ rowFrom t i (q + 1) k)) ≤ suc k
+    by : (b : Bool) → length (rowFrom t i (q + 1) k) ≤ k
+        → length (cond b (rowFrom t i (q + 1) k) ((q, getD t (i * 64 + q) 0 - 1) ∷ rowFrom t i (q + 1) k)) ≤ suc k
     by true h = omega arith
     by false h = omega arith
 
@@ -107,15 +114,21 @@ module _ (t : List ℕ) (i : ℕ) (s : List ℕ) (at : ℕ) where
   pub writing-first : Writing 0 0 s
   writing-first = record { counted = unfold rowFrom in refl; packed = unfold rowFrom pack in sym (written-none s (at + 1)) }
 
-  pub writing-skip : (q p n : ℕ) (b : List ℕ) → Writing q n b → q ≤ p → ((x : ℕ) → q ≤ x → x < p → getD t (i * 64 + x) 0 ≡ 0) → Writing p n b
+  pub writing-skip : (q p n : ℕ) (b : List ℕ) → Writing q n b → q ≤ p → ((x : ℕ) → q ≤ x → x < p → getD t (i * 64 + x) 0 ≡ 0)
+      → Writing p n b
   writing-skip q p n b w l none =
       let parts : p ≡ q + (p - q) = omega arith in
       let nothing : rowFrom t i (0 + q) (p - q) ≡ [] = row-none t i (0 + q) (p - q) (λ x a z. none x (omega arith) (omega arith)) in
       let same : rowFrom t i 0 p ≡ rowFrom t i 0 q =
-      ap (rowFrom t i 0) parts ∙ row-split t i 0 q (p - q) ∙ ap (λ (l : List (ℕ × ℕ)). rowFrom t i 0 q ++ l) nothing ∙ append-nil (rowFrom t i 0 q) in
-      record { counted = w .counted ∙ ap length (sym same); packed = w .packed ∙ ap (λ (l : List (ℕ × ℕ)). written s (at + 1) (pack l)) (sym same) }
+      ap (rowFrom t i 0) parts ∙ row-split t i 0 q (p - q) ∙ ap (λ (l : List (ℕ × ℕ)). rowFrom t i 0 q ++ l) nothing
+      ∙ append-nil (rowFrom t i 0 q) in
+      record {
+        counted = w .counted ∙ ap length (sym same);
+        packed = w .packed ∙ ap (λ (l : List (ℕ × ℕ)). written s (at + 1) (pack l)) (sym same);
+      }
 
-  module _ (fits : Fits s at (stepBytes (rowMoves t i))) (p n : ℕ) (b : List ℕ) (w : Writing p n b) (h : p < 64) (d : getD t (i * 64 + p) 0 ≢ 0) where
+  module _ (fits : Fits s at (stepBytes (rowMoves t i))) (p n : ℕ) (b : List ℕ) (w : Writing p n b) (h : p < 64)
+      (d : getD t (i * 64 + p) 0 ≢ 0) where
     grows : rowFrom t i 0 (p + 1) ≡ rowFrom t i 0 p ++ ((p, getD t (i * 64 + p) 0 - 1) ∷ [])
     unfolding entryMoves
     grows =
@@ -129,7 +142,9 @@ module _ (t : List ℕ) (i : ℕ) (s : List ℕ) (at : ℕ) where
     -- the bytes of the moves so far, and of all
     pack-fits : Fits s (at + 1) (pack (rowFrom t i 0 p))
     unfolding stepBytes
-    pack-fits = record { room = omega (arith, length-pack (rowFrom t i 0 p), length-pack (rowMoves t i), row-most t i p (omega (arith, h)), fits .room) }
+    pack-fits = record {
+      room = omega (arith, length-pack (rowFrom t i 0 p), length-pack (rowMoves t i), row-most t i p (omega (arith, h)), fits .room);
+    }
 
     before-is : length (take (at + 1) s) ≡ at + 1
     before-is = length-take-le (at + 1) s (omega (arith, pack-fits .room))
@@ -139,7 +154,8 @@ module _ (t : List ℕ) (i : ℕ) (s : List ℕ) (at : ℕ) where
 
     pub entry-fits : at + 1 + (12 * (n + 1) + 7) / 8 ≤ length b
     unfolding stepBytes
-    entry-fits = rw (length-kept, count-next) (omega (arith, length-pack (rowMoves t i), row-most t i (p + 1) (omega (arith, h)), fits .room))
+    entry-fits =
+        rw (length-kept, count-next) (omega (arith, length-pack (rowMoves t i), row-most t i (p + 1) (omega (arith, h)), fits .room))
 
     pub count-few : n < 64
     count-few = omega (arith, w .counted, row-few t i 0 p, h)
@@ -188,7 +204,8 @@ module _ (t : List ℕ) (i : ℕ) (s : List ℕ) (at : ℕ) where
         (add-assoc (at + 1) (length (pack (rowFrom t i 0 p))) (added (length (rowFrom t i 0 p)))
         ∙ ap (λ (k : ℕ). at + 1 + k) (sym next-length))
 
-    writes : take (at + 1) b ++ putPair (drop (at + 1) b) n p (getD t (i * 64 + p) 0 - 1) ≡ written s (at + 1) (pack (rowFrom t i 0 (p + 1)))
+    writes : take (at + 1) b ++ putPair (drop (at + 1) b) n p (getD t (i * 64 + p) 0 - 1)
+        ≡ written s (at + 1) (pack (rowFrom t i 0 (p + 1)))
     unfolding written
     writes =
         let e = getD t (i * 64 + p) 0 - 1 in
@@ -198,7 +215,8 @@ module _ (t : List ℕ) (i : ℕ) (s : List ℕ) (at : ℕ) where
         (put-next (rowFrom t i 0 p) behind p e behind-room
         ∙ ap₂ (λ (x : List (ℕ × ℕ)) (y : List ℕ). pack x ++ y) (sym grows) behind-next)
 
-    pub writing-next : (b′ : List ℕ) → b′ ≡ take (at + 1) b ++ putPair (drop (at + 1) b) n p (getD t (i * 64 + p) 0 - 1) → Writing (p + 1) (n + 1) b′
+    pub writing-next : (b′ : List ℕ) → b′ ≡ take (at + 1) b ++ putPair (drop (at + 1) b) n p (getD t (i * 64 + p) 0 - 1)
+        → Writing (p + 1) (n + 1) b′
     writing-next b′ e = record { counted = count-next; packed = e ∙ writes }
 
   pub record Rest (rest n : ℕ) (b : List ℕ) : Type 0 where
@@ -286,9 +304,12 @@ module _ (t : List ℕ) (i : ℕ) (s : List ℕ) (at : ℕ) where
         let inside : at < length s = omega (arith, fits .room) in
         let on : at + 1 + length (pack ms) ≡ at + suc (length (pack ms)) = omega arith in
         let front : take (at + 1) s ≡ take at s ++ (getD s at 0 ∷ []) = ap (λ (k : ℕ). take k s) (add-one at) ∙ take-suc s at 0 inside in
-        let split : b ≡ take at s ++ getD s at 0 ∷ (pack ms ++ drop (at + 1 + length (pack ms)) s) = w .packed ∙ ap (λ (x : List ℕ). x ++ (pack ms ++ drop (at + 1 + length (pack ms)) s)) front ∙ append-assoc (take at s) (getD s at 0 ∷ []) (pack ms ++ drop (at + 1 + length (pack ms)) s) in
+        let split : b ≡ take at s ++ getD s at 0 ∷ (pack ms ++ drop (at + 1 + length (pack ms)) s) =
+        w .packed ∙ ap (λ (x : List ℕ). x ++ (pack ms ++ drop (at + 1 + length (pack ms)) s)) front
+        ∙ append-assoc (take at s) (getD s at 0 ∷ []) (pack ms ++ drop (at + 1 + length (pack ms)) s) in
         ap (λ (x : List ℕ). set x at n) split
-        ∙ set-at (take at s) (getD s at 0) (pack ms ++ drop (at + 1 + length (pack ms)) s) n at (length-take-le at s (omega (arith, inside)))
+        ∙ set-at (take at s) (getD s at 0) (pack ms ++ drop (at + 1 + length (pack ms)) s) n at
+        (length-take-le at s (omega (arith, inside)))
         ∙ rw (w .counted, on) refl
 
     pub writing-last : Wrote s at (stepBytes (rowMoves t i)) (set b at n) (at + 1 + (12 * n + 7) / 8)

@@ -1,4 +1,5 @@
--- One pass over a plan's moves with two tables, an entry for each position: the rule's two numbers for a move are looked up by one load each.
+-- One pass over a plan's moves with two tables, an entry for each position: the rule's two numbers for a move are
+-- looked up by one load each.
 -- Of the moves, those of a window of 4096 steps are entered into a table as Rows has it.
 --
 --     Pass                   what a pass has come to

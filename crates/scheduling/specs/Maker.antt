@@ -2,16 +2,17 @@
 --
 --     madeOf o p               the steps that the making rule makes of the plan p for the order o
 --     makerAnswer o p n        the timetable maker's answer for the order o, the plan p and a buffer of n bytes
---     leaves a r B             the buffer B after the answer a: with the record r in front where it is accepted, else unchanged
 --     bufferAfter o p B        the buffer B afterwards
 --     answerOf v               the maker's verdict v as an answer
---     Timetabled o p           the made record is at most 3 × k + 3 bytes long, and the timetable checker accepts it, with s steps and k moves
+--     Timetabled o p           the made record is at most 3 × k + 3 bytes long, and the timetable checker accepts it,
+--                              with s steps and k moves
 -- Assumes nothing.
 use Prim.Native.Nat.{ℕ, _+_, _*_, _≤_}
-use mathlib.Core.List.{List, [], _∷_, _++_}
-use lib.ListN.{length, drop}
+use mathlib.Core.List.{List, [], _∷_}
+use lib.ListN.{length}
 use lib.Dec.{ltb}
-use Rattle.answers.specs.Answer.{Answer, accepted, refused, refusedBy, refuse, passUp}
+use Rattle.answers.specs.Answer.{Answer, accepted, refusedBy, refuse, passUp}
+use Rattle.field.specs.Writing.{leftBy}
 use Rattle.order.specs.Order.{startsOf}
 use Rattle.plan.specs.Plan.{moveCount, planMoves, planAnswer}
 use Rattle.timetable.specs.Timetable.{timetableRecord, timetableAnswer}
@@ -30,19 +31,17 @@ makerAnswer o p n =
     (refuse (ltb n (3 * moveCount p + 3)) 44 0
     (accepted (greatest (timed (startsOf o) [] (planMoves p)) ∷ [])))
 
--- "No lent byte changes on a refusal." "The record … is written at the front of the buffer; the rest is unchanged."
-abbrev pub leaves : Answer → List ℕ → List ℕ → List ℕ
-leaves (accepted counts) r B = r ++ drop (length r) B
-leaves (refused number place) r B = B
-
+-- "The record … is written at the front of the buffer; the rest is unchanged."
 unfoldable pub bufferAfter : List ℕ → List ℕ → List ℕ → List ℕ
-bufferAfter o p B = leaves (makerAnswer o p (length B)) (timetableRecord (madeOf o p)) B
+bufferAfter o p B = leftBy (makerAnswer o p (length B)) (timetableRecord (madeOf o p)) B
 
 abbrev pub answerOf : MakerVerdict → Answer
 answerOf (Accepted steps) = accepted (steps ∷ [])
 answerOf (Refused f place) = refusedBy f place
 
--- "For every accepted plan the made record is at most 3 × k + 3 bytes long, and the timetable checker accepts it with exactly s steps and k moves."
+-- "For every accepted plan the made record is at most 3 × k + 3 bytes long, and the timetable checker accepts it with
+-- exactly s steps and k moves."
 pub record Timetabled (o p : List ℕ) : Type 0 where
   pub short : length (timetableRecord (madeOf o p)) ≤ 3 * moveCount p + 3
-  pub checked : timetableAnswer o (timetableRecord (madeOf o p)) ≡ accepted (greatest (timed (startsOf o) [] (planMoves p)) ∷ moveCount p ∷ [])
+  pub checked : timetableAnswer o (timetableRecord (madeOf o p))
+      ≡ accepted (greatest (timed (startsOf o) [] (planMoves p)) ∷ moveCount p ∷ [])

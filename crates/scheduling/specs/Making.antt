@@ -1,8 +1,6 @@
 -- The making rule, from document 01, "Making the timetable".
 --
 --     Timed                  a move of a plan with its rack and the step that the rule gives it
---     rackFrom r A p         the rack that stands at p, where the first rack of A has the number r
---     rackAt A p             the rack that stands at p, racks counted from 1
 --     ofRack l r             the step of rack r's latest move among the earlier moves l, latest first; 0 where it has none
 --     ofLeaving l p          the step of the latest move among l that left p; 0 where none did
 --     stepFor l r m          the step of the move m of rack r after the moves l
@@ -17,7 +15,7 @@ use Prim.Native.Nat.{ℕ, zero, suc, _+_, max}
 use mathlib.Core.Bool.{cond}
 use mathlib.Core.List.{List, [], _∷_}
 use lib.Dec.{eqb}
-use Rattle.motion.specs.Arrangement.{Arrangement}
+use Rattle.motion.specs.Arrangement.{Arrangement, rackAt}
 use Rattle.motion.specs.Move.{afterMove}
 use Rattle.motion.specs.StepOf.{sort}
 
@@ -25,14 +23,6 @@ pub record Timed : Type 0 where
   pub rack : ℕ
   pub move : ℕ × ℕ
   pub step : ℕ
-
--- counted from rack r on; 0 where no rack stands at p
-unfoldable pub rackFrom : ℕ → Arrangement → ℕ → ℕ
-rackFrom r [] p = 0
-rackFrom r (q ∷ A) p = cond (eqb q p) r (rackFrom (suc r) A p)
-
-unfoldable pub rackAt : Arrangement → ℕ → ℕ
-rackAt A p = rackFrom 1 A p
 
 unfoldable pub ofRack : List Timed → ℕ → ℕ
 ofRack [] r = 0

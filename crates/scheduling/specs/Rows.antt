@@ -1,5 +1,5 @@
--- A window of steps as a table: a row of 64 entries for each step, the entry of a position the position that the move from there enters, plus
--- 1, or 0 where no move of the step leaves it. Rows read off in order of position ascend by position left.
+-- A window of steps as a table: a row of 64 entries for each step, the entry of a position the position that the move from there enters,
+-- plus 1, or 0 where no move of the step leaves it. Rows read off in order of position ascend by position left.
 --
 --     rowFrom t i p k        the moves of the k entries of row i from position p on
 --     rowMoves t i           the moves of row i

@@ -1,6 +1,6 @@
 // The timetable maker: of a plan that the plan checker accepts it makes the timetable by the making rule. specs/Making.antt has the rule,
-// specs/Maker.antt the answer and the buffer afterwards; `make` is the entry point. A pass over the plan fills a window of 4096 steps, which is
-// then written; most plans need one.
+// specs/Maker.antt the answer and the buffer afterwards; `make` is the entry point. A pass over the plan fills a window of 4096 steps,
+// which is then written; most plans need one.
 use answers::Fault;
 use plan::PlanVerdict;
 ghost use mathlib.Core.Path.{_≡_};
@@ -16,8 +16,8 @@ ghost use Rattle.scheduling.specs.Windows.{rowsOf, windowSteps, allSteps
 ghost use Rattle.scheduling.specs.Maker.{makerAnswer, bufferAfter, answerOf};
 ghost use Rattle.scheduling.specs.Rows.{EntriesFit, Left, KeepsLeft, rowMoves, rows, stepBytes, stepsBytes};
 
-// Writes the step that a row of the window holds from byte `at` on, and says where the next one begins. Only the entries of the positions that
-// its moves leave are read, the lowest first. The count is known last, and written last.
+// Writes the step that a row of the window holds from byte `at` on, and says where the next one begins. Only the entries of the positions
+// that its moves leave are read, the lowest first. The count is known last, and written last.
 fn write_step(
     window: &[u8; 262144],
     leaving: &[u64; 4096],
@@ -76,7 +76,8 @@ fn note(
     }
 }
 
-// One pass over the k moves of a plan's tail: enters those of the 4096 steps after step `first` into the window, and gives the greatest step.
+// One pass over the k moves of a plan's tail: enters those of the 4096 steps after step `first` into the window, and
+// gives the greatest step.
 // A rack's last step is kept where it now stands, so that no arrangement is needed.
 fn fill(
     tail: &[u8],
@@ -149,8 +150,10 @@ struct Progress {
 
 // Makes and writes the steps of one window, those after step `first`, from byte `at` on.
 fn make_window(tail: &[u8], k: usize, first: usize, buffer: &mut [u8], at: usize) -> Progress
-    requires { ⌜ (k < 2 ^ 22) × (12 * k ≤ 8 * length (now tail)) × Fits (now buffer) at (stepsBytes (windowSteps (pairs (now tail) 0 k) first)) ⌝ }
-    ensures { λ r. ⌜ (r .steps ≡ latest (pairs (now (tail .entry)) 0 k)) × Wrote (now (buffer .entry)) at (stepsBytes (windowSteps (pairs (now (tail .entry)) 0 k) first)) (now (buffer .exit)) (r .next) ⌝ }
+    requires { ⌜ (k < 2 ^ 22) × (12 * k ≤ 8 * length (now tail))
+        × Fits (now buffer) at (stepsBytes (windowSteps (pairs (now tail) 0 k) first)) ⌝ }
+    ensures { λ r. ⌜ (r .steps ≡ latest (pairs (now (tail .entry)) 0 k))
+        × Wrote (now (buffer .entry)) at (stepsBytes (windowSteps (pairs (now (tail .entry)) 0 k) first)) (now (buffer .exit)) (r .next) ⌝ }
 {
     let mut window = [0u8; 262144];
     let mut leaving = [0u64; 4096];
@@ -160,11 +163,12 @@ fn make_window(tail: &[u8], k: usize, first: usize, buffer: &mut [u8], at: usize
     Progress { steps: s, next }
 }
 
-// Makes and writes all steps of the k moves of a plan's tail behind the record's head, window by window, and says how many they are. That is
-// known from the first window on; until then it counts as 1, so that this window is made.
+// Makes and writes all steps of the k moves of a plan's tail behind the record's head, window by window, and says how many they are. That
+// is known from the first window on; until then it counts as 1, so that this window is made.
 fn make_steps(tail: &[u8], k: usize, buffer: &mut [u8]) -> usize
     requires { ⌜ (k < 2 ^ 22) × (12 * k ≤ 8 * length (now tail)) × Fits (now buffer) 3 (stepsBytes (allSteps (pairs (now tail) 0 k))) ⌝ }
-    ensures { λ r. ⌜ (r ≡ latest (pairs (now (tail .entry)) 0 k)) × (now (buffer .exit) ≡ written (now (buffer .entry)) 3 (stepsBytes (allSteps (pairs (now (tail .entry)) 0 k)))) ⌝ }
+    ensures { λ r. ⌜ (r ≡ latest (pairs (now (tail .entry)) 0 k))
+        × (now (buffer .exit) ≡ written (now (buffer .entry)) 3 (stepsBytes (allSteps (pairs (now (tail .entry)) 0 k)))) ⌝ }
 {
     let mut s = 1;
     let mut at = 3;

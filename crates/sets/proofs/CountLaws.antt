@@ -201,7 +201,13 @@ pigeonhole (suc n) f (suc k) below distinct = omega (arith, pigeonhole n g k g-b
         (g-is i)
 
 pub ones-one : (v : ℕ) → ones (2 ^ v) ≡ 1
-ones-one v = let e = ones-push v 0 (2 ^ v) (λ p. (λ h. inr (has-only v p .0 h), λ h. ⊎-elim (λ x. absurd (has-none p x)) (λ x. has-only v p .1 x) h)) (has-none v) in let z = ones-none in omega arith
+ones-one v =
+    let z = ones-none in
+    let e = ones-push v 0 (2 ^ v) alone (has-none v) in
+    omega arith
+  where
+    alone : (p : ℕ) → Has (2 ^ v) p ↔ (Has 0 p ⊎ (p ≡ v))
+    alone p = (λ h. inr (has-only v p .0 h), λ h. ⊎-elim (λ x. absurd (has-none p x)) (λ x. has-only v p .1 x) h)
 
 -- Two different positions of a set.
 pub record Pair (s : ℕ) : Type 0 where
@@ -225,7 +231,13 @@ ones-pair =
     (λ low.
     let r = ih (omega arith) in
     let u = r .up in
-    record { one = suc (r .one); two = suc (r .two); up = omega arith; has-one = bit-high s (r .one) ∙ r .has-one; has-two = bit-high s (r .two) ∙ r .has-two })
+    record {
+      one = suc (r .one);
+      two = suc (r .two);
+      up = omega arith;
+      has-one = bit-high s (r .one) ∙ r .has-one;
+      has-two = bit-high s (r .two) ∙ r .has-two;
+    })
     (has-or-not s 0))
   where
     none : 2 ≤ ones 0 → ⊥

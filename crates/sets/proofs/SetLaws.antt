@@ -112,14 +112,18 @@ low-digit q r h = omega arith
 
 and-bit : (a b p : ℕ) → bit (bitAnd a b) p ≡ min (bit a p) (bit b p)
 unfolding bit
-and-bit a b p = ap (λ (x : ℕ). x % 2) (and-shr a b p ∙ and-step (a / 2 ^ p) (b / 2 ^ p)) ∙ low-digit (bitAnd (a / 2 ^ p / 2) (b / 2 ^ p / 2)) (min (a / 2 ^ p % 2) (b / 2 ^ p % 2)) small
+and-bit a b p =
+    ap (λ (x : ℕ). x % 2) (and-shr a b p ∙ and-step (a / 2 ^ p) (b / 2 ^ p))
+    ∙ low-digit (bitAnd (a / 2 ^ p / 2) (b / 2 ^ p / 2)) (min (a / 2 ^ p % 2) (b / 2 ^ p % 2)) small
   where
     small : min (a / 2 ^ p % 2) (b / 2 ^ p % 2) < 2
     small = omega arith
 
 or-bit : (a b p : ℕ) → bit (bitOr a b) p ≡ max (bit a p) (bit b p)
 unfolding bit
-or-bit a b p = ap (λ (x : ℕ). x % 2) (or-shr a b p ∙ or-step (a / 2 ^ p) (b / 2 ^ p)) ∙ low-digit (bitOr (a / 2 ^ p / 2) (b / 2 ^ p / 2)) (max (a / 2 ^ p % 2) (b / 2 ^ p % 2)) small
+or-bit a b p =
+    ap (λ (x : ℕ). x % 2) (or-shr a b p ∙ or-step (a / 2 ^ p) (b / 2 ^ p))
+    ∙ low-digit (bitOr (a / 2 ^ p / 2) (b / 2 ^ p / 2)) (max (a / 2 ^ p % 2) (b / 2 ^ p % 2)) small
   where
     small : max (a / 2 ^ p % 2) (b / 2 ^ p % 2) < 2
     small = omega arith

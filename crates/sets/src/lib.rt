@@ -35,7 +35,9 @@ pub fn has(s: u64, v: usize) -> bool
 // The lowest position in s.
 pub fn lowest(s: u64) -> usize
     requires { ⌜ 0 < s ⌝ }
-    ensures { λ r. ⌜ r < 64 ⌝ ∗ ⌜ Has s r ⌝ ∗ ⌜ ((p : ℕ) → Has s p → r ≤ p) ⌝ }
+    ensures { λ r. ⌜ r < 64 ⌝ }
+    ensures { λ r. ⌜ Has s r ⌝ }
+    ensures { λ r. ⌜ ((p : ℕ) → Has s p → r ≤ p) ⌝ }
 {
     u64::trailing_zeros(s) as usize
 }

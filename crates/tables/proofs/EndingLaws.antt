@@ -1,60 +1,58 @@
 -- Laws of what specs/Ending.antt defines.
 --
---     Left legal next x j h ys   of what x replays, the first j were legal and left the table h: the replay of the others, ys, decides
+--     Left fault next x j h ys   of what x replays, the first j had no fault and left the table h: the replay of the others, ys, decides
 --     left-stops, left-goes, left-none          how a loop stops at the next, goes on past it, and ends
---     judged-illegal, judged-misplaced, judged-settled     the judgement of x, by r and by the lowest misplaced rack
+--     judged-stopped, judged-misplaced, judged-settled     the judgement of x, by how the loop ended and by the lowest misplaced rack
 -- Assumes nothing.
-use Prim.Native.Nat.{ℕ, zero, suc, _+_, _<_}
-use mathlib.Core.Path.{_≡_, refl, sym, ap, _∙_}
-use mathlib.Core.Bool.{Bool, true, false}
+use Prim.Native.Nat.{ℕ, suc, _+_}
+use mathlib.Core.Path.{_≡_, ap, _∙_}
 use mathlib.Core.List.{List, [], _∷_}
 use native.Mathlib.Omega.{arith}
 use native.Mathlib.Numerals.{add-one}
 use borrow.Author.Tests.{eq-eqb, ne-eqb}
-use Rattle.answers.specs.Answer.{accepted, refused}
-use Rattle.motion.specs.Replay.{Replayed, ended, stopped, replayFrom}
+use Rattle.answers.specs.Answer.{accepted, refusedBy, numberOf}
+use Rattle.answers.specs.declared.Fault.{Fault}
+use Rattle.answers.proofs.AnswerLaws.{numberOf-some}
+use Rattle.motion.specs.Replay.{Replayed, ended, replayFrom}
+use Rattle.tables.specs.declared.Replay.{Replay}
 use Rattle.tables.specs.Tables.{MisplacedOn, judgedOn}
-use Rattle.tables.specs.Ending.{endOf, Ends}
+use Rattle.tables.specs.Ending.{endOf}
 
-module _ {X : Type 0} (legal : List ℕ → X → Bool) (next : List ℕ → X → List ℕ) (x : Replayed) where
+module _ {X : Type 0} (fault : List ℕ → X → ℕ) (next : List ℕ → X → List ℕ) (x : Replayed) where
   unfoldable pub Left : ℕ → List ℕ → List X → Type 0
-  Left j h ys = replayFrom legal next (suc j) h ys ≡ x
+  Left j h ys = replayFrom fault next (suc j) h ys ≡ x
 
-  module _ (j : ℕ) (h : List ℕ) (y : X) (ys : List X) (left : Left j h (y ∷ ys)) (b : Bool) (is : b ≡ legal h y) where
-    pub left-stops : (k : ℕ) → j < k → b ≡ false → (h′ : List ℕ) → Ends x k (j + 1) h′
-    unfolding Left replayFrom endOf
-    left-stops k l f h′ = record { is = rw (add-one j) (rw (sym is ∙ f) at left); at-most = omega arith }
-
-    pub left-goes : b ≡ true → Left (j + 1) (next h y) ys
+  module _ (j : ℕ) (h : List ℕ) (y : X) (ys : List X) (left : Left j h (y ∷ ys)) where
+    pub left-stops : (f : Fault) → numberOf f ≡ fault h y → (h′ : List ℕ) → endOf (Replay.Stopped f (j + 1)) h′ ≡ x
     unfolding Left replayFrom
-    left-goes t = rw (add-one j) (rw (sym is ∙ t) at left)
+    left-stops f is h′ =
+        let some : fault h y ≡ 0 → ⊥ = λ e. omega (arith, numberOf-some f, is ∙ e) in
+        rw (is, add-one j) (rw (ne-eqb (fault h y) 0 some) at left)
 
-  pub left-none : (j : ℕ) (h : List ℕ) → Left j h [] → (k : ℕ) → Ends x k 0 h
-  unfolding Left replayFrom endOf
-  left-none j h left k = record { is = left; at-most = omega arith }
+    pub left-goes : fault h y ≡ 0 → Left (j + 1) (next h y) ys
+    unfolding Left replayFrom
+    left-goes e = rw (add-one j) (rw (eq-eqb (fault h y) 0 e) at left)
 
-end-stopped : (r : ℕ) (h : List ℕ) → (r ≡ 0 → ⊥) → endOf r h ≡ stopped r
-unfolding endOf
-end-stopped zero h d = absurd (d refl)
-end-stopped (suc j) h d = refl
+  pub left-none : (j : ℕ) (h : List ℕ) → Left j h [] → endOf Replay.Ended h ≡ x
+  unfolding Left replayFrom
+  left-none j h left = left
 
-end-ended : (r : ℕ) (h : List ℕ) → r ≡ 0 → endOf r h ≡ ended h
-unfolding endOf
-end-ended r h e = rw e refl
+module _ (off : ℕ) (G counts : List ℕ) (x : Replayed) (r : Replay) (h : List ℕ) (ends : endOf r h ≡ x) where
+  judged-end : judgedOn off G counts (endOf r h) ≡ judgedOn off G counts x
+  judged-end = ap (judgedOn off G counts) ends
 
-module _ (number off : ℕ) (G counts : List ℕ) (x : Replayed) (k r : ℕ) (h : List ℕ) (ends : Ends x k r h) where
-  judged-end : judgedOn number off G counts (endOf r h) ≡ judgedOn number off G counts x
-  judged-end = ap (judgedOn number off G counts) (ends .is)
-
-  pub judged-illegal : (r ≡ 0 → ⊥) → refused number r ≡ judgedOn number off G counts x
+  pub judged-stopped : (f : Fault) (place : ℕ) → r ≡ Replay.Stopped f place → refusedBy f place ≡ judgedOn off G counts x
   unfolding judgedOn
-  judged-illegal d = rw (end-stopped r h d) at judged-end
+  judged-stopped f place e = rw e at judged-end
 
-  module _ (all : r ≡ 0) (m q : ℕ) (lowest : MisplacedOn h G m q) where
-    pub judged-misplaced : (q ≡ 0 → ⊥) → refused off q ≡ judgedOn number off G counts x
-    unfolding judgedOn
-    judged-misplaced d = rw (end-ended r h all, ← lowest .is, ne-eqb q 0 d) at judged-end
+  module _ (all : r ≡ Replay.Ended) (m q : ℕ) (lowest : MisplacedOn h G m q) where
+    judged-all : judgedOn off G counts (ended h) ≡ judgedOn off G counts x
+    judged-all = rw all at judged-end
 
-    pub judged-settled : q ≡ 0 → accepted counts ≡ judgedOn number off G counts x
+    pub judged-misplaced : (f : Fault) → numberOf f ≡ off → (q ≡ 0 → ⊥) → refusedBy f q ≡ judgedOn off G counts x
     unfolding judgedOn
-    judged-settled z = rw (end-ended r h all, ← lowest .is, eq-eqb q 0 z) at judged-end
+    judged-misplaced f e d = rw e (rw (← lowest .is, ne-eqb q 0 d) at judged-all)
+
+    pub judged-settled : q ≡ 0 → accepted counts ≡ judgedOn off G counts x
+    unfolding judgedOn
+    judged-settled z = rw (← lowest .is, eq-eqb q 0 z) at judged-all

@@ -16,7 +16,7 @@ use Rattle.order.specs.Floor.{isPair, among, joined}
 use Rattle.order.specs.Order.{some, badEdge, precedes, ascending, wrongEdges}
 use Rattle.order.specs.Tables.{marked, placed}
 use Rattle.motion.specs.Arrangement.{occupied, vacant}
-use Rattle.motion.specs.Move.{onFloor, legalMove, goesTo, after, afterMove}
+use Rattle.motion.specs.Move.{onFloor, faultBy, moveFault, goesTo, after, afterMove}
 use Rattle.motion.specs.Replay.{replayFrom, replayMoves}
 use Rattle.motion.specs.Judgement.{misplaced, judged}
 use Rattle.motion.proofs.Inhabited.{floorF, starts, goals, plan, starts-sound}
@@ -57,6 +57,6 @@ edges-right : wrongEdges floorF ≡ false
 unfolding wrongEdges some badEdge precedes ascending
 edges-right = refl
 
-four-judged : judgedOn 32 33 goals (4 ∷ []) (replayOn (matrixOf floorF) (tableOf starts) plan) ≡ accepted (4 ∷ [])
-unfolding judged misplaced replayMoves replayFrom legalMove onFloor joined among isPair occupied vacant afterMove after goesTo
-four-judged = moves-judged floorF (lit≤ tt) edges-small edges-right starts starts-sound plan-small 32 33 goals (4 ∷ []) refl
+four-judged : judgedOn 33 goals (4 ∷ []) (replayOn (matrixOf floorF) (tableOf starts) plan) ≡ accepted (4 ∷ [])
+unfolding judged misplaced replayMoves replayFrom moveFault faultBy onFloor joined among isPair occupied vacant afterMove after goesTo
+four-judged = moves-judged floorF (lit≤ tt) edges-small edges-right starts starts-sound plan-small 33 goals (4 ∷ []) refl

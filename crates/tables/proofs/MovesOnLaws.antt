@@ -3,13 +3,13 @@
 --     matrixOf F       the matrix of the floor F's edges
 --     tableOf A        the table of the arrangement A
 --     Kept n m A h     the arrangement A of m racks is sound on n positions, and the table h holds it
---     legal-on         a move is legal by the tables exactly if it is legal
+--     fault-on         a move's fault by the tables is its fault
 --     moves-alike      the replay on tables of moves below 64 ends as the replay on arrangements does
 --     moves-judged     and so it is judged
 -- Assumes nothing.
 use Prim.Native.Nat.{ℕ, _≤_, _<_}
-use mathlib.Core.Path.{_≡_, refl, sym, ap, ap₂, _∙_}
-use mathlib.Core.Bool.{Bool, true, false, not, _&&_}
+use mathlib.Core.Path.{_≡_, refl, sym, ap, _∙_}
+use mathlib.Core.Bool.{Bool, true, false, not}
 use mathlib.Core.List.{List}
 use lib.ListN.{length, getD, replicate}
 use lib.Dec.{T, eqb}
@@ -18,13 +18,13 @@ use Rattle.order.specs.Floor.{Floor}
 use Rattle.order.specs.Order.{wrongEdges}
 use Rattle.order.specs.Tables.{marked, placed}
 use Rattle.motion.specs.Arrangement.{Arrangement, occupied, vacant}
-use Rattle.motion.specs.Move.{onFloor, legalMove, afterMove}
-use Rattle.motion.proofs.MoveLaws.{onFloor-parts, legal-parts, move-length}
+use Rattle.motion.specs.Move.{onFloor, legalMove, moveFault, afterMove}
+use Rattle.motion.proofs.MoveLaws.{onFloor-parts, legal-parts, moveFault-none, move-length}
 use Rattle.motion.specs.Replay.{replayMoves}
 use Rattle.motion.specs.Judgement.{judged}
 use Rattle.motion.specs.Sound.{Sound}
 use Rattle.motion.proofs.SoundLaws.{move-sound}
-use Rattle.tables.specs.Tables.{edgeAt, heldAt, legalEntries, legalOn, movedOn, judgedOn}
+use Rattle.tables.specs.Tables.{edgeAt, heldAt, entriesFault, moveFaultOn, movedOn, judgedOn}
 use Rattle.tables.proofs.TablesLaws.{Holds}
 use Rattle.tables.proofs.TableLaws.{held-occupied, placed-holds, moved-holds}
 use Rattle.tables.proofs.MatrixLaws.{matrix-joined, onFloor-joined}
@@ -55,15 +55,20 @@ abbrev pub Kept : ℕ → ℕ → Arrangement → List ℕ → Type 0
 Kept n m A h = Sound n A × Holds A h × (length A ≡ m)
 
 module _ (F : Floor) (few : F .positions ≤ 64) (below : BelowPairs 64 (F .edges)) (right : wrongEdges F ≡ false) where
-  pub legal-on : (A : Arrangement) (h : List ℕ) → Holds A h → (m : ℕ × ℕ) → m .0 < 64 → m .1 < 64 → legalMove F A m ≡ legalOn (matrixOf F) h m
-  unfolding legalMove legalOn legalEntries matrixOf edgeAt heldAt vacant
-  legal-on A h holds m a b =
-      let edge : edgeAt (marked (replicate 4096 0) (F .edges)) m ≡ onFloor F m = matrix-joined F (m .0) (m .1) below a b ∙ sym (onFloor-joined F right (m .0) (m .1)) in
-      let free : eqb (getD h (m .1) 0) 0 ≡ not (occupied A (m .1)) = sym (not-not (eqb (getD h (m .1) 0) 0)) ∙ ap not (held-occupied A h holds (m .1)) in
-      ap₂ _&&_ (ap₂ _&&_ (sym edge) (sym (held-occupied A h holds (m .0)))) (sym free)
+  pub fault-on : (A : Arrangement) (h : List ℕ) → Holds A h → (m : ℕ × ℕ) → m .0 < 64 → m .1 < 64
+      → moveFault F A m ≡ moveFaultOn (matrixOf F) h m
+  unfolding moveFault moveFaultOn entriesFault matrixOf edgeAt heldAt vacant
+  fault-on A h holds m a b =
+      let edge : onFloor F m ≡ edgeAt (marked (replicate 4096 0) (F .edges)) m =
+      onFloor-joined F right (m .0) (m .1) ∙ sym (matrix-joined F (m .0) (m .1) below a b) in
+      let free : not (occupied A (m .1)) ≡ eqb (getD h (m .1) 0) 0 =
+      ap not (sym (held-occupied A h holds (m .1))) ∙ not-not (eqb (getD h (m .1) 0) 0) in
+      rw (edge, ← held-occupied A h holds (m .0), free)
 
-  kept-on : (k : ℕ) (A : Arrangement) (h : List ℕ) (m : ℕ × ℕ) → Kept (F .positions) k A h → Small m → T (legalMove F A m) → Kept (F .positions) k (afterMove A m) (movedOn h m)
-  kept-on k A h m r p l =
+  kept-on : (k : ℕ) (A : Arrangement) (h : List ℕ) (m : ℕ × ℕ) → Kept (F .positions) k A h → Small m → T (eqb (moveFault F A m) 0)
+      → Kept (F .positions) k (afterMove A m) (movedOn h m)
+  kept-on k A h m r p z =
+      let l : T (legalMove F A m) = rw (moveFault-none F A m) at z in
       let t = legal-parts F A m .0 l in
       (move-sound F A m l (r .0), moved-holds (F .positions) A h few (r .0) (r .1) m (t .1) (t .2) (onFloor-parts F m .0 (t .0) .1), move-length A m ∙ r .2)
 
@@ -71,12 +76,12 @@ module _ (F : Floor) (few : F .positions ≤ 64) (below : BelowPairs 64 (F .edge
     pub moves-alike : Alike (Kept (F .positions) (length A)) (replayMoves F A ms) (replayOn (matrixOf F) (tableOf A) ms)
     unfolding replayMoves replayOn tableOf
     moves-alike =
-        replay-alike Small (Kept (F .positions) (length A)) (legalMove F) afterMove (legalOn (matrixOf F)) movedOn
-        (λ B h m r p. legal-on B h (r .1) m (p .0) (p .1))
+        replay-alike Small (Kept (F .positions) (length A)) (moveFault F) afterMove (moveFaultOn (matrixOf F)) movedOn
+        (λ B h m r p. fault-on B h (r .1) m (p .0) (p .1))
         (kept-on (length A))
         1 A (placed (replicate 64 0) 1 A) (each-small small) (s, placed-holds (F .positions) A few s, refl)
 
-    pub moves-judged : (illegal off : ℕ) (G counts : List ℕ) → length G ≡ length A
-        → judgedOn illegal off G counts (replayOn (matrixOf F) (tableOf A) ms) ≡ judged illegal off G counts (replayMoves F A ms)
-    moves-judged illegal off G counts e =
-        judged-on (Kept (F .positions) (length A)) illegal off G counts (λ B h r. (r .1, e ∙ sym (r .2))) moves-alike
+    pub moves-judged : (off : ℕ) (G counts : List ℕ) → length G ≡ length A
+        → judgedOn off G counts (replayOn (matrixOf F) (tableOf A) ms) ≡ judged off G counts (replayMoves F A ms)
+    moves-judged off G counts e =
+        judged-on (Kept (F .positions) (length A)) off G counts (λ B h r. (r .1, e ∙ sym (r .2))) moves-alike

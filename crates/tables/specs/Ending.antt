@@ -1,18 +1,14 @@
--- A replay on tables by a loop, whose function says with one number how it ended: the number of the first that is not legal, or 0. What the
--- loops of the plan checker and of the timetable checker have in common, and the judgement by that number.
+-- A replay on tables by a loop, whose function says how it ended and leaves the last table behind. What the loops of the plan checker and
+-- of the timetable checker have in common.
 --
---     endOf r h                  how a replay on tables ended: stopped at the number r, or at the table h where r is 0
---     Ends x k r h               the replay x of at most k moves or steps ended so
+--     endOf r h      how the replay ended: stopped with the fault and the place that r has, or at the table h
 -- Assumes nothing.
-use Prim.Native.Nat.{ℕ, zero, suc, _≤_}
-use mathlib.Core.Path.{_≡_}
+use Prim.Native.Nat.{ℕ}
 use mathlib.Core.List.{List}
+use Rattle.answers.specs.Answer.{numberOf}
 use Rattle.motion.specs.Replay.{Replayed, ended, stopped}
+use Rattle.tables.specs.declared.Replay.{Replay}
 
-unfoldable pub endOf : ℕ → List ℕ → Replayed
-endOf zero h = ended h
-endOf (suc j) h = stopped (suc j)
-
-pub record Ends (x : Replayed) (k r : ℕ) (h : List ℕ) : Type 0 where
-  pub is : endOf r h ≡ x
-  pub at-most : r ≤ k
+abbrev pub endOf : Replay → List ℕ → Replayed
+endOf Replay.Ended h = ended h
+endOf (Replay.Stopped f place) h = stopped (numberOf f) place

@@ -5,7 +5,7 @@
 use Prim.Native.Nat.{ℕ}
 use mathlib.Core.List.{List}
 use Rattle.motion.specs.Replay.{Replayed, replayFrom}
-use Rattle.tables.specs.Tables.{legalOn, movedOn}
+use Rattle.tables.specs.Tables.{moveFaultOn, movedOn}
 
 unfoldable pub replayOn : List ℕ → List ℕ → List (ℕ × ℕ) → Replayed
-replayOn g h ms = replayFrom (legalOn g) movedOn 1 h ms
+replayOn g h ms = replayFrom (moveFaultOn g) movedOn 1 h ms

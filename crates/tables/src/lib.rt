@@ -1,10 +1,18 @@
-// Replay on tables: the laws of specs/ say how a matrix of edges and a table of racks stand for a floor and an arrangement. The one
-// function here is what the plan checker and the timetable checker both end with.
+// Replay on tables: the laws of specs/ say how a matrix of edges and a table of racks stand for a floor and an arrangement. Here is what
+// the plan checker and the timetable checker share: how a replay ended, and the test that both end with.
+use answers::Fault;
 ghost use mathlib.Core.Path.{_≡_};
 ghost use Prim.Native.Nat.{_+_, _*_, _≤_};
 ghost use lib.ListN.{length};
 ghost use Rattle.field.specs.Bits.{positions};
 ghost use Rattle.tables.specs.Tables.{MisplacedOn};
+
+// How a replay ended: every move or step was legal, or the first that was not, by its fault and its number, counted from 1. What the racks
+// then stand like is left in the table.
+pub enum Replay {
+    Ended,
+    Stopped(Fault, u32),
+}
 
 // The lowest rack that does not stand at its goal, or 0 where each does. The goals of racks 1 to m are the m positions that stand `from`
 // positions after the tail's first byte; `racks` has the rack at each position.

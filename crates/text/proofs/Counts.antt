@@ -11,7 +11,7 @@ use native.Mathlib.Omega.{arith}
 use lib.ListN.{length}
 use Rattle.answers.specs.Answer.{accepted, refused}
 use Rattle.timetable.specs.Timetable.{stepCount, total, partsOf, stepsOf}
-use Rattle.timetable.specs.Reading.{WellPacked, readingAnswer, moveCount}
+use Rattle.timetable.specs.Reading.{WellPacked, readingAnswer, moveTotal}
 use Rattle.timetable.proofs.ReadingLaws.{reading-accepted, count-steps, total-moves}
 use Rattle.text.specs.Text.{firstLine}
 
@@ -32,5 +32,5 @@ module _ (s : List ℕ) (w : WellPacked s) where
     moves-are : y ≡ total (partsOf s)
     moves-are = cc same
 
-    pub line-is : firstLine x y ≡ firstLine (length (stepsOf s)) (moveCount (stepsOf s))
+    pub line-is : firstLine x y ≡ firstLine (length (stepsOf s)) (moveTotal (stepsOf s))
     line-is = ap₂ firstLine (steps-are ∙ sym (count-steps s)) (moves-are ∙ sym (total-moves s))

@@ -1,4 +1,3 @@
-pub mod Decimal
 pub mod Loops
 pub mod Counts
 pub mod Split

@@ -1,17 +1,14 @@
--- What is left to write in the writers' loops.
+-- What is left to write in the loops over moves and over steps.
 --
---     next-fits, next-left, all-wrote        the next part of what is left, and the end
---     bytes-next, bytes-none                 of the bytes of a text
 --     moves-first, moves-next, moves-none    of the moves of a step
 --     part-room, part-moves                  the moves of a step, read from its second byte on
---     cut-ends, cut-length, lines-next, stands-after, lines-none    of the steps of a timetable: the step that begins at byte `at` is cut out
+--     cut-ends, cut-length, lines-next, stands-after, lines-none    of the steps of a timetable: the step that
+--                                                                   begins at byte `at` is cut out
 -- Assumes nothing.
 use Prim.Native.Nat.{ℕ, _+_, _-_, _*_, _≤_, _<_}
 use mathlib.Core.Path.{_≡_, refl, sym, ap, _∙_, subst}
 use mathlib.Core.List.{List, [], _∷_, _++_}
-use native.Mathlib.Numerals.{add-one}
-use lib.ListN.{length, getD, take, drop, drop-of-length-le}
-use lib.Seq.{drop-cons}
+use lib.ListN.{length, getD, take, drop}
 use native.Mathlib.Omega.{arith}
 use native.Mathlib.Nat.{sub-zero}
 use Rattle.field.specs.Bits.{pairs, PairAt}
@@ -20,28 +17,7 @@ use Rattle.timetable.specs.Timetable.{stepLength, stepMoves, stepCount, stepsOf
 use Rattle.timetable.proofs.StepLaws.{partAt, length-partAt, head-partAt, moves-tail, moves-room}
 use Rattle.timetable.proofs.ReadingLaws.{Stands, stands-next, stands-room, steps-next, steps-none}
 use Rattle.text.specs.Text.{moveText, movesText, stepLine, stepLines}
-use Rattle.field.specs.Writing.{Fits, Wrote}
-use Rattle.field.proofs.WritingLaws.{Left, left-fits, left-first, left-next, left-none, fits-front}
-
--- the next part x of what is left, and the rest m
-module _ {s : List ℕ} {at : ℕ} {l t : List ℕ} {r : ℕ} {k : List ℕ} (x m : List ℕ) (e : k ≡ x ++ m) (f : Fits s at l) (left : Left s at l t r k) where
-  split : Left s at l t r (x ++ m)
-  split = subst (Left s at l t r) e left
-
-  pub next-fits : Fits t r x
-  next-fits = fits-front x m (left-fits f split)
-
-  pub next-left : {u : List ℕ} {q : ℕ} → Wrote t r x u q → Left s at l u q m
-  next-left w = left-next x m f split w
-
-pub all-wrote : {s : List ℕ} {at : ℕ} {l t : List ℕ} {r : ℕ} {k : List ℕ} → k ≡ [] → Left s at l t r k → Wrote s at l t r
-all-wrote {s} {at} {l} {t} {r} e left = left-none (subst (Left s at l t r) e left)
-
-pub bytes-next : (l : List ℕ) (j : ℕ) → j < length l → drop j l ≡ (getD l j 0 ∷ []) ++ drop (j + 1) l
-bytes-next l j h = drop-cons l j 0 h ∙ ap (λ (n : ℕ). getD l j 0 ∷ drop n l) (sym (add-one j))
-
-pub bytes-none : (l : List ℕ) (j : ℕ) → length l ≤ j → drop j l ≡ []
-bytes-none l j h = drop-of-length-le l h
+use Rattle.field.proofs.WritingLaws.{Left, left-first}
 
 module _ (s : List ℕ) where
   pub moves-first : (k : ℕ) {o : List ℕ} {at : ℕ} → Left o at (movesText (pairs s 0 k)) o at (movesText (pairs s (12 * 0) (k - 0)))
@@ -77,7 +53,8 @@ module _ (s : List ℕ) (i at : ℕ) (stands : Stands s i at) (h : i < stepCount
   pub cut-length : length (take (at + n - at) (drop at s)) ≡ stepLength (getD (take (at + n - at) (drop at s)) 0 0)
   cut-length = rw cut-is (length-partAt s at (stands-room s i at stands h) ∙ ap stepLength (sym (head-partAt s at)))
 
-  pub lines-next : stepLines (i + 1) (drop i (stepsOf s)) ≡ stepLine (i + 1) (stepMoves (take (at + n - at) (drop at s))) ++ stepLines (i + 1 + 1) (drop (i + 1) (stepsOf s))
+  pub lines-next : stepLines (i + 1) (drop i (stepsOf s))
+      ≡ stepLine (i + 1) (stepMoves (take (at + n - at) (drop at s))) ++ stepLines (i + 1 + 1) (drop (i + 1) (stepsOf s))
   unfolding stepLines
   lines-next = rw (steps-next s i at stands h, cut-is) refl
 

@@ -1,17 +1,20 @@
 -- The timetable program: what the maker answers and leaves in the lent buffer is what is printed.
 --
---     order-is, plan-is     the parts of the input, as the code cuts them
---     refused-text, refusal-told    a refusal's line
---     record-is             the timetable at the front of the buffer, and where it ends
+--     end-within                           the order ends within the input
+--     order-is, plan-is                    the parts of the input, as the code cuts them
+--     refused-text, refusal-told           a refusal's line
+--     record-is                            the timetable at the front of the buffer, and where it ends
 --     made-packed, made-fits, made-text    it can be printed, and its text is the program's
+--     refusal-text, part-within, part-packed, part-fits, part-text    the same, of what the program knows
 -- Assumes nothing.
 use Prim.Native.Nat.{ℕ, _-_, _≤_}
 use mathlib.Core.Path.{_≡_, refl, sym, ap, ap₂, _∙_, subst}
-use mathlib.Core.List.{List, _++_}
+use mathlib.Core.List.{List, [], _∷_, _++_}
 use native.Mathlib.Omega.{arith}
-use lib.ListN.{length, take, drop, length-append}
+use lib.ListN.{length, take, drop, replicate, length-append, length-replicate}
 use lib.Seq.{take-at}
-use Rattle.answers.specs.Answer.{Answer, accepted, refused}
+use Rattle.answers.specs.declared.Fault.{Fault}
+use Rattle.answers.specs.Answer.{Answer, accepted, refused, numberOf}
 use Rattle.field.proofs.RecordLaws.{rest-is}
 use Rattle.field.specs.Writing.{Fits, Wrote}
 use Rattle.field.proofs.WritingLaws.{wrote-as}
@@ -20,13 +23,16 @@ use Rattle.timetable.specs.Reading.{WellPacked}
 use Rattle.timetable.specs.RecordLength.{wholeTimetableLength}
 use Rattle.timetable.proofs.RecordLengthLaws.{timetable-length-found}
 use Rattle.timetable.proofs.TimetableRecord.{record-well-packed, stepsOf-record}
-use Rattle.scheduling.specs.Maker.{madeOf, makerAnswer, bufferAfter}
+use Rattle.scheduling.specs.declared.MakerVerdict.{MakerVerdict}
+use Rattle.scheduling.specs.declared.MakerVerdict.the-variants.{Accepted, Refused}
+use Rattle.scheduling.specs.Maker.{madeOf, makerAnswer, bufferAfter, answerOf}
 use Rattle.scheduling.proofs.MakerLaws.{MakerGave, maker-gave, maker-record, made-packable}
 use Rattle.scheduling.specs.Maker.{Timetabled}
 use Rattle.text.specs.Program.{answerText, programText}
 use Rattle.text.proofs.Sizes.{timetableText-short}
 use Rattle.text.specs.Split.{orderEnd, orderPart, planPart}
-use Rattle.text.specs.Text.{refusalLine, timetableText}
+use Rattle.writers.specs.Lines.{refusalLine}
+use Rattle.text.specs.Text.{timetableText}
 
 module _ (s : List ℕ) (e : ℕ) (h : e ≡ orderEnd s) where
   pub end-within : e ≤ length s
@@ -93,6 +99,39 @@ module _ (s o p B : List ℕ) (eo : o ≡ orderPart s) (ep : p ≡ planPart s) (
       made-fits out h =
           let small : length (take n b) ≤ 65536 = rw record-is short in
           record { room = omega (arith, h, small, timetableText-short (take n b) (made-packed .length-right) (omega (arith, small))) }
+
+-- the maker's buffer, as the program lends it
+abbrev buffer : List ℕ
+buffer = replicate 65536 0
+
+lent : length buffer ≡ 65536
+lent = length-replicate {A = ℕ} 65536 0
+
+-- what the program knows: the order of its input s ends at byte e, and the maker gave the verdict v
+module _ (s : List ℕ) {e : ℕ} (h : e ≡ orderEnd s) {v : MakerVerdict}
+    (said : answerOf v ≡ makerAnswer (take e s) (take (length s - e) (drop e s)) (length buffer)) where
+  pub refusal-text : {f : Fault} {place : ℕ} → v ≡ Refused f place → refusalLine (numberOf f) place ≡ programText s
+  refusal-text t =
+      refused-text s _ _ buffer (order-is s e h) (plan-is s e h) lent _ _ (ap answerOf (sym t) ∙ said)
+
+  -- it accepted, left b in its buffer, and a timetable of n bytes stands at the front of b
+  module _ {k : ℕ} (t : v ≡ Accepted k) {b : List ℕ}
+      (left : b ≡ bufferAfter (take e s) (take (length s - e) (drop e s)) buffer) {n : ℕ}
+      (found : n ≡ wholeTimetableLength b) where
+    told : accepted (k ∷ []) ≡ makerAnswer (take e s) (take (length s - e) (drop e s)) (length buffer)
+    told = ap answerOf (sym t) ∙ said
+
+    pub part-within : n ≤ length b
+    part-within = rw found (end-fits s _ _ _ (order-is s e h) (plan-is s e h) lent _ told b left)
+
+    pub part-packed : WellPacked (take n b)
+    part-packed = made-packed s _ _ _ (order-is s e h) (plan-is s e h) lent _ told b left n found
+
+    pub part-fits : (out : List ℕ) → length out ≡ 524288 → Fits out 0 (timetableText (stepsOf (take n b)))
+    part-fits = made-fits s _ _ _ (order-is s e h) (plan-is s e h) lent _ told b left n found
+
+    pub part-text : timetableText (stepsOf (take n b)) ≡ programText s
+    part-text = made-text s _ _ _ (order-is s e h) (plan-is s e h) lent _ told b left n found
 
 -- the line, of its number by another name
 pub refusal-told : (q : ℕ) {s t : List ℕ} {r n m : ℕ} → n ≡ m → Wrote s 0 (refusalLine n q) t r → Wrote s 0 (refusalLine m q) t r

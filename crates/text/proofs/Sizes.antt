@@ -3,32 +3,30 @@
 --     movesText-short     a move takes at most 6 bytes
 --     stepLine-short      the line of a step of c moves takes at most 6 bytes, and 6 for each move
 --     timetableText-short a timetable of fewer than 100,000 bytes takes at most 8 bytes of text for each of its bytes
---     refusalLine-short   the line of a refusal takes at most 32 bytes, and one more for each digit of its number above two
---     refusal-fits        50 bytes have room for the line of any number
 -- Assumes nothing.
-use Prim.Native.Nat.{ℕ, zero, suc, _+_, _*_, _^_, _≤_, _<_}
+use Prim.Native.Nat.{ℕ, zero, suc, _+_, _*_, _≤_, _<_}
 use mathlib.Core.Path.{_≡_, _∙_}
-use mathlib.Core.Bool.{Bool, true, false, cond}
+use mathlib.Core.Bool.{true, false}
 use mathlib.Core.List.{List, [], _∷_, map}
 use native.Mathlib.Omega.{arith}
 use borrow.Author.Tests.{ltb-false}
 use lib.ListN.{length, getD, take, drop, length-append, length-drop}
 use lib.Seq.{getD-take}
 use lib.Dec.{ltb}
-use Rattle.answers.specs.Family.{familyWord, within, order, floor, plan, timetable, other}
+use Rattle.answers.specs.Ascii.{ascii}
 use Rattle.field.specs.Bytes.{BelowPairs, none₂, more₂}
 use Rattle.field.proofs.RecordLaws.{pairs-lt}
 use Rattle.field.proofs.UnitLaws.{or-left, or-right}
-use Rattle.field.specs.Writing.{Fits}
-use Rattle.timetable.specs.Timetable.{stepLength, stepCount, wrongSteps, stepParts, partsOf, stepMoves, stepsOf, total, wrongTimetableLength}
-use Rattle.timetable.specs.Reading.{moveCount}
+use Rattle.timetable.specs.Timetable.{stepLength, stepCount, wrongSteps, stepParts, partsOf, stepMoves, stepsOf, total}
+use Rattle.timetable.specs.Timetable.{wrongTimetableLength}
+use Rattle.timetable.specs.Reading.{moveTotal}
 use Rattle.timetable.proofs.StepLaws.{stepLength-some, stepLength-moves, length-moves}
 use Rattle.timetable.proofs.ReadingLaws.{count-steps, total-moves}
-use Rattle.text.specs.Text.{space, newline, arrow, refusedText, refusalLine, moveText, movesText, stepLine, stepLines, stepsText, movesWord, firstLine, timetableText}
-use Rattle.text.proofs.TextLaws.{length-decimal}
+use Rattle.writers.proofs.DecimalLaws.{length-decimal}
+use Rattle.text.specs.Text.{moveText, movesText, stepLine, stepLines, firstLine, timetableText}
 
 moveText-short : (m : ℕ × ℕ) → m .0 < 64 → m .1 < 64 → length (moveText m) ≤ 6
-unfolding moveText space arrow
+unfolding moveText ascii
 moveText-short m h₀ h₁ =
     simp (length-append)
     (omega (arith, length-decimal 1 (m .0) (omega arith), length-decimal 1 (m .1) (omega arith)))
@@ -40,7 +38,7 @@ movesText-short (more₂ {p = m} {l = ms} h₀ h₁ b) =
     rw (length-append (moveText m) (movesText ms)) (omega (arith, moveText-short m h₀ h₁, movesText-short b))
 
 pub stepLine-short : (i : ℕ) {ms : List (ℕ × ℕ)} → i < 100000 → BelowPairs 64 ms → length (stepLine i ms) ≤ 6 + 6 * length ms
-unfolding stepLine newline
+unfolding stepLine ascii
 stepLine-short i {ms} h b =
     simp (length-append)
     (omega (arith, length-decimal 4 i h, movesText-short b))
@@ -62,7 +60,8 @@ line-room c = omega arith
 not-wrong : true ≡ false → ⊥
 not-wrong e = let z : _≡_ {A = ℕ} 0 1 = cc in omega arith
 
-lines-short : (k i : ℕ) (t : List ℕ) → wrongSteps k t ≡ false → i + k ≤ 100000 → length (stepLines i (map stepMoves (stepParts k t))) ≤ 8 * length t
+lines-short : (k i : ℕ) (t : List ℕ) → wrongSteps k t ≡ false → i + k ≤ 100000
+    → length (stepLines i (map stepMoves (stepParts k t))) ≤ 8 * length t
 unfolding wrongSteps stepParts stepLines
 lines-short zero i t w h = omega arith
 lines-short (suc k) i [] w h = absurd (not-wrong w)
@@ -82,38 +81,25 @@ counts-short (suc k) (c ∷ t) w =
     let n = stepLength c in
     let fits : n ≤ length (c ∷ t) = ltb-false (length (c ∷ t)) n (or-left _ _ w) in
     let rest = counts-short k (drop n (c ∷ t)) (or-right (ltb (length (c ∷ t)) n) _ w) in
-    let count : getD (take n (c ∷ t)) 0 0 ≡ c = getD-take n (c ∷ t) 0 0 (stepLength-some c) in
-    (omega (arith, fits, rest .0, length-drop n (c ∷ t), stepLength-some c), omega (arith, fits, rest .1, count, length-drop n (c ∷ t), stepLength-moves c))
+    let count : getD (take n (c ∷ t)) 0 0 ≡ c = getD-take n (c ∷ t) 0 0 (stepLength-some c) in (
+      omega (arith, fits, rest .0, length-drop n (c ∷ t), stepLength-some c),
+      omega (arith, fits, rest .1, count, length-drop n (c ∷ t), stepLength-moves c),
+    )
 
 firstLine-short : (s m : ℕ) → s < 100000 → m < 100000 → length (firstLine s m) ≤ 24
-unfolding firstLine stepsText movesWord newline
+unfolding firstLine ascii
 firstLine-short s m h k = simp (length-append) (omega (arith, length-decimal 4 s h, length-decimal 4 m k))
 
-pub timetableText-short : (s : List ℕ) → wrongTimetableLength s ≡ false → length s < 100000 → length (timetableText (stepsOf s)) ≤ 8 * length s
+pub timetableText-short : (s : List ℕ) → wrongTimetableLength s ≡ false → length s < 100000
+    → length (timetableText (stepsOf s)) ≤ 8 * length s
 unfolding wrongTimetableLength timetableText stepsOf partsOf
 timetableText-short s w h =
     let long : 3 ≤ length s = ltb-false (length s) 3 (or-left _ _ w) in
     let right = or-right (ltb (length s) 3) _ w in
     let counts = counts-short (stepCount s) (drop 3 s) right in
     let lines = lines-short (stepCount s) 1 (drop 3 s) right (omega (arith, counts .0, length-drop 3 s)) in
-    let first = firstLine-short (length (stepsOf s)) (moveCount (stepsOf s)) (omega (arith, count-steps s, counts .0, length-drop 3 s)) (omega (arith, total-moves s, counts .1, length-drop 3 s)) in
-    rw (length-append (firstLine (length (stepsOf s)) (moveCount (stepsOf s))) (stepLines 1 (stepsOf s))) (omega (arith, first, lines, length-drop 3 s))
-
-familyWord-short : (n : ℕ) → length (familyWord n) ≤ 9
-unfolding familyWord
-familyWord-short n = by (within 10 19 n) (within 20 29 n) (within 30 39 n) (within 40 49 n)
-  where
-    by : (a b c d : Bool) → length (cond a order (cond b floor (cond c plan (cond d timetable other)))) ≤ 9
-    by true b c d = omega arith
-    by false true c d = omega arith
-    by false false true d = omega arith
-    by false false false true = omega arith
-    by false false false false = omega arith
-
-pub refusalLine-short : (k n p : ℕ) → n < 10 ^ suc k → p < 2 ^ 32 → length (refusalLine n p) ≤ 31 + k
-unfolding refusalLine refusedText space newline
-refusalLine-short k n p h l =
-    simp (length-append) (omega (arith, length-decimal k n h, length-decimal 9 p (omega arith), familyWord-short n))
-
-pub refusal-fits : (n p : ℕ) → n < 2 ^ 64 → p < 2 ^ 32 → (s : List ℕ) → 50 ≤ length s → Fits s 0 (refusalLine n p)
-refusal-fits n p h l s room = record { room = omega (arith, room, refusalLine-short 19 n p (omega (arith, h)) l) }
+    let first =
+    firstLine-short (length (stepsOf s)) (moveTotal (stepsOf s)) (omega (arith, count-steps s, counts .0, length-drop 3 s))
+    (omega (arith, total-moves s, counts .1, length-drop 3 s)) in
+    rw (length-append (firstLine (length (stepsOf s)) (moveTotal (stepsOf s))) (stepLines 1 (stepsOf s)))
+    (omega (arith, first, lines, length-drop 3 s))

@@ -11,13 +11,13 @@ use native.Mathlib.Nat.{lt-of-not-le}
 use native.Mathlib.Decide.{decLe}
 use lib.ListN.{length}
 use Rattle.field.proofs.FrontLaws.{whole-is, whole-none}
-use Rattle.field.specs.Units.{unitsLength}
+use Rattle.field.specs.Units.{recordLength}
 use Rattle.order.specs.RecordLength.{orderLength, wholeOrderLength}
 use Rattle.text.specs.Split.{orderEnd}
 
 module _ (s : List ℕ) (e : ℕ) (h : e ≡ wholeOrderLength s) where
   some-length : 3 ≤ orderLength s
-  unfolding orderLength unitsLength
+  unfolding orderLength recordLength
   some-length = omega arith
 
   pub end-all : e ≡ 0 → length s ≡ orderEnd s

@@ -1,121 +1,101 @@
--- Laws of the text: the digits of a number, and the fixed parts.
+-- The lines of the timetable's text: their fixed parts as bytes, and their parts written one behind another.
 --
---     decimal-one, decimal-more     a number of one digit, and the last digit of a longer one
---     valueOf a l                   the number that the digits l continue the number a to
---     value-decimal                 the digits of n, read from left to right, are n
---     no-leading-zero               a number that begins with the digit 0 is 0
---     space-is, ..                  the fixed parts as bytes
---     length-decimal                a number below 10 ^ k has at most k digits, for k from 1 on
+--     arrow-is, steps-is, moves-is    the arrow between two positions, and the words of the first line
+--     gap-fits, left-fits, ..                 each part of a move has room once those before it are written
+--     move-wrote                              all four written are the move
+--     steps-fit, step-count-fits, ..          so of the line before the steps
+--     first-wrote                             all five written are that line
 -- Assumes nothing.
-use Prim.Native.Nat.{ℕ, zero, suc, _+_, _-_, _*_, _/_, _%_, _^_, _≤_, _<_}
-use mathlib.Core.Path.{_≡_, refl, sym, ap, _∙_}
-use mathlib.Core.List.{List, [], _∷_, _++_}
-use native.Mathlib.Omega.{arith}
-use native.Mathlib.Nat.{lt-of-not-le}
-use native.Mathlib.Decide.{decLe}
-use borrow.Author.Tests.{lt-ltb, le-ltb}
-use lib.ListN.{length, getD, length-append, List·getD-append}
-use Rattle.text.specs.Text.{digits, decimal, space, newline, arrow, refusedText, stepsText, movesWord}
+use Prim.Native.Nat.{ℕ}
+use mathlib.Core.Path.{_≡_, refl}
+use mathlib.Core.List.{List, [], _∷_, _++_, append-assoc, append-nil}
+use Rattle.answers.specs.Ascii.{ascii}
+use Rattle.field.specs.Writing.{Fits, Wrote}
+use Rattle.field.proofs.WritingLaws.{Left, left-first, left-none, fits-as, wrote-as}
+use Rattle.writers.specs.Lines.{decimal}
+use Rattle.writers.proofs.LineLaws.{space-is, newline-is}
+use Rattle.writers.proofs.Parts.{next-fits, next-left}
+use Rattle.text.specs.Text.{moveText, firstLine}
 
-digits-one : (k n : ℕ) → n < 10 → digits (suc k) n ≡ (48 + n) ∷ []
-unfolding digits
-digits-one k n h = rw (lt-ltb n 10 h) refl
-
-digits-more : (k n : ℕ) → 10 ≤ n → digits (suc k) n ≡ digits k (n / 10) ++ ((48 + n % 10) ∷ [])
-unfolding digits
-digits-more k n h = rw (le-ltb n 10 h) refl
-
--- any k above n is enough
-digits-enough : (j k n : ℕ) → n < j → n < k → digits j n ≡ digits k n
-digits-enough zero k n g h = absurd (omega arith)
-digits-enough (suc j) zero n g h = absurd (omega arith)
-digits-enough (suc j) (suc k) n g h = elim (decLe 10 n) [
-  | yes m ↦ digits-more j n m ∙ ap (λ (l : List ℕ). l ++ ((48 + n % 10) ∷ [])) (digits-enough j k (n / 10) (omega arith) (omega arith)) ∙ sym (digits-more k n m)
-  | no m ↦ digits-one j n (lt-of-not-le m) ∙ sym (digits-one k n (lt-of-not-le m))
-]
-
-pub decimal-one : (n : ℕ) → n < 10 → decimal n ≡ (48 + n) ∷ []
-unfolding decimal
-decimal-one n h = digits-one n n h
-
-pub decimal-more : (n : ℕ) → 10 ≤ n → decimal n ≡ decimal (n / 10) ++ ((48 + n % 10) ∷ [])
-unfolding decimal
-decimal-more n h = digits-more n n h ∙ ap (λ (l : List ℕ). l ++ ((48 + n % 10) ∷ [])) (digits-enough n (suc (n / 10)) (n / 10) (omega arith) (omega arith))
-
-pub length-decimal : (k n : ℕ) → n < 10 ^ suc k → length (decimal n) ≤ suc k
-length-decimal zero n h = rw (decimal-one n h) (omega arith)
-length-decimal (suc k) n h = elim (decLe 10 n) [
-  | yes m ↦
-      let shorter : n / 10 < 10 ^ suc k = omega arith in
-      rw (decimal-more n m, length-append (decimal (n / 10)) ((48 + n % 10) ∷ [])) (omega (arith, length-decimal k (n / 10) shorter))
-  | no m ↦ rw (decimal-one n (lt-of-not-le m)) (omega arith)
-]
-
-pub valueOf : ℕ → List ℕ → ℕ
-valueOf a [] = a
-valueOf a (d ∷ l) = valueOf (10 * a + (d - 48)) l
-
-value-append : (a : ℕ) (l : List ℕ) (d : ℕ) → valueOf a (l ++ (d ∷ [])) ≡ 10 * valueOf a l + (d - 48)
-unfolding valueOf
-value-append a [] d = refl
-value-append a (c ∷ l) d = value-append (10 * a + (c - 48)) l d
-
-value-digits : (k n : ℕ) → n < k → valueOf 0 (digits k n) ≡ n
-unfolding valueOf
-value-digits zero n h = absurd (omega arith)
-value-digits (suc k) n h = elim (decLe 10 n) [
-  | yes m ↦ rw (digits-more k n m, value-append 0 (digits k (n / 10)) (48 + n % 10), value-digits k (n / 10) (omega arith)) (omega arith)
-  | no m ↦ rw (digits-one k n (lt-of-not-le m)) (omega arith)
-]
-
-pub value-decimal : (n : ℕ) → valueOf 0 (decimal n) ≡ n
-unfolding decimal
-value-decimal n = value-digits (suc n) n (omega arith)
-
-some-digit : (k n : ℕ) → n < k → 1 ≤ length (digits k n)
-some-digit zero n h = absurd (omega arith)
-some-digit (suc k) n h = elim (decLe 10 n) [
-  | yes m ↦ rw (digits-more k n m, length-append (digits k (n / 10)) ((48 + n % 10) ∷ [])) (omega arith)
-  | no m ↦ rw (digits-one k n (lt-of-not-le m)) (omega arith)
-]
-
-first-digit : (k n : ℕ) → n < k → getD (digits k n) 0 0 ≡ 48 → n ≡ 0
-first-digit zero n h e = absurd (omega arith)
-first-digit (suc k) n h e = elim (decLe 10 n) [
-  | yes m ↦
-      let front : getD (digits (suc k) n) 0 0 ≡ getD (digits k (n / 10)) 0 0 =
-      ap (λ (l : List ℕ). getD l 0 0) (digits-more k n m) ∙ List·getD-append (digits k (n / 10)) ((48 + n % 10) ∷ []) 0 0 (some-digit k (n / 10) (omega arith)) in
-      let none : n / 10 ≡ 0 = first-digit k (n / 10) (omega arith) (sym front ∙ e) in
-      omega arith
-  | no m ↦
-      let first : 48 + n ≡ 48 = sym (ap (λ (l : List ℕ). getD l 0 0) (digits-one k n (lt-of-not-le m))) ∙ e in
-      omega arith
-]
-
-pub no-leading-zero : (n : ℕ) → getD (decimal n) 0 0 ≡ 48 → n ≡ 0
-unfolding decimal
-no-leading-zero n e = first-digit (suc n) n (omega arith) e
-
-pub space-is : 32 ∷ [] ≡ space
-unfolding space
-space-is = refl
-
-pub newline-is : 10 ∷ [] ≡ newline
-unfolding newline
-newline-is = refl
-
-pub arrow-is : 62 ∷ [] ≡ arrow
-unfolding arrow
+pub arrow-is : 62 ∷ [] ≡ ascii ">"
+unfolding ascii
 arrow-is = refl
 
-pub refusedText-is : 114 ∷ 101 ∷ 102 ∷ 117 ∷ 115 ∷ 101 ∷ 100 ∷ 32 ∷ [] ≡ refusedText
-unfolding refusedText
-refusedText-is = refl
+pub steps-is : 115 ∷ 116 ∷ 101 ∷ 112 ∷ 115 ∷ 32 ∷ [] ≡ ascii "steps "
+unfolding ascii
+steps-is = refl
 
-pub stepsText-is : 115 ∷ 116 ∷ 101 ∷ 112 ∷ 115 ∷ 32 ∷ [] ≡ stepsText
-unfolding stepsText
-stepsText-is = refl
+pub moves-is : 32 ∷ 109 ∷ 111 ∷ 118 ∷ 101 ∷ 115 ∷ 32 ∷ [] ≡ ascii " moves "
+unfolding ascii
+moves-is = refl
 
-pub movesWord-is : 32 ∷ 109 ∷ 111 ∷ 118 ∷ 101 ∷ 115 ∷ 32 ∷ [] ≡ movesWord
-unfolding movesWord
-movesWord-is = refl
+move-parts : (a b : ℕ) → moveText (a, b) ≡ ascii " " ++ (decimal a ++ (ascii ">" ++ (decimal b ++ [])))
+unfolding moveText
+move-parts a b = simp (append-assoc, append-nil)
+
+module _ {s : List ℕ} {at : ℕ} (a b : ℕ) (f : Fits s at (moveText (a, b))) where
+  pub gap-fits : Fits s at (32 ∷ [])
+  gap-fits = fits-as space-is (next-fits _ _ (move-parts a b) f left-first)
+
+  module _ {t₁ : List ℕ} {r₁ : ℕ} (gap : Wrote s at (32 ∷ []) t₁ r₁) where
+    rest₁ : Left s at (moveText (a, b)) t₁ r₁ (decimal a ++ (ascii ">" ++ (decimal b ++ [])))
+    rest₁ = next-left _ _ (move-parts a b) f left-first (wrote-as space-is gap)
+
+    pub left-fits : Fits t₁ r₁ (decimal a)
+    left-fits = next-fits _ _ refl f rest₁
+
+    module _ {t₂ : List ℕ} {r₂ : ℕ} (left : Wrote t₁ r₁ (decimal a) t₂ r₂) where
+      rest₂ : Left s at (moveText (a, b)) t₂ r₂ (ascii ">" ++ (decimal b ++ []))
+      rest₂ = next-left _ _ refl f rest₁ left
+
+      pub arrow-fits : Fits t₂ r₂ (62 ∷ [])
+      arrow-fits = fits-as arrow-is (next-fits _ _ refl f rest₂)
+
+      module _ {t₃ : List ℕ} {r₃ : ℕ} (between : Wrote t₂ r₂ (62 ∷ []) t₃ r₃) where
+        rest₃ : Left s at (moveText (a, b)) t₃ r₃ (decimal b ++ [])
+        rest₃ = next-left _ _ refl f rest₂ (wrote-as arrow-is between)
+
+        pub entered-fits : Fits t₃ r₃ (decimal b)
+        entered-fits = next-fits _ _ refl f rest₃
+
+        pub move-wrote : {t₄ : List ℕ} {r₄ : ℕ} → Wrote t₃ r₃ (decimal b) t₄ r₄ → Wrote s at (moveText (a, b)) t₄ r₄
+        move-wrote entered = left-none (next-left _ _ refl f rest₃ entered)
+
+first-parts : (k m : ℕ) → firstLine k m ≡ ascii "steps " ++ (decimal k ++ (ascii " moves " ++ (decimal m ++ (ascii "\n" ++ []))))
+unfolding firstLine
+first-parts k m = simp (append-assoc, append-nil)
+
+module _ {s : List ℕ} {at : ℕ} (k m : ℕ) (f : Fits s at (firstLine k m)) where
+  pub steps-fit : Fits s at (115 ∷ 116 ∷ 101 ∷ 112 ∷ 115 ∷ 32 ∷ [])
+  steps-fit = fits-as steps-is (next-fits _ _ (first-parts k m) f left-first)
+
+  module _ {t₁ : List ℕ} {r₁ : ℕ} (steps : Wrote s at (115 ∷ 116 ∷ 101 ∷ 112 ∷ 115 ∷ 32 ∷ []) t₁ r₁) where
+    behind₁ : Left s at (firstLine k m) t₁ r₁ (decimal k ++ (ascii " moves " ++ (decimal m ++ (ascii "\n" ++ []))))
+    behind₁ = next-left _ _ (first-parts k m) f left-first (wrote-as steps-is steps)
+
+    pub step-count-fits : Fits t₁ r₁ (decimal k)
+    step-count-fits = next-fits _ _ refl f behind₁
+
+    module _ {t₂ : List ℕ} {r₂ : ℕ} (step-count : Wrote t₁ r₁ (decimal k) t₂ r₂) where
+      behind₂ : Left s at (firstLine k m) t₂ r₂ (ascii " moves " ++ (decimal m ++ (ascii "\n" ++ [])))
+      behind₂ = next-left _ _ refl f behind₁ step-count
+
+      pub word-fits : Fits t₂ r₂ (32 ∷ 109 ∷ 111 ∷ 118 ∷ 101 ∷ 115 ∷ 32 ∷ [])
+      word-fits = fits-as moves-is (next-fits _ _ refl f behind₂)
+
+      module _ {t₃ : List ℕ} {r₃ : ℕ} (word : Wrote t₂ r₂ (32 ∷ 109 ∷ 111 ∷ 118 ∷ 101 ∷ 115 ∷ 32 ∷ []) t₃ r₃) where
+        behind₃ : Left s at (firstLine k m) t₃ r₃ (decimal m ++ (ascii "\n" ++ []))
+        behind₃ = next-left _ _ refl f behind₂ (wrote-as moves-is word)
+
+        pub move-count-fits : Fits t₃ r₃ (decimal m)
+        move-count-fits = next-fits _ _ refl f behind₃
+
+        module _ {t₄ : List ℕ} {r₄ : ℕ} (move-count : Wrote t₃ r₃ (decimal m) t₄ r₄) where
+          behind₄ : Left s at (firstLine k m) t₄ r₄ (ascii "\n" ++ [])
+          behind₄ = next-left _ _ refl f behind₃ move-count
+
+          pub end-fits : Fits t₄ r₄ (10 ∷ [])
+          end-fits = fits-as newline-is (next-fits _ _ refl f behind₄)
+
+          pub first-wrote : {t₅ : List ℕ} {r₅ : ℕ} → Wrote t₄ r₄ (10 ∷ []) t₅ r₅ → Wrote s at (firstLine k m) t₅ r₅
+          first-wrote end = left-none (next-left _ _ refl f behind₄ (wrote-as newline-is end))

@@ -8,7 +8,8 @@ use Prim.Native.Nat.{ℕ}
 use mathlib.Core.List.{List}
 use Rattle.answers.specs.Answer.{Answer, accepted, refused}
 use Rattle.scheduling.specs.Maker.{madeOf, makerAnswer}
-use Rattle.text.specs.Text.{refusalLine, timetableText}
+use Rattle.writers.specs.Lines.{refusalLine}
+use Rattle.text.specs.Text.{timetableText}
 use Rattle.text.specs.Split.{orderPart, planPart}
 
 abbrev pub answerText : Answer → List (List (ℕ × ℕ)) → List ℕ

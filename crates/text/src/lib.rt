@@ -1,92 +1,31 @@
-// The timetable program and the text that it prints, written into a lent buffer. specs/Program.antt and specs/Text.antt say what is printed,
-// field's specs/Writing.antt what a writer leaves in the buffer, byte for byte, and where the next one begins.
+// The timetable program and the text that it prints, written into a lent buffer. specs/Program.antt and specs/Text.antt say what is
+// printed, field's specs/Writing.antt what a writer leaves in the buffer, byte for byte, and where the next one begins.
 use answers::Fault;
 use scheduling::MakerVerdict;
 use timetable::TimetableReading;
 ghost use mathlib.Core.Path.{_≡_};
 ghost use mathlib.Core.Bool.{false};
-ghost use mathlib.Core.List.{[], _∷_};
 ghost use Prim.Native.Nat.{_*_, _≤_};
 ghost use lib.ListN.{length, getD};
 ghost use Rattle.answers.specs.Answer.{numberOf};
-ghost use Rattle.answers.specs.Family.{familyWord};
 ghost use Rattle.field.specs.Bits.{pairs};
 ghost use Rattle.field.specs.Writing.{Fits, Wrote};
 ghost use Rattle.timetable.specs.Timetable.{stepLength, stepCount, stepMoves, stepsOf, wrongTimetableLength};
 ghost use Rattle.timetable.specs.Reading.{WellPacked};
-ghost use Rattle.text.specs.Text.{decimal, moveText, movesText, stepLine, stepLines, firstLine, timetableText, refusalLine};
+ghost use Rattle.writers.specs.Lines.{refusalLine};
+ghost use Rattle.text.specs.Text.{moveText, movesText, stepLine, stepLines, firstLine, timetableText};
 ghost use Rattle.text.specs.Split.{orderEnd};
 ghost use Rattle.text.specs.Program.{programText};
-
-// One byte.
-fn put_byte(byte: u8, out: &mut [u8], at: usize) -> usize
-    requires { ⌜ Fits (now out) at (byte ∷ []) ⌝ }
-    ensures { λ r. ⌜ Wrote (now (out .entry)) at (byte ∷ []) (now (out .exit)) r ⌝ }
-{
-    out[at] = byte;
-    at + 1
-}
-
-// A number in decimal: its last digit behind those of its tenth part.
-fn put_decimal(n: usize, out: &mut [u8], at: usize) -> usize
-    requires { ⌜ Fits (now out) at (decimal n) ⌝ }
-    ensures { λ r. ⌜ Wrote (now (out .entry)) at (decimal n) (now (out .exit)) r ⌝ }
-{
-    if n < 10 {
-        return put_byte((48 + n) as u8, out, at);
-    }
-    let next = put_decimal(n / 10, out, at);
-    put_byte((48 + n % 10) as u8, out, next)
-}
-
-// A text as it is.
-fn put_bytes(bytes: &[u8], out: &mut [u8], at: usize) -> usize
-    requires { ⌜ Fits (now out) at (now bytes) ⌝ }
-    ensures { λ r. ⌜ Wrote (now (out .entry)) at (now (bytes .entry)) (now (out .exit)) r ⌝ }
-{
-    let mut next = at;
-    let mut j = 0;
-    while j < bytes.len() {
-        next = put_byte(bytes[j], out, next);
-        j += 1;
-    }
-    next
-}
-
-// The family word of a refusal number.
-fn put_word(number: u64, out: &mut [u8], at: usize) -> usize
-    requires { ⌜ Fits (now out) at (familyWord number) ⌝ }
-    ensures { λ r. ⌜ Wrote (now (out .entry)) at (familyWord number) (now (out .exit)) r ⌝ }
-{
-    let word = answers::family_word(number);
-    let bytes = word.bytes;
-    let len = word.len;
-    put_bytes(&bytes[..len], out, at)
-}
-
-// The line of a refusal: `refused`, number, place and family.
-pub fn put_refusal(number: u64, place: u32, out: &mut [u8], at: usize) -> usize
-    requires { ⌜ Fits (now out) at (refusalLine number place) ⌝ }
-    ensures { λ r. ⌜ Wrote (now (out .entry)) at (refusalLine number place) (now (out .exit)) r ⌝ }
-{
-    let at = put_bytes(b"refused ", out, at);
-    let at = put_decimal(number as usize, out, at);
-    let at = put_byte(b' ', out, at);
-    let at = put_decimal(place as usize, out, at);
-    let at = put_byte(b' ', out, at);
-    let at = put_word(number, out, at);
-    put_byte(b'\n', out, at)
-}
 
 // A move as `a>b`, with a space before it.
 fn put_move(left: usize, entered: usize, out: &mut [u8], at: usize) -> usize
     requires { ⌜ Fits (now out) at (moveText (left, entered)) ⌝ }
     ensures { λ r. ⌜ Wrote (now (out .entry)) at (moveText (left, entered)) (now (out .exit)) r ⌝ }
 {
-    let at = put_byte(b' ', out, at);
-    let at = put_decimal(left, out, at);
-    let at = put_byte(b'>', out, at);
-    put_decimal(entered, out, at)
+    let at = writers::put_byte(b' ', out, at);
+    let at = writers::put_decimal(left, out, at);
+    let at = writers::put_byte(b'>', out, at);
+    writers::put_decimal(entered, out, at)
 }
 
 // The first `count` moves of a part that holds moves.
@@ -109,14 +48,15 @@ fn put_step(number: usize, step: &[u8], out: &mut [u8], at: usize) -> usize
     requires { ⌜ (length (now step) ≡ stepLength (getD (now step) 0 0)) × Fits (now out) at (stepLine number (stepMoves (now step))) ⌝ }
     ensures { λ r. ⌜ Wrote (now (out .entry)) at (stepLine number (stepMoves (now (step .entry)))) (now (out .exit)) r ⌝ }
 {
-    let at = put_decimal(number, out, at);
+    let at = writers::put_decimal(number, out, at);
     let at = put_moves(&step[1..], field::wide(step[0]), out, at);
-    put_byte(b'\n', out, at)
+    writers::put_byte(b'\n', out, at)
 }
 
 // The lines of a timetable's steps.
 fn put_steps(timetable: &[u8], steps: usize, out: &mut [u8], at: usize) -> usize
-    requires { ⌜ (wrongTimetableLength (now timetable) ≡ false) × (steps ≡ stepCount (now timetable)) × Fits (now out) at (stepLines 1 (stepsOf (now timetable))) ⌝ }
+    requires { ⌜ (wrongTimetableLength (now timetable) ≡ false) × (steps ≡ stepCount (now timetable))
+        × Fits (now out) at (stepLines 1 (stepsOf (now timetable))) ⌝ }
     ensures { λ r. ⌜ Wrote (now (out .entry)) at (stepLines 1 (stepsOf (now (timetable .entry)))) (now (out .exit)) r ⌝ }
 {
     let mut begin = 3;
@@ -136,11 +76,11 @@ fn put_first_line(steps: usize, moves: usize, out: &mut [u8], at: usize) -> usiz
     requires { ⌜ Fits (now out) at (firstLine steps moves) ⌝ }
     ensures { λ r. ⌜ Wrote (now (out .entry)) at (firstLine steps moves) (now (out .exit)) r ⌝ }
 {
-    let at = put_bytes(b"steps ", out, at);
-    let at = put_decimal(steps, out, at);
-    let at = put_bytes(b" moves ", out, at);
-    let at = put_decimal(moves, out, at);
-    put_byte(b'\n', out, at)
+    let at = writers::put_bytes(b"steps ", out, at);
+    let at = writers::put_decimal(steps, out, at);
+    let at = writers::put_bytes(b" moves ", out, at);
+    let at = writers::put_decimal(moves, out, at);
+    writers::put_byte(b'\n', out, at)
 }
 
 // A timetable that passes 40 and 41, as it is printed. The reading gives the counts; it refuses no such timetable.
@@ -170,11 +110,12 @@ pub fn order_end(input: &[u8]) -> usize
 fn print_refusal(fault: Fault, place: u32, out: &mut [u8; 524288]) -> usize
     ensures { λ r. ⌜ Wrote (now (out .entry)) 0 (refusalLine (numberOf fault) place) (now (out .exit)) r ⌝ }
 {
-    put_refusal(answers::number(fault), place, out, 0)
+    writers::put_refusal(answers::number(fault), place, out, 0)
 }
 
-// The timetable program on its whole input: writes what it prints at the front of `out`, leaves every byte behind it, and says how many bytes
-// the text has. 524,288 bytes are enough, since a timetable takes at most 8 bytes of text for each of its own, of which 65,536 are lent.
+// The timetable program on its whole input: writes what it prints at the front of `out`, leaves every byte behind it, and says how many
+// bytes the text has. 524,288 bytes are enough, since a timetable takes at most 8 bytes of text for each of its own,
+// of which 65,536 are lent.
 pub fn timetable_program(input: &[u8], out: &mut [u8; 524288]) -> usize
     ensures { λ r. ⌜ Wrote (now (out .entry)) 0 (programText (now (input .entry))) (now (out .exit)) r ⌝ }
 {

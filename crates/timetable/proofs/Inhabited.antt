@@ -13,6 +13,7 @@
 --                                    places do
 --     cut-short, left-over, spare-bit, pad-bit     40 and 41, each by the damage that meets it
 --     order₁                         the first case's order
+--     timetable-open o s             the timetable checker's answer, with all that it is made of open
 --     answer₁                        the first case: accepted, 2 steps and 4 moves
 --     well-formed₁, accepted₁        its order is well formed, and what the acceptance means
 --     solution₁, only₁               its arrangements are a solution, and it is their one timetable
@@ -26,29 +27,32 @@ use mathlib.Core.Path.{_≡_, refl, ap, _∙_}
 use mathlib.Core.List.{List, [], _∷_, _++_}
 use lib.Dec.{lit<, lit≤}
 use lib.ListN.{take}
-use Rattle.answers.specs.Answer.{accepted, refused}
+use Rattle.answers.specs.Answer.{Answer, accepted, refused}
 use Rattle.field.specs.Bits.{bits, number, bitsOf, field, positions, pairs, pairBits, pad, padded, bytes, toBytes}
 use Rattle.field.specs.Bytes.{Bytes, none, more, none₂, more₂}
 use Rattle.field.proofs.WholeBytes.{below-each}
-use Rattle.field.specs.Units.{unitsLength, misfits, unclean}
+use Rattle.field.specs.Units.{recordLength, misfits, unclean}
 use Rattle.field.specs.Front.{wholeLength}
 use Rattle.order.specs.Floor.{isPair, among, joined}
 use Rattle.order.specs.Order.{positionCount, edgeCount, rackCount, unitCount, floorOf, startsOf, goalsOf, orderOf, wrongLength, wrongPositions, paddingSet, some, badEdge, precedes, ascending, wrongEdges, repeats, wrongPlaces, wrongRacks, counts, orderAnswer, WellFormed}
 use Rattle.motion.specs.Arrangement.{occupied, vacant}
 use Rattle.motion.specs.Move.{onFloor, goesTo, after}
 use Rattle.motion.specs.Step.{every, ascends, leaves, enters, enteredOnce, led, legalStep}
-use Rattle.motion.specs.Replay.{replayFrom, replaySteps, trace}
+use Rattle.motion.specs.Replay.{replayFrom, unlessLegal, stepFault, replaySteps, trace}
+use Rattle.motion.proofs.StepDecision.{by-test, legalStep?}
 use Rattle.motion.specs.Judgement.{misplaced, judged}
+use Rattle.motion.specs.StepOf.{moved, insert, sort, stepOf}
+use Rattle.motion.specs.StepSolutions.{stepsThrough, stepsBetween}
 use Rattle.timetable.specs.Timetable.{stepBits, allStepBits, timetableBits, timetableRecord, stepLength, stepCount, wrongSteps, stepParts, partsOf, wrongTimetableLength, stepPadSet, timetablePaddingSet, stepMoves, stepsOf, total, timetableAnswer, lengthOf, offset, stepPart, stepAnswer}
-use Rattle.timetable.specs.Reading.{readingAnswer, WellPacked, partGiven, placeGiven}
+use Rattle.timetable.specs.Reading.{readingAnswer, WellPacked, moveTotal, partGiven, placeGiven}
 use Rattle.timetable.proofs.ReadingLaws.{Stands, stands-at}
 use Rattle.timetable.specs.RecordLength.{stepsLength, timetableLength, wholeTimetableLength}
 use Rattle.timetable.proofs.RecordLengthLaws.{timetable-length-found}
 use Rattle.timetable.specs.ByteString.{ByteString}
 use Rattle.timetable.proofs.StepRecord.{Part}
 use Rattle.timetable.proofs.TimetableRecord.{no-steps, one-step, Packable}
-use Rattle.timetable.specs.Solutions.{SolutionOf, AcceptedTimetable, OnlyTimetable}
-use Rattle.timetable.proofs.SolutionsLaws.{timetable-solutions}
+use Rattle.timetable.specs.Solutions.{SolutionOf, AcceptedTimetable}
+use Rattle.timetable.proofs.Replayed.{ReplayedTimetable, OnlyTimetable, timetable-replayed}
 use Rattle.timetable.proofs.Still.{StillTimetable, full-floor, OneMore, one-more, waiting-step}
 
 abbrev pub timetable₁ : List ℕ
@@ -83,7 +87,8 @@ packable₁ = record {
 }
 
 pub packed₁ : WellPacked timetable₁
-unfolding wrongTimetableLength timetablePaddingSet wrongSteps some stepPadSet pad partsOf stepParts stepLength stepCount field number bitsOf bits
+unfolding wrongTimetableLength timetablePaddingSet wrongSteps some stepPadSet pad partsOf stepParts stepLength stepCount field number
+    bitsOf bits
 packed₁ = record { length-right = refl; padding-clear = refl }
 
 pub length₁ : (rest : List ℕ) → wholeTimetableLength (timetable₁ ++ rest) ≡ 11
@@ -105,31 +110,38 @@ unfolding stepLength stepPadSet pad field number bitsOf bits
 second-part = record { bytes-are = more (lit< tt) (more (lit< tt) (more (lit< tt) (more (lit< tt) none))); length-is = refl; pad-clear = refl }
 
 pub reading₁ : readingAnswer timetable₁ ≡ accepted (2 ∷ 4 ∷ [])
-unfolding readingAnswer total wrongTimetableLength timetablePaddingSet wrongSteps some stepPadSet pad partsOf stepParts stepLength stepCount field number bitsOf bits
+unfolding readingAnswer total wrongTimetableLength timetablePaddingSet wrongSteps some stepPadSet pad partsOf stepParts stepLength
+    stepCount field number bitsOf bits
 reading₁ = refl
 
 pub step-zero : stepAnswer timetable₁ 0 ≡ refused 45 0
-unfolding stepAnswer wrongTimetableLength timetablePaddingSet wrongSteps some stepPadSet pad partsOf stepParts stepLength stepCount field number bitsOf bits
+unfolding stepAnswer wrongTimetableLength timetablePaddingSet wrongSteps some stepPadSet pad partsOf stepParts stepLength stepCount
+    field number bitsOf bits
 step-zero = refl
 
 pub step-one : stepAnswer timetable₁ 1 ≡ accepted (3 ∷ 4 ∷ [])
-unfolding stepAnswer offset lengthOf stepPart wrongTimetableLength timetablePaddingSet wrongSteps some stepPadSet pad partsOf stepParts stepLength stepCount field number bitsOf bits
+unfolding stepAnswer offset lengthOf stepPart wrongTimetableLength timetablePaddingSet wrongSteps some stepPadSet pad partsOf stepParts
+    stepLength stepCount field number bitsOf bits
 step-one = refl
 
 pub step-two : stepAnswer timetable₁ 2 ≡ accepted (7 ∷ 4 ∷ [])
-unfolding stepAnswer offset lengthOf stepPart wrongTimetableLength timetablePaddingSet wrongSteps some stepPadSet pad partsOf stepParts stepLength stepCount field number bitsOf bits
+unfolding stepAnswer offset lengthOf stepPart wrongTimetableLength timetablePaddingSet wrongSteps some stepPadSet pad partsOf stepParts
+    stepLength stepCount field number bitsOf bits
 step-two = refl
 
 pub step-three : stepAnswer timetable₁ 3 ≡ refused 45 0
-unfolding stepAnswer wrongTimetableLength timetablePaddingSet wrongSteps some stepPadSet pad partsOf stepParts stepLength stepCount field number bitsOf bits
+unfolding stepAnswer wrongTimetableLength timetablePaddingSet wrongSteps some stepPadSet pad partsOf stepParts stepLength stepCount
+    field number bitsOf bits
 step-three = refl
 
 pub second-given : partGiven timetable₁ 2 ≡ 0x02 ∷ 0x04 ∷ 0x30 ∷ 0x80 ∷ []
-unfolding partGiven stepAnswer offset lengthOf stepPart wrongTimetableLength timetablePaddingSet wrongSteps some stepPadSet pad partsOf stepParts stepLength stepCount field number bitsOf bits
+unfolding partGiven stepAnswer offset lengthOf stepPart wrongTimetableLength timetablePaddingSet wrongSteps some stepPadSet pad partsOf
+    stepParts stepLength stepCount field number bitsOf bits
 second-given = refl
 
 pub none-given : partGiven timetable₁ 3 ≡ []
-unfolding partGiven stepAnswer wrongTimetableLength timetablePaddingSet wrongSteps some stepPadSet pad partsOf stepParts stepLength stepCount field number bitsOf bits
+unfolding partGiven stepAnswer wrongTimetableLength timetablePaddingSet wrongSteps some stepPadSet pad partsOf stepParts stepLength
+    stepCount field number bitsOf bits
 none-given = refl
 
 -- two steps without moves
@@ -137,15 +149,18 @@ abbrev pub alike : List ℕ
 alike = 0x00 ∷ 0x00 ∷ 0x08 ∷ 0x00 ∷ 0x00 ∷ []
 
 pub alike-bytes : partGiven alike 1 ≡ partGiven alike 2
-unfolding partGiven stepAnswer offset lengthOf stepPart wrongTimetableLength timetablePaddingSet wrongSteps some stepPadSet pad partsOf stepParts stepLength stepCount field number bitsOf bits
+unfolding partGiven stepAnswer offset lengthOf stepPart wrongTimetableLength timetablePaddingSet wrongSteps some stepPadSet pad partsOf
+    stepParts stepLength stepCount field number bitsOf bits
 alike-bytes = refl
 
 pub first-place : (block : ℕ) → placeGiven (block, 100) alike 1 ≡ (block, 103)
-unfolding placeGiven stepAnswer offset lengthOf stepPart wrongTimetableLength timetablePaddingSet wrongSteps some stepPadSet pad partsOf stepParts stepLength stepCount field number bitsOf bits
+unfolding placeGiven stepAnswer offset lengthOf stepPart wrongTimetableLength timetablePaddingSet wrongSteps some stepPadSet pad partsOf
+    stepParts stepLength stepCount field number bitsOf bits
 first-place block = refl
 
 pub second-place : (block : ℕ) → placeGiven (block, 100) alike 2 ≡ (block, 104)
-unfolding placeGiven stepAnswer offset lengthOf stepPart wrongTimetableLength timetablePaddingSet wrongSteps some stepPadSet pad partsOf stepParts stepLength stepCount field number bitsOf bits
+unfolding placeGiven stepAnswer offset lengthOf stepPart wrongTimetableLength timetablePaddingSet wrongSteps some stepPadSet pad partsOf
+    stepParts stepLength stepCount field number bitsOf bits
 second-place block = refl
 
 -- 40, by a byte too few and by a byte too many: the last step runs past the end, a byte is left over
@@ -159,11 +174,13 @@ left-over = refl
 
 -- 41, by a spare bit of the head and by a pad bit of a step of one move
 pub spare-bit : readingAnswer (0x00 ∷ 0x00 ∷ 0x05 ∷ 0x00 ∷ []) ≡ refused 41 0
-unfolding readingAnswer wrongTimetableLength timetablePaddingSet wrongSteps some stepPadSet pad partsOf stepParts stepLength stepCount field number bitsOf bits
+unfolding readingAnswer wrongTimetableLength timetablePaddingSet wrongSteps some stepPadSet pad partsOf stepParts stepLength stepCount
+    field number bitsOf bits
 spare-bit = refl
 
 pub pad-bit : readingAnswer (0x00 ∷ 0x00 ∷ 0x04 ∷ 0x01 ∷ 0x00 ∷ 0x11 ∷ []) ≡ refused 41 0
-unfolding readingAnswer wrongTimetableLength timetablePaddingSet wrongSteps some stepPadSet pad partsOf stepParts stepLength stepCount field number bitsOf bits
+unfolding readingAnswer wrongTimetableLength timetablePaddingSet wrongSteps some stepPadSet pad partsOf stepParts stepLength stepCount
+    field number bitsOf bits
 pad-bit = refl
 
 -- the order of document 01, "Programs": on F, racks at 0 and 3 with goals 3 and 0
@@ -184,31 +201,54 @@ swapOrder = 0x08 ∷ 0x0A ∷ 0x0C ∷ 0x00 ∷ 0x10 ∷ 0x02 ∷ 0x04 ∷ 0x20 
 abbrev pub swapTimetable : List ℕ
 swapTimetable = 0x00 ∷ 0x00 ∷ 0x04 ∷ 0x02 ∷ 0x00 ∷ 0x10 ∷ 0x40 ∷ []
 
+unfoldable pub timetable-open : List ℕ → List ℕ → Answer
+unfolding timetableAnswer judged misplaced replaySteps replayFrom stepFault unlessLegal legalStep? by-test legalStep every ascends leaves enters enteredOnce led
+    occupied vacant onFloor goesTo after joined among isPair orderAnswer counts wrongRacks wrongPlaces repeats wrongEdges ascending
+    precedes badEdge paddingSet wrongPositions wrongLength unitCount floorOf startsOf goalsOf orderOf positionCount edgeCount rackCount
+    unclean misfits recordLength positions total stepsOf stepMoves pairs wrongTimetableLength timetablePaddingSet wrongSteps some
+    stepPadSet pad partsOf stepParts stepLength stepCount field number bitsOf bits
+timetable-open o s = timetableAnswer o s
+
 pub answer₁ : timetableAnswer order₁ timetable₁ ≡ accepted (2 ∷ 4 ∷ [])
-unfolding timetableAnswer judged misplaced replaySteps replayFrom legalStep every ascends leaves enters enteredOnce led occupied vacant onFloor goesTo after joined among isPair orderAnswer counts wrongRacks wrongPlaces repeats wrongEdges ascending precedes badEdge paddingSet wrongPositions wrongLength unitCount floorOf startsOf goalsOf orderOf positionCount edgeCount rackCount unclean misfits unitsLength positions total stepsOf stepMoves pairs wrongTimetableLength timetablePaddingSet wrongSteps some stepPadSet pad partsOf stepParts stepLength stepCount field number bitsOf bits
+unfolding timetable-open
 answer₁ = refl
 
 pub well-formed₁ : WellFormed order₁
-unfolding timetableAnswer judged misplaced replaySteps replayFrom legalStep every ascends leaves enters enteredOnce led occupied vacant onFloor goesTo after joined among isPair orderAnswer counts wrongRacks wrongPlaces repeats wrongEdges ascending precedes badEdge paddingSet wrongPositions wrongLength unitCount floorOf startsOf goalsOf orderOf positionCount edgeCount rackCount unclean misfits unitsLength positions total stepsOf stepMoves pairs wrongTimetableLength timetablePaddingSet wrongSteps some stepPadSet pad partsOf stepParts stepLength stepCount field number bitsOf bits
+unfolding timetable-open
 well-formed₁ = record { length-right = refl; positions-right = refl; padding-clear = refl; edges-right = refl; racks-right = refl }
 
-pub accepted₁ : AcceptedTimetable order₁ timetable₁ (2 ∷ 4 ∷ [])
-accepted₁ = timetable-solutions order₁ .0 timetable₁ (2 ∷ 4 ∷ []) .0 answer₁
+pub replayed₁ : ReplayedTimetable order₁ timetable₁ (2 ∷ 4 ∷ [])
+replayed₁ = timetable-replayed order₁ .0 timetable₁ (2 ∷ 4 ∷ []) .0 answer₁
 
 -- the racks change sides in two steps, rack 1 over position 1 and rack 2 over position 2
 pub solution₁ : SolutionOf order₁ 2 ((0 ∷ 3 ∷ []) ∷ (1 ∷ 2 ∷ []) ∷ (3 ∷ 0 ∷ []) ∷ [])
-unfolding trace after goesTo startsOf edgeCount rackCount positions stepsOf stepMoves pairs partsOf stepParts stepLength stepCount field number bitsOf bits
-solution₁ = accepted₁ .solution
+unfolding trace after goesTo startsOf edgeCount rackCount positions stepsOf stepMoves pairs partsOf stepParts stepLength stepCount field
+    number bitsOf bits
+solution₁ = replayed₁ .solution
+
+pub accepted₁ : AcceptedTimetable order₁ timetable₁ (2 ∷ 4 ∷ [])
+unfolding stepsBetween stepsThrough stepOf sort insert moved moveTotal timetableRecord timetableBits allStepBits stepBits pairBits padded pad
+    toBytes bytes number bits
+accepted₁ =
+    record {
+      order-right = well-formed₁;
+      steps = 2;
+      few = lit< tt;
+      arrangements = (0 ∷ 3 ∷ []) ∷ (1 ∷ 2 ∷ []) ∷ (3 ∷ 0 ∷ []) ∷ [];
+      solution = solution₁;
+      is = refl;
+      counted = refl;
+    }
 
 pub only₁ : OnlyTimetable order₁ 2 ((0 ∷ 3 ∷ []) ∷ (1 ∷ 2 ∷ []) ∷ (3 ∷ 0 ∷ []) ∷ [])
-only₁ = timetable-solutions order₁ .1 well-formed₁ 2 _ (lit< tt) solution₁
+only₁ = timetable-replayed order₁ .1 well-formed₁ 2 _ (lit< tt) solution₁
 
 pub ring-turned : timetableAnswer ringOrder ringTimetable ≡ refused 42 1
-unfolding timetableAnswer judged misplaced replaySteps replayFrom legalStep every ascends leaves enters enteredOnce led occupied vacant onFloor goesTo after joined among isPair orderAnswer counts wrongRacks wrongPlaces repeats wrongEdges ascending precedes badEdge paddingSet wrongPositions wrongLength unitCount floorOf startsOf goalsOf orderOf positionCount edgeCount rackCount unclean misfits unitsLength positions total stepsOf stepMoves pairs wrongTimetableLength timetablePaddingSet wrongSteps some stepPadSet pad partsOf stepParts stepLength stepCount field number bitsOf bits
+unfolding timetable-open
 ring-turned = refl
 
 pub swapped : timetableAnswer swapOrder swapTimetable ≡ refused 42 1
-unfolding timetableAnswer judged misplaced replaySteps replayFrom legalStep every ascends leaves enters enteredOnce led occupied vacant onFloor goesTo after joined among isPair orderAnswer counts wrongRacks wrongPlaces repeats wrongEdges ascending precedes badEdge paddingSet wrongPositions wrongLength unitCount floorOf startsOf goalsOf orderOf positionCount edgeCount rackCount unclean misfits unitsLength positions total stepsOf stepMoves pairs wrongTimetableLength timetablePaddingSet wrongSteps some stepPadSet pad partsOf stepParts stepLength stepCount field number bitsOf bits
+unfolding timetable-open
 swapped = refl
 
 -- two positions joined by an edge, a rack on each, and each start its goal
@@ -216,7 +256,9 @@ abbrev pub fullOrder : List ℕ
 fullOrder = 0x04 ∷ 0x02 ∷ 0x08 ∷ 0x00 ∷ 0x10 ∷ 0x01 ∷ 0x00 ∷ 0x10 ∷ []
 
 pub full-right : WellFormed fullOrder
-unfolding orderAnswer counts wrongRacks wrongPlaces repeats wrongEdges ascending precedes badEdge paddingSet wrongPositions wrongLength unitCount floorOf startsOf goalsOf orderOf positionCount edgeCount rackCount unclean misfits unitsLength positions pairs some pad field number bitsOf bits
+unfolding orderAnswer counts wrongRacks wrongPlaces repeats wrongEdges ascending precedes badEdge paddingSet wrongPositions wrongLength
+    unitCount floorOf startsOf goalsOf orderOf positionCount edgeCount rackCount unclean misfits recordLength positions pairs some pad
+    field number bitsOf bits
 full-right = record { length-right = refl; positions-right = refl; padding-clear = refl; edges-right = refl; racks-right = refl }
 
 pub full-count : rackCount fullOrder ≡ floorOf fullOrder .positions
@@ -224,7 +266,7 @@ unfolding floorOf positionCount rackCount field number bitsOf bits
 full-count = refl
 
 full-accepted : timetableAnswer fullOrder (0x00 ∷ 0x00 ∷ 0x04 ∷ 0x00 ∷ []) ≡ accepted (1 ∷ 0 ∷ [])
-unfolding timetableAnswer judged misplaced replaySteps replayFrom legalStep every ascends leaves enters enteredOnce led occupied vacant onFloor goesTo after joined among isPair orderAnswer counts wrongRacks wrongPlaces repeats wrongEdges ascending precedes badEdge paddingSet wrongPositions wrongLength unitCount floorOf startsOf goalsOf orderOf positionCount edgeCount rackCount unclean misfits unitsLength positions total stepsOf stepMoves pairs wrongTimetableLength timetablePaddingSet wrongSteps some stepPadSet pad partsOf stepParts stepLength stepCount field number bitsOf bits
+unfolding timetable-open
 full-accepted = refl
 
 pub full-waits : StillTimetable fullOrder (0x00 ∷ 0x00 ∷ 0x04 ∷ 0x00 ∷ []) (1 ∷ 0 ∷ [])

@@ -5,16 +5,16 @@
 --     order-turned-down, reading-turned-down, answer-is   the checker's answer at each return
 -- Assumes nothing.
 use Prim.Native.Nat.{ℕ, _-_, _^_, _<_}
-use mathlib.Core.Path.{_≡_, refl, sym, ap, _∙_, subst}
+use mathlib.Core.Path.{_≡_, sym, _∙_, subst}
 use mathlib.Core.Bool.{false}
 use mathlib.Core.List.{List, [], _∷_}
 use lib.ListN.{length, take, drop}
 use Rattle.answers.specs.Answer.{Answer, accepted, refused, passUp}
 use Rattle.field.specs.Bytes.{BelowPairs}
-use Rattle.field.proofs.RecordLaws.{pairs-lt}
 use Rattle.order.specs.Order.{floorOf, startsOf, goalsOf, orderAnswer}
 use Rattle.order.proofs.TailLaws.{tail-edges, tail-starts, tail-goals}
 use Rattle.motion.specs.Replay.{replaySteps}
+use Rattle.motion.proofs.StepDecision.{legalStep?}
 use Rattle.motion.specs.Judgement.{judged}
 use Rattle.tables.specs.Accepted.{OrderGave}
 use Rattle.tables.proofs.Layers.{order-refused, record-refused, all-accepted}
@@ -22,7 +22,7 @@ use Rattle.tables.proofs.MovesOnLaws.{matrixOf, tableOf}
 use Rattle.tables.specs.Simulation.{Each}
 use Rattle.trains.proofs.StepsOnLaws.{each-map, steps-judged}
 use Rattle.timetable.specs.Timetable.{stepCount, partsOf, stepMoves, stepsOf, total, wrongTimetableLength, timetableAnswer}
-use Rattle.timetable.specs.Reading.{readingAnswer, WellPacked}
+use Rattle.timetable.specs.Reading.{readingAnswer}
 use Rattle.timetable.proofs.ReadingLaws.{well-packed, reading-gave, timetableAnswer-is}
 use Rattle.timetable.specs.Checking.{tableAnswer}
 use Rattle.timetable.proofs.SizeLaws.{count-small}
@@ -30,7 +30,7 @@ use Rattle.timetable.proofs.TimetableRecord.{moves-low}
 
 -- 42, 43 and acceptance
 abbrev judgement : List ℕ → List ℕ → Answer
-judgement o s = judged 42 43 (goalsOf o) (stepCount s ∷ total (partsOf s) ∷ []) (replaySteps (floorOf o) (startsOf o) (stepsOf s))
+judgement o s = judged 43 (goalsOf o) (stepCount s ∷ total (partsOf s) ∷ []) (replaySteps (legalStep? (floorOf o)) (startsOf o) (stepsOf s))
 
 pub record ReadingGave (s : List ℕ) (steps moves : ℕ) : Type 0 where
   pub length-right : wrongTimetableLength s ≡ false
@@ -55,15 +55,28 @@ unfolding stepsOf
 steps-low s = each-map stepMoves moves-low (partsOf s)
 
 module _ (o : List ℕ) (n e m : ℕ) (gave : OrderGave o n e m) (s : List ℕ) (steps moves : ℕ) (read : ReadingGave s steps moves) where
-  judgement-is : tableAnswer (take (length o - 3) (drop 3 o)) e m s (steps ∷ moves ∷ []) ≡ judgement o s
+  -- the order behind its head
+  abbrev rest : List ℕ
+  rest = take (length o - 3) (drop 3 o)
+
+  judgement-is : tableAnswer rest e m s (steps ∷ moves ∷ []) ≡ judgement o s
   unfolding tableAnswer
   judgement-is =
-      rw (tail-edges o e m (gave .edges-are) (gave .racks-are), tail-starts o e m (gave .edges-are) (gave .racks-are), tail-goals o e m (gave .edges-are) (gave .racks-are), read .steps-are, read .moves-are)
+      let w = gave .placed-well in
+      let edges = tail-edges o e m (gave .edges-are) (gave .racks-are) in
+      let starts = tail-starts o e m (gave .edges-are) (gave .racks-are) in
+      let goals = tail-goals o e m (gave .edges-are) (gave .racks-are) in
+      rw (edges, starts, goals, read .steps-are, read .moves-are)
       (unfold matrixOf tableOf in
-      steps-judged (floorOf o) (gave .placed-well .few-positions) (gave .placed-well .edges-below) (gave .placed-well .edges-right) (startsOf o) (gave .placed-well .starts-sound) (steps-low s) 42 43 (goalsOf o) (stepCount s ∷ total (partsOf s) ∷ []) (gave .placed-well .goals-length ∙ sym (gave .placed-well .starts-length)))
+      steps-judged (floorOf o) (w .few-positions) (w .edges-below) (w .edges-right) (startsOf o) (w .starts-sound) (steps-low s) 43
+      (goalsOf o) (stepCount s ∷ total (partsOf s) ∷ []) (w .goals-length ∙ sym (w .starts-length)))
 
-  pub answer-is : accepted (n ∷ e ∷ m ∷ []) ≡ orderAnswer o → accepted (steps ∷ moves ∷ []) ≡ readingAnswer s → tableAnswer (take (length o - 3) (drop 3 o)) e m s (steps ∷ moves ∷ []) ≡ timetableAnswer o s
-  answer-is a b = judgement-is ∙ all-accepted (timetableAnswer o s) (orderAnswer o) (readingAnswer s) (judgement o s) (timetableAnswer-is o s) (n ∷ e ∷ m ∷ []) a (steps ∷ moves ∷ []) b
+  pub answer-is : accepted (n ∷ e ∷ m ∷ []) ≡ orderAnswer o → accepted (steps ∷ moves ∷ []) ≡ readingAnswer s
+      → tableAnswer rest e m s (steps ∷ moves ∷ []) ≡ timetableAnswer o s
+  answer-is a b =
+      judgement-is
+      ∙ all-accepted (timetableAnswer o s) (orderAnswer o) (readingAnswer s) (judgement o s) (timetableAnswer-is o s) (n ∷ e ∷ m ∷ []) a
+      (steps ∷ moves ∷ []) b
 
 -- a refusal below is the answer above
 pub order-turned-down : (o s : List ℕ) (below r : Answer) (number place : ℕ) → below ≡ orderAnswer o → below ≡ refused number place → r ≡ passUp below (accepted (0 ∷ 0 ∷ [])) → r ≡ timetableAnswer o s

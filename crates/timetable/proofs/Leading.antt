@@ -11,14 +11,14 @@ use mathlib.Core.Path.{_≡_, refl, sym, subst}
 use Rattle.answers.specs.Answer.{accepted}
 use Rattle.order.specs.Order.{rackCount, floorOf, startsOf, goalsOf, WellFormed}
 use Rattle.motion.proofs.Lawful.{LeadsSteps, replaySteps-ended}
-use Rattle.motion.specs.StepSolutions.{stepsOf as stepsBetween}
+use Rattle.motion.specs.StepSolutions.{stepsBetween}
 use Rattle.motion.proofs.StepSolutionsLaws.{solutions-iff}
 use Rattle.tables.proofs.AcceptedLaws.{well-placed}
 use Rattle.timetable.specs.Timetable.{stepCount, partsOf, stepsOf, total, timetableAnswer}
 use Rattle.timetable.specs.Reading.{WellPacked}
 use Rattle.timetable.proofs.ReadingLaws.{count-steps}
-use Rattle.timetable.specs.Solutions.{SolutionOf, arrangements, AcceptedTimetable}
-use Rattle.timetable.proofs.SolutionsLaws.{timetable-solutions}
+use Rattle.timetable.specs.Solutions.{SolutionOf}
+use Rattle.timetable.proofs.Replayed.{arrangements, ReplayedTimetable, timetable-replayed}
 
 pub record LeadingTimetable (o s v : List ℕ) : Type 0 where
   pub order-right : WellFormed o
@@ -42,7 +42,7 @@ module _ (o s v : List ℕ) where
   pub accepted-leads : (timetableAnswer o s ≡ accepted v) ↔ LeadingTimetable o s v
   accepted-leads = (
     λ a.
-        let t : AcceptedTimetable o s v = timetable-solutions o .0 s v .0 a in
+        let t : ReplayedTimetable o s v = timetable-replayed o .0 s v .0 a in
         record {
           order-right = t .order-right;
           packed-right = t .packed-right;
@@ -51,7 +51,7 @@ module _ (o s v : List ℕ) where
         },
     λ t.
         let found = solved-leads (t .order-right) .0 (t .leads) in
-        timetable-solutions o .0 s v .1
+        timetable-replayed o .0 s v .1
         (record {
           order-right = t .order-right;
           packed-right = t .packed-right;

@@ -11,6 +11,7 @@ pub mod Limits
 pub mod ReadingLaws
 pub mod RecordLengthLaws
 pub mod SizeLaws
+pub mod Replayed
 pub mod SolutionsLaws
 pub mod StepLaws
 pub mod StepRecord

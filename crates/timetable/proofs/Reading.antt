@@ -29,13 +29,15 @@ use Rattle.timetable.specs.Reading.{stepsAnswer, readingAnswer}
 use Rattle.timetable.proofs.StepLaws.{partAt, nextAt, parts-next, parts-none, Room, wrong-past, wrong-short, wrong-next, wrong-left, right-end, head-partAt, cut-is, cut-length}
 
 module _ (p : List ℕ) (e : length p ≡ stepLength (getD p 0 0)) where
-  pub pad-room : (c : ℕ) → c ≡ getD p 0 0 → 12 * c + pad (12 * c) ≤ 8 * length (take (length p - 1) (drop 1 p))
+  pub pad-room : (c : ℕ) → c ≡ getD p 0 0 → 6 * (2 * c) + pad (6 * (2 * c)) ≤ 8 * length (take (length p - 1) (drop 1 p))
   unfolding stepLength
-  pad-room c h = rw (rest-is 1 p, length-drop 1 p, up-to-byte (12 * c)) (omega arith)
+  pad-room c h = rw (rest-is 1 p, length-drop 1 p, up-to-byte (6 * (2 * c))) (omega arith)
 
-  module _ (c r : ℕ) (h : c ≡ getD p 0 0) (g : r ≡ field (take (length p - 1) (drop 1 p)) (12 * c) (pad (12 * c))) where
+  module _ (c r : ℕ) (h : c ≡ getD p 0 0) (g : r ≡ field (take (length p - 1) (drop 1 p)) (6 * (2 * c)) (pad (6 * (2 * c)))) where
     pad-read : r ≡ field p (8 + 12 * getD p 0 0) (pad (12 * getD p 0 0))
-    pad-read = g ∙ rw (rest-is 1 p, ← h) (sym (field-drop p 1 (12 * c) (pad (12 * c))))
+    pad-read =
+        let twelve : 6 * (2 * c) ≡ 12 * c = omega arith in
+        g ∙ rw (rest-is 1 p, twelve, ← h) (sym (field-drop p 1 (12 * c) (pad (12 * c))))
 
     pub pad-there : (r ≡ 0 → ⊥) → true ≡ stepPadSet p
     unfolding stepPadSet

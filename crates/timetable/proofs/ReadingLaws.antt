@@ -30,9 +30,10 @@ use Rattle.answers.proofs.AnswerLaws.{refuse-not, refuse-else}
 use Rattle.field.proofs.UnitLaws.{or-left, or-right}
 use Rattle.order.specs.Order.{orderAnswer, floorOf, startsOf, goalsOf}
 use Rattle.motion.specs.Replay.{replaySteps}
+use Rattle.motion.proofs.StepDecision.{legalStep?}
 use Rattle.motion.specs.Judgement.{judged}
 use Rattle.timetable.specs.Timetable.{wrongSteps, stepParts, partsOf, stepMoves, stepsOf, stepCount, total, wrongTimetableLength, timetablePaddingSet, timetableAnswer, lengthOf, offset, stepPart, stepAnswer}
-use Rattle.timetable.specs.Reading.{readingAnswer, WellPacked, moveCount, numberAnswer}
+use Rattle.timetable.specs.Reading.{readingAnswer, WellPacked, moveTotal, numberAnswer}
 use Rattle.timetable.proofs.StepLaws.{partAt, nextAt, parts-next, length-parts, Room, room, wrong-next, all-taken, length-partAt, length-moves}
 
 pub reading-accepted : (s : List ℕ) → WellPacked s → readingAnswer s ≡ accepted (stepCount s ∷ total (partsOf s) ∷ [])
@@ -56,19 +57,20 @@ pub count-steps : (s : List ℕ) → length (stepsOf s) ≡ stepCount s
 unfolding stepsOf partsOf
 count-steps s = length-map (partsOf s) stepMoves ∙ length-parts (stepCount s) (drop 3 s)
 
-moves-of-parts : (l : List (List ℕ)) → moveCount (map stepMoves l) ≡ total l
-unfolding moveCount total
+moves-of-parts : (l : List (List ℕ)) → moveTotal (map stepMoves l) ≡ total l
+unfolding moveTotal total
 moves-of-parts [] = refl
 moves-of-parts (p ∷ l) = ap₂ _+_ (length-moves p) (moves-of-parts l)
 
-pub total-moves : (s : List ℕ) → moveCount (stepsOf s) ≡ total (partsOf s)
+pub total-moves : (s : List ℕ) → moveTotal (stepsOf s) ≡ total (partsOf s)
 unfolding stepsOf
 total-moves s = moves-of-parts (partsOf s)
 
 pub timetableAnswer-is : (o s : List ℕ)
     → timetableAnswer o s
     ≡ passUp (orderAnswer o)
-    (passUp (readingAnswer s) (judged 42 43 (goalsOf o) (stepCount s ∷ total (partsOf s) ∷ []) (replaySteps (floorOf o) (startsOf o) (stepsOf s))))
+    (passUp (readingAnswer s)
+    (judged 43 (goalsOf o) (stepCount s ∷ total (partsOf s) ∷ []) (replaySteps (legalStep? (floorOf o)) (startsOf o) (stepsOf s))))
 unfolding timetableAnswer readingAnswer
 timetableAnswer-is o s = ap (passUp (orderAnswer o)) (chain (wrongTimetableLength s) (timetablePaddingSet s) (stepCount s ∷ total (partsOf s) ∷ []) _)
   where

@@ -23,8 +23,7 @@ use Rattle.field.proofs.BitLaws.{field-lt}
 use Rattle.field.proofs.UnitLaws.{or-right}
 use Rattle.timetable.specs.Timetable.{stepLength, stepParts, partsOf, stepCount, total, lengthOf, offset, stepPart, stepAnswer, wrongTimetableLength, timetablePaddingSet, timetableAnswer}
 use Rattle.timetable.proofs.StepLaws.{stepLength-few, stepLength-some}
-use Rattle.timetable.specs.Solutions.{AcceptedTimetable}
-use Rattle.timetable.proofs.SolutionsLaws.{timetable-solutions}
+use Rattle.timetable.proofs.Replayed.{ReplayedTimetable, timetable-replayed}
 use Rattle.timetable.specs.ByteString.{ByteString}
 
 dropped : (n : ℕ) (s : List ℕ) → ByteString s → ByteString (drop n s)
@@ -65,7 +64,7 @@ module _ (s : List ℕ) (b : ByteString s) where
 
   pub checked-small : (o : List ℕ) (steps moves : ℕ) → accepted (steps ∷ moves ∷ []) ≡ timetableAnswer o s → (steps < 2 ^ 22) × (moves < 2 ^ 30)
   checked-small o steps moves e =
-      let gave : AcceptedTimetable o s (steps ∷ moves ∷ []) = timetable-solutions o .0 s (steps ∷ moves ∷ []) .0 (sym e) in (
+      let gave : ReplayedTimetable o s (steps ∷ moves ∷ []) = timetable-replayed o .0 s (steps ∷ moves ∷ []) .0 (sym e) in (
         subst (λ (n : ℕ). n < 2 ^ 22) (head-eq-of-cons-eq (gave .counted)) (count-small s),
         subst (λ (n : ℕ). n < 2 ^ 30) (head-eq-of-cons-eq (tail-eq-of-cons-eq (gave .counted))) total-small,
       )

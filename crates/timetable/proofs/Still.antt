@@ -24,14 +24,14 @@ use Rattle.order.specs.Order.{some, rackCount, floorOf, startsOf, goalsOf, Well
 use Rattle.motion.specs.Arrangement.{Arrangement}
 use Rattle.motion.specs.Move.{after}
 use Rattle.motion.proofs.MoveLaws.{after-length}
-use Rattle.motion.specs.Step.{legalStep}
 use Rattle.motion.proofs.ListLaws.{by-member}
-use Rattle.motion.proofs.Lawful.{LeadsSteps, still, _then_, lawful-none, lawful-first, lawful-append, lawful-apart, replay-ended}
+use Rattle.motion.proofs.Lawful.{LeadsSteps, still, _then_, lawful-none, lawful-first, lawful-append, lawful-apart}
+use Rattle.motion.proofs.StepReplay.{steps-lead}
 use Rattle.motion.proofs.LegalStepLaws.{legalStep-iff, legal-nothing}
 use Rattle.motion.proofs.StepLimits.{step-racks, full-iff}
 use Rattle.tables.proofs.AcceptedLaws.{well-placed}
 use Rattle.timetable.specs.Timetable.{timetableRecord, stepCount, wrongSteps, stepParts, partsOf, wrongTimetableLength, timetablePaddingSet, stepsOf, total, timetableAnswer}
-use Rattle.timetable.specs.Reading.{WellPacked, moveCount}
+use Rattle.timetable.specs.Reading.{WellPacked, moveTotal}
 use Rattle.timetable.proofs.ReadingLaws.{count-steps, total-moves}
 use Rattle.timetable.proofs.TimetableRecord.{Steps, one-step, Packable, stepsOf-record, record-well-packed}
 use Rattle.timetable.proofs.Leading.{LeadingTimetable, accepted-leads}
@@ -59,8 +59,8 @@ waiting-leads F A B (ms ∷ steps) w =
     )
 
 -- what waits has no moves
-waiting-none : (steps : List (List (ℕ × ℕ))) → Waiting steps → moveCount steps ≡ 0
-unfolding moveCount
+waiting-none : (steps : List (List (ℕ × ℕ))) → Waiting steps → moveTotal steps ≡ 0
+unfolding moveTotal
 waiting-none [] w = refl
 waiting-none (ms ∷ steps) w =
     omega (arith, ap length (w ms (List·Memᴰ·head refl)), waiting-none steps (λ x k. w x (List·Memᴰ·tail k)))
@@ -111,7 +111,7 @@ module _ (o s v : List ℕ) (w : WellFormed o) where
   full-floor full =
       still-timetables
       (λ l.
-      let replayed = replay-ended (legalStep (floorOf o)) after 1 (startsOf o) (stepsOf s) (goalsOf o) .1 l in
+      let replayed = steps-lead (floorOf o) 1 (startsOf o) (stepsOf s) (goalsOf o) .1 l in
       full-iff (floorOf o) (rackCount o) (startsOf o) (goalsOf o) 1 (stepsOf s) (well-placed o w .task .initial) full .0 replayed .1)
 
   pub no-racks : rackCount o ≡ 0 → (timetableAnswer o s ≡ accepted v) ↔ StillTimetable o s v
@@ -152,13 +152,13 @@ pub record OneMore (s t : List ℕ) : Type 0 where
   pub fewer-steps : stepsOf s ≡ before ++ behind
   pub more-steps : stepsOf t ≡ before ++ [] ∷ behind
 
-moves-append : (l m : List (List (ℕ × ℕ))) → moveCount (l ++ m) ≡ moveCount l + moveCount m
-unfolding moveCount
+moves-append : (l m : List (List (ℕ × ℕ))) → moveTotal (l ++ m) ≡ moveTotal l + moveTotal m
+unfolding moveTotal
 moves-append [] m = omega arith
 moves-append (x ∷ l) m = omega (arith, moves-append l m)
 
-moves-more : (m : List (List (ℕ × ℕ))) → moveCount ([] ∷ m) ≡ moveCount m
-unfolding moveCount
+moves-more : (m : List (List (ℕ × ℕ))) → moveTotal ([] ∷ m) ≡ moveTotal m
+unfolding moveTotal
 moves-more m = omega arith
 
 module _ (s t : List ℕ) (w : OneMore s t) where
@@ -175,9 +175,9 @@ module _ (s t : List ℕ) (w : OneMore s t) where
       let l = w .before in
       let m = w .behind in
       sym (total-moves t)
-      ∙ ap moveCount (w .more-steps)
-      ∙ (moves-append l ([] ∷ m) ∙ ap (λ (k : ℕ). moveCount l + k) (moves-more m) ∙ sym (moves-append l m))
-      ∙ ap moveCount (sym (w .fewer-steps))
+      ∙ ap moveTotal (w .more-steps)
+      ∙ (moves-append l ([] ∷ m) ∙ ap (λ (k : ℕ). moveTotal l + k) (moves-more m) ∙ sym (moves-append l m))
+      ∙ ap moveTotal (sym (w .fewer-steps))
       ∙ total-moves s
 
   leads-more : (F : Floor) {A B : Arrangement} → LeadsSteps F A (stepsOf s) B ↔ LeadsSteps F A (stepsOf t) B

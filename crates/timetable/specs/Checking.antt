@@ -13,13 +13,12 @@ use Rattle.tables.specs.Tables.{judgedOn}
 use Rattle.trains.specs.StepsOn.{replayStepsOn}
 use Rattle.timetable.specs.Timetable.{stepsOf}
 use Rattle.timetable.specs.declared.TimetableVerdict.{TimetableVerdict}
-use Rattle.timetable.specs.declared.TimetableVerdict.the-variants.{Accepted, Refused}
 
 unfoldable pub tableAnswer : List ℕ → ℕ → ℕ → List ℕ → List ℕ → Answer
 tableAnswer s e m t v =
-    judgedOn 42 43 (positions s (6 * (2 * e + m)) m) v
+    judgedOn 43 (positions s (6 * (2 * e + m)) m) v
     (replayStepsOn (marked (replicate 4096 0) (pairs s 0 e)) (placed (replicate 64 0) 1 (positions s (6 * (2 * e)) m)) (stepsOf t))
 
 abbrev pub answerOfCheck : TimetableVerdict → Answer
-answerOfCheck (Accepted steps moves) = accepted (steps ∷ moves ∷ [])
-answerOfCheck (Refused f place) = refusedBy f place
+answerOfCheck (TimetableVerdict.Accepted steps moves) = accepted (steps ∷ moves ∷ [])
+answerOfCheck (TimetableVerdict.Refused f place) = refusedBy f place

@@ -5,7 +5,7 @@
 --     stepsAnswer k t        40 and 41 of the k steps of t alone
 --     readingAnswer s        40 and 41 of the timetable s; accepted, the counts are s and the sum of the bytes c
 --     WellPacked s           neither 40 nor 41 applies to s
---     moveCount l            the moves of the steps l, in all
+--     moveTotal l            the moves of the steps l, in all
 --     numberAnswer s i       what the reading refused, else 45
 --     givenBy a p            the part p where the answer a is accepted, else the empty part
 --     beginsAt a             where the part of an accepted answer a begins, in bytes from the timetable's first; else 0
@@ -46,9 +46,9 @@ pub record WellPacked (s : List ℕ) : Type 0 where
   pub length-right : wrongTimetableLength s ≡ false
   pub padding-clear : timetablePaddingSet s ≡ false
 
-unfoldable pub moveCount : List (List (ℕ × ℕ)) → ℕ
-moveCount [] = 0
-moveCount (ms ∷ l) = length ms + moveCount l
+unfoldable pub moveTotal : List (List (ℕ × ℕ)) → ℕ
+moveTotal [] = 0
+moveTotal (ms ∷ l) = length ms + moveTotal l
 
 unfoldable pub numberAnswer : List ℕ → ℕ → Answer
 numberAnswer s i = passUp (readingAnswer s) (refuse (eqb i 0 || ltb (stepCount s) i) 45 0 (readingAnswer s))

@@ -24,12 +24,13 @@
 use Prim.Native.Nat.{ℕ, zero, suc, _+_, _-_, _*_, _/_}
 use mathlib.Core.Bool.{Bool, true, not, _||_}
 use mathlib.Core.List.{List, [], _∷_, _++_, map}
-use lib.ListN.{length, getD, take, drop, replicate}
+use lib.ListN.{length, getD, take, drop}
 use lib.Dec.{ltb, eqb}
 use Rattle.answers.specs.Answer.{Answer, accepted, refuse, passUp}
 use Rattle.field.specs.Bits.{bits, field, pairs, pairBits, pad, padded, toBytes}
 use Rattle.order.specs.Order.{some, orderAnswer, floorOf, startsOf, goalsOf}
 use Rattle.motion.specs.Replay.{replaySteps}
+use Rattle.motion.proofs.StepDecision.{legalStep?}
 use Rattle.motion.specs.Judgement.{judged}
 
 -- "each step is one byte c, then c moves, then pad"
@@ -88,14 +89,14 @@ unfoldable pub total : List (List ℕ) → ℕ
 total [] = 0
 total (part ∷ l) = getD part 0 0 + total l
 
--- 42, step number: "this step, the first such, is not legal"; 43, rack: "after the timetable this rack, the lowest such, is not at its goal".
--- Accepted, the counts are s and the sum of the bytes c.
+-- the fault of the first step that is not legal, with the step's number; 43, rack: "after the timetable this rack, the lowest such, is not
+-- at its goal". Accepted, the counts are s and the sum of the bytes c.
 unfoldable pub timetableAnswer : List ℕ → List ℕ → Answer
 timetableAnswer o s =
     passUp (orderAnswer o)
     (refuse (wrongTimetableLength s) 40 0
     (refuse (timetablePaddingSet s) 41 0
-    (judged 42 43 (goalsOf o) (stepCount s ∷ total (partsOf s) ∷ []) (replaySteps (floorOf o) (startsOf o) (stepsOf s)))))
+    (judged 43 (goalsOf o) (stepCount s ∷ total (partsOf s) ∷ []) (replaySteps (legalStep? (floorOf o)) (startsOf o) (stepsOf s)))))
 
 -- the length in bytes of the first i parts
 unfoldable pub lengthOf : ℕ → List (List ℕ) → ℕ

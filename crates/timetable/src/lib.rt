@@ -4,6 +4,7 @@
 // are the entry points; `record_length` says where a timetable ends that other bytes follow.
 use answers::Fault;
 use order::OrderVerdict;
+use tables::Replay;
 ghost use mathlib.Core.Path.{_≡_};
 ghost use mathlib.Core.Bool.{false};
 ghost use mathlib.Core.List.{[], _∷_};
@@ -11,7 +12,7 @@ ghost use Prim.Native.Nat.{_+_, _*_, _^_, _≤_, _<_};
 ghost use lib.ListN.{length, getD, drop};
 ghost use Rattle.answers.specs.Answer.{accepted, passUp};
 ghost use Rattle.order.specs.Verdict.{answerOf as orderAnswerOf};
-ghost use Rattle.tables.specs.Ending.{Ends};
+ghost use Rattle.tables.specs.Ending.{endOf};
 ghost use Rattle.trains.specs.StepOn.{legalStepOn, ranOn};
 ghost use Rattle.trains.specs.StepsOn.{replayStepsOn};
 ghost use Rattle.timetable.specs.Timetable.{stepLength, stepPadSet, wrongTimetableLength, stepCount, stepMoves, stepsOf, timetableAnswer, offset, stepAnswer};
@@ -74,7 +75,7 @@ fn pad_set(step: &[u8]) -> bool
     requires { ⌜ length (now step) ≡ stepLength (getD (now step) 0 0) ⌝ }
     ensures { λ r. ⌜ r ≡ stepPadSet (now (step .entry)) ⌝ }
 {
-    if field::pad_after(&step[1..], field::wide(step[0])) != 0 {
+    if field::pad_after(&step[1..], 2 * field::wide(step[0])) != 0 {
         return true;
     }
     false
@@ -226,25 +227,26 @@ fn run_part(step: &[u8], matrix: &[u8; 4096], racks: &mut [u8; 64]) -> bool
     trains::run_step(&step[1..], field::wide(step[0]), matrix, racks)
 }
 
-// Replays the steps of a timetable on the table of racks: the number of the first that is not legal, or 0.
-fn replay(timetable: &[u8], count: usize, matrix: &[u8; 4096], racks: &mut [u8; 64]) -> usize
-    requires { ⌜ (wrongTimetableLength (now timetable) ≡ false) × (count ≡ stepCount (now timetable)) ⌝ }
-    ensures { λ r. ⌜ Ends (replayStepsOn (now (matrix .entry)) (now (racks .entry)) (stepsOf (now (timetable .entry)))) count r (now (racks .exit)) ⌝ }
+// Replays the steps of a timetable on the table of racks: to the first that is not legal.
+fn replay(timetable: &[u8], count: usize, matrix: &[u8; 4096], racks: &mut [u8; 64]) -> Replay
+    requires { ⌜ (wrongTimetableLength (now timetable) ≡ false) × (count ≡ stepCount (now timetable)) × (count < 2 ^ 22) ⌝ }
+    ensures { λ r. ⌜ endOf r (now (racks .exit)) ≡
+        replayStepsOn (now (matrix .entry)) (now (racks .entry)) (stepsOf (now (timetable .entry))) ⌝ }
 {
     let mut at = 3;
     let mut i = 0;
     while i < count {
         let next = at + step_length(timetable[at]);
         if !run_part(&timetable[at..next], matrix, racks) {
-            return i + 1;
+            return Replay::Stopped(Fault::TimetableStep, (i + 1) as u32);
         }
         at = next;
         i += 1;
     }
-    0
+    Replay::Ended
 }
 
-// 42 and 43, by tables: a matrix of the floor's edges, and the rack at each position.
+// The replay's fault, then 43, by tables: a matrix of the floor's edges, and the rack at each position.
 fn judge(
     order: &[u8],
     e: usize,
@@ -261,9 +263,9 @@ fn judge(
     order::mark_edges(order, e, &mut matrix);
     let mut racks = [0u8; 64];
     order::place_racks(order, 2 * e, m, &mut racks);
-    let illegal = replay(timetable, steps, &matrix, &mut racks);
-    if illegal != 0 {
-        return TimetableVerdict::Refused(Fault::TimetableStep, illegal as u32);
+    let replayed = replay(timetable, steps, &matrix, &mut racks);
+    if let Replay::Stopped(fault, place) = replayed {
+        return TimetableVerdict::Refused(fault, place);
     }
     let rack = tables::misplaced(order, 2 * e + m, m, &racks);
     if rack != 0 {

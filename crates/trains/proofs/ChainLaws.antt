@@ -1,6 +1,7 @@
 -- Laws of chains on tables.
 --
 --     led-same           where a table has racks where an arrangement has them, chains are led alike
+--     led-short          a train has at most one move more than the step
 --     led-iff-on         by a table of targets a chain ends at its leader exactly if `ledOn` finds that it does
 --     led-on, unled-on   both as equations
 --     noted-targets      the targets noted of ascending moves are the step's
@@ -18,13 +19,14 @@ use lib.Seq.{getD-set-same, getD-set-other}
 use lib.Dec.{T, eqb, not-T}
 use mir.Facts.{and-yes, yes-and, or-yes}
 use Rattle.field.specs.Bytes.{BelowPairs, none₂, more₂}
+use Rattle.order.specs.Order.{some}
 use Rattle.motion.specs.Arrangement.{Arrangement, occupied, vacant}
 use Rattle.motion.specs.Move.{goesTo}
 use Rattle.motion.specs.Step.{leaves, led}
 use Rattle.motion.proofs.StepTestsLaws.{or-left, or-right, leaves-iff}
 use Rattle.motion.specs.StepTests.{Ascends}
 use Rattle.motion.proofs.ListLaws.{pairwise-rel}
-use Rattle.motion.proofs.Trains.{led-enough}
+use Rattle.motion.proofs.Trains.{Chain, ends, leads as onward, chain-led, chain-length, led-enough}
 use Rattle.motion.proofs.Test.{equal?, eqb-parts}
 use Rattle.tables.specs.Tables.{heldAt}
 use Rattle.tables.proofs.TableLaws.{passed, failed, zeros-at}
@@ -85,11 +87,6 @@ held-standing h p =
     within : T (heldAt h p) → p < length h
     within t = dite (decLt p (length h)) (λ l. l) (λ l. absurd (rw (List·getD-eq-default h 0 {n = p} (omega arith)) at t))
 
-enough-on : (ms : List (ℕ × ℕ)) (h : List ℕ) (k p : ℕ) → T (ledOn k ms h p) → T (ledOn (length ms) ms h p)
-enough-on ms h k p t =
-    let A : Arrangement = standing (length h) h in
-    rw (led-same A h (held-standing h) ms (length ms) p) (led-enough A ms k p (rw (led-same A h (held-standing h) ms k p) at t))
-
 vacant-on : (h : List ℕ) (p : ℕ) → T (not (heldAt h p)) ↔ (getD h p 0 ≡ 0)
 unfolding heldAt
 vacant-on h p = (
@@ -111,40 +108,63 @@ module _ (ms : List (ℕ × ℕ)) (t h : List ℕ) (targets : Targets ms t) wher
       let g : getD t p 0 ≡ goesTo ms p + 1 = rw (passed (leaves ms p) l) at (targets .goes p) in
       (λ z. omega (arith, g, z), omega (arith, g))
 
-  led-to : (n : ℕ) {p : ℕ} → Led t h n p → T (ledOn n ms h p)
-  unfolding ledOn
-  led-to zero {p} (leads e) = vacant-on h p .1 e
-  led-to (suc n) {p} (follows o m l) =
-      let w = target-left p m in
-      or-right (not (heldAt h p)) _ (yes-and (leaves ms p) _ (w .0) (subst (λ (q : ℕ). T (ledOn n ms h q)) (w .1) (led-to n l)))
+  -- the racks of the table h, as an arrangement
+  abbrev there : Arrangement
+  there = standing (length h) h
+
+  same-there : (k p : ℕ) → ledOn k ms h p ≡ led k ms there p
+  same-there = led-same (standing (length h) h) h (held-standing h) ms
+
+  vacant-there : (p : ℕ) → T (vacant there p) ↔ (getD h p 0 ≡ 0)
+  unfolding vacant
+  vacant-there p = rw (← held-standing h p) (vacant-on h p)
+
+  -- a train comes through as many positions as it has moves behind its first
+  led-passes : {n p : ℕ} → Led t h n p → (ps : List ℕ) × (n ≡ suc (length ps)) × Chain there ms p ps
+  led-passes {p} (leads e) = ([], refl, ends (vacant-there p .1 e))
+  led-passes {p} (follows o m l) =
+      let w = led-passes l in
+      let g = target-left p m in
+      let on : Chain there ms (goesTo ms p) (w .0) = subst (λ (q : ℕ). Chain there ms q (w .0)) (g .1) (w .2) in
+      (p ∷ w .0, ap suc (w .1), onward (λ v. o (vacant-there p .0 v)) (g .0) on)
+
+  pub led-short : (n p : ℕ) → Led t h n p → n ≤ suc (length ms)
+  led-short n p l = let w = led-passes l in omega (arith, w .1, chain-length there ms (w .2))
 
   led-from : (k p : ℕ) → T (ledOn k ms h p) → (n : ℕ) × Led t h n p
   unfolding ledOn
-  led-from zero p u = (0, leads (vacant-on h p .0 u))
+  led-from zero p u = (1, leads (vacant-on h p .0 u))
   led-from (suc k) p u =
       ⊎-elim
-      (λ (e : getD h p 0 ≡ 0). (0, leads e))
+      (λ (e : getD h p 0 ≡ 0). (1, leads e))
       (λ (d : getD h p 0 ≢ 0).
-      let b = ⊎-elim (λ v. absurd (d (vacant-on h p .0 v))) (and-yes (leaves ms p) (ledOn k ms h (goesTo ms p))) (or-yes (not (heldAt h p)) _ u) in
+      let b = ⊎-elim (λ v. absurd (d (vacant-on h p .0 v))) (and-yes (leaves ms p) (ledOn k ms h (goesTo ms p)))
+      (or-yes (not (heldAt h p)) _ u) in
       let g = left-target p (b .0) in
       let w = led-from k (goesTo ms p) (b .1) in
       (suc (w .0), follows d (g .0) (subst (λ (q : ℕ). Led t h (w .0) q) (sym (g .1)) (w .1))))
       (equal? (getD h p 0) 0)
 
   pub led-iff-on : (p : ℕ) → ((n : ℕ) × Led t h n p) ↔ T (ledOn (length ms) ms h p)
-  led-iff-on p = (λ w. enough-on ms h (w .0) p (led-to (w .0) (w .1)), led-from (length ms) p)
+  led-iff-on p = (
+    λ w.
+        let c = led-passes (w .1) in
+        rw (same-there (length ms) p) (led-enough there ms (length (c .0)) p (chain-led there ms (c .2))),
+    led-from (length ms) p,
+  )
 
   pub led-on : (p : ℕ) → (n : ℕ) × Led t h n p → ledOn (length ms) ms h p ≡ true
   led-on p w = passed (ledOn (length ms) ms h p) (led-iff-on p .0 w)
 
   pub unled-on : (p : ℕ) → ((n : ℕ) → Led t h n p → ⊥) → ledOn (length ms) ms h p ≡ false
-  unled-on p none = failed (ledOn (length ms) ms h p) (not-T (ledOn (length ms) ms h p) (λ u. let w = led-iff-on p .1 u in none (w .0) (w .1)))
+  unled-on p none =
+      failed (ledOn (length ms) ms h p) (not-T (ledOn (length ms) ms h p) (λ u. let w = led-iff-on p .1 u in none (w .0) (w .1)))
 
 -- what is noted
 
 noted-at : (t : List ℕ) {ms : List (ℕ × ℕ)} → BelowPairs 64 ms → length t ≡ 64 → Ascends ms → (p : ℕ)
     → getD (noted t ms) p 0 ≡ cond (leaves ms p) (goesTo ms p + 1) (getD t p 0)
-unfolding noted leaves goesTo
+unfolding noted leaves some goesTo
 noted-at t none₂ n up p = refl
 noted-at t (more₂ {p = m} {l = ms} k₀ k₁ r) n up p =
     noted-at (set t (m .0) (m .1 + 1)) r (length-set t (m .0) (m .1 + 1) ∙ n) (Pairwise·of-cons up) p
@@ -162,7 +182,8 @@ noted-at t (more₂ {p = m} {l = ms} k₀ k₁ r) n up p =
         (not-T (leaves ms (m .0))
         (λ u. let w = leaves-iff ms (m .0) .0 u in let less : m .0 < w .0 .0 = pairwise-rel up (w .1) in omega (arith, less, w .2)))
 
-noted-below : (t : List ℕ) {ms : List (ℕ × ℕ)} → BelowPairs 64 ms → length t ≡ 64 → ((p : ℕ) → getD t p 0 ≤ 64) → (p : ℕ) → getD (noted t ms) p 0 ≤ 64
+noted-below : (t : List ℕ) {ms : List (ℕ × ℕ)} → BelowPairs 64 ms → length t ≡ 64 → ((p : ℕ) → getD t p 0 ≤ 64) → (p : ℕ)
+    → getD (noted t ms) p 0 ≤ 64
 unfolding noted
 noted-below t none₂ n b = b
 noted-below t (more₂ {p = m} {l = ms} k₀ k₁ r) n b =

@@ -28,6 +28,7 @@ use Rattle.motion.specs.Arrangement.{occupied, vacant}
 use Rattle.motion.specs.Move.{goesTo, after}
 use Rattle.motion.specs.Step.{every, ascends, leaves, enters, enteredOnce}
 use Rattle.motion.specs.Replay.{ended, replayFrom, replaySteps}
+use Rattle.motion.proofs.StepDecision.{legalStep?}
 use Rattle.motion.specs.Judgement.{judged}
 use Rattle.motion.specs.Sound.{Sound}
 use Rattle.motion.proofs.SoundLaws.{isSound, isSound-sound}
@@ -40,7 +41,7 @@ use Rattle.tables.proofs.TableLaws.{placed-holds}
 use Rattle.tables.proofs.MovesOnLaws.{matrixOf, tableOf}
 use Rattle.tables.specs.Simulation.{Each, each-none, each-more}
 use Rattle.trains.specs.StepOn.{ledOn, soundMoves, allLed, legalStepOn, takenUp, putDown, stepOn, ranOn}
-use Rattle.trains.specs.StepsOn.{replayStepsOn}
+use Rattle.trains.specs.StepsOn.{stepFaultOn, replayStepsOn}
 use Rattle.trains.proofs.StepsOnLaws.{steps-judged}
 
 pub floorF-few : floorF .positions ≤ 64
@@ -85,11 +86,13 @@ timetable-small = each-more (below-64 ((0, 1) ∷ (3, 2) ∷ []) tt) (each-more 
 -- case 1
 
 pub case-1-first : legalStepOn (matrixOf floorF) (tableOf starts) ((0, 1) ∷ (3, 2) ∷ []) ≡ true
-unfolding matrixOf tableOf marked placed legalStepOn soundMoves allLed ledOn every ascends enteredOnce enters leaves goesTo edgeAt heldAt
+unfolding matrixOf tableOf marked placed legalStepOn soundMoves allLed ledOn every ascends enteredOnce enters leaves some goesTo edgeAt
+    heldAt
 case-1-first = refl
 
 pub case-1-second : legalStepOn (matrixOf floorF) (tableOf (1 ∷ 2 ∷ [])) ((1, 3) ∷ (2, 0) ∷ []) ≡ true
-unfolding matrixOf tableOf marked placed legalStepOn soundMoves allLed ledOn every ascends enteredOnce enters leaves goesTo edgeAt heldAt
+unfolding matrixOf tableOf marked placed legalStepOn soundMoves allLed ledOn every ascends enteredOnce enters leaves some goesTo edgeAt
+    heldAt
 case-1-second = refl
 
 pub case-1-made : stepOn (tableOf starts) ((0, 1) ∷ (3, 2) ∷ []) ≡ tableOf (after starts ((0, 1) ∷ (3, 2) ∷ []))
@@ -97,30 +100,35 @@ unfolding tableOf placed stepOn takenUp putDown after goesTo
 case-1-made = refl
 
 pub case-1-tables : replayStepsOn (matrixOf floorF) (tableOf starts) timetable ≡ ended (tableOf goals)
-unfolding replayStepsOn replayFrom matrixOf tableOf marked placed legalStepOn soundMoves allLed ledOn every ascends enteredOnce enters leaves goesTo edgeAt heldAt stepOn takenUp putDown
+unfolding replayStepsOn replayFrom stepFaultOn matrixOf tableOf marked placed legalStepOn soundMoves allLed ledOn every ascends
+    enteredOnce enters leaves some goesTo edgeAt heldAt stepOn takenUp putDown
 case-1-tables = refl
 
-pub case-1-judged : judgedOn 42 43 goals (2 ∷ 4 ∷ []) (replayStepsOn (matrixOf floorF) (tableOf starts) timetable) ≡ judged 42 43 goals (2 ∷ 4 ∷ []) (replaySteps floorF starts timetable)
-case-1-judged = steps-judged floorF floorF-few floorF-below floorF-right starts starts-sound timetable-small 42 43 goals (2 ∷ 4 ∷ []) refl
+pub case-1-judged : judgedOn 43 goals (2 ∷ 4 ∷ []) (replayStepsOn (matrixOf floorF) (tableOf starts) timetable)
+    ≡ judged 43 goals (2 ∷ 4 ∷ []) (replaySteps (legalStep? floorF) starts timetable)
+case-1-judged = steps-judged floorF floorF-few floorF-below floorF-right starts starts-sound timetable-small 43 goals (2 ∷ 4 ∷ []) refl
 
-pub case-1-accepted : judgedOn 42 43 goals (2 ∷ 4 ∷ []) (replayStepsOn (matrixOf floorF) (tableOf starts) timetable) ≡ accepted (2 ∷ 4 ∷ [])
+pub case-1-accepted : judgedOn 43 goals (2 ∷ 4 ∷ []) (replayStepsOn (matrixOf floorF) (tableOf starts) timetable) ≡ accepted (2 ∷ 4 ∷ [])
 unfolding judgedOn misplacedOn tableOf placed
 case-1-accepted = rw case-1-tables refl
 
 -- case 2
 
 pub case-2-tables : replayStepsOn (matrixOf floorF) (tableOf (0 ∷ 1 ∷ [])) (((0, 1) ∷ (1, 3) ∷ []) ∷ []) ≡ ended (tableOf (1 ∷ 3 ∷ []))
-unfolding replayStepsOn replayFrom matrixOf tableOf marked placed legalStepOn soundMoves allLed ledOn every ascends enteredOnce enters leaves goesTo edgeAt heldAt stepOn takenUp putDown
+unfolding replayStepsOn replayFrom stepFaultOn matrixOf tableOf marked placed legalStepOn soundMoves allLed ledOn every ascends
+    enteredOnce enters leaves some goesTo edgeAt heldAt stepOn takenUp putDown
 case-2-tables = refl
 
 -- case 3: racks at 0, 1, 2
 
 pub case-3-ring : legalStepOn (matrixOf floorF) (tableOf (0 ∷ 1 ∷ 2 ∷ [])) ((0, 1) ∷ (1, 2) ∷ (2, 0) ∷ []) ≡ false
-unfolding matrixOf tableOf marked placed legalStepOn soundMoves allLed ledOn every ascends enteredOnce enters leaves goesTo edgeAt heldAt
+unfolding matrixOf tableOf marked placed legalStepOn soundMoves allLed ledOn every ascends enteredOnce enters leaves some goesTo edgeAt
+    heldAt
 case-3-ring = refl
 
 pub case-3-swap : legalStepOn (matrixOf floorF) (tableOf (0 ∷ 1 ∷ 2 ∷ [])) ((0, 1) ∷ (1, 0) ∷ []) ≡ false
-unfolding matrixOf tableOf marked placed legalStepOn soundMoves allLed ledOn every ascends enteredOnce enters leaves goesTo edgeAt heldAt
+unfolding matrixOf tableOf marked placed legalStepOn soundMoves allLed ledOn every ascends enteredOnce enters leaves some goesTo edgeAt
+    heldAt
 case-3-swap = refl
 
 pub case-3-stays : ranOn (matrixOf floorF) (tableOf (0 ∷ 1 ∷ 2 ∷ [])) ((0, 1) ∷ (1, 2) ∷ (2, 0) ∷ []) ≡ tableOf (0 ∷ 1 ∷ 2 ∷ [])

@@ -42,5 +42,6 @@ module _ (F : Floor) (below : BelowPairs 64 (F .edges)) (right : wrongEdges F 鈮
       rw (
         edges-on b,
         every-same (位 m. heldAt h (m .0)) (位 m. occupied A (m .0)) (位 m. same (m .0)) ms,
-        every-same (位 m. ledOn (length ms) ms h (m .1)) (位 m. led (length ms) ms A (m .1)) (位 m. led-same A h same ms (length ms) (m .1)) ms,
+        every-same (位 m. ledOn (length ms) ms h (m .1)) (位 m. led (length ms) ms A (m .1)) (位 m. led-same A h same ms (length ms) (m .1))
+            ms,
       ) refl

@@ -2,19 +2,22 @@
 --
 --     sound-targets   moves that the first pass passes have their targets noted
 --     sound-taking    and each takes a rack along to its target
---     not-sound       a step that it does not pass is not legal, and the racks stay
---     not-led         nor is one that the second does not pass
---     ran             one that both pass is legal, and made
+--     not-sound       a step that it does not pass is not legal
+--     sound           one that it passes is judged by the second
+--     stays, ran      where a step is not legal the racks stay, and else it is made
+--     not-read        more moves than are read are no legal step
 -- Assumes nothing.
-use Prim.Native.Nat.{ℕ}
+use Prim.Native.Nat.{ℕ, _<_}
 use mathlib.Core.Path.{_≡_, refl, sym, _∙_, subst}
-use mathlib.Core.Bool.{true, false, _&&_}
+use mathlib.Core.Bool.{Bool, true, false, _&&_}
 use mathlib.Core.List.{List, [], _∷_, List·Memᴰ, List·Memᴰ·head, List·Memᴰ·tail}
 use borrow.Author.Tests.{eq-eqb}
 use lib.ListN.{getD, replicate}
 use lib.Dec.{T}
 use mir.Facts.{and-yes}
+use Rattle.field.specs.Bits.{pairs}
 use Rattle.field.specs.Bytes.{BelowPairs}
+use Rattle.field.proofs.RecordLaws.{length-pairs, pairs-lt}
 use Rattle.motion.specs.Step.{every, ascends, leaves, enteredOnce}
 use Rattle.motion.proofs.StepTestsLaws.{ascends-iff, every-iff, leaves-iff, goesTo-takes}
 use Rattle.tables.specs.Tables.{edgeAt, heldAt}
@@ -23,6 +26,7 @@ use Rattle.tables.specs.Simulation.{Each, each-none, each-more}
 use Rattle.trains.specs.StepOn.{soundMoves, allLed, legalStepOn, stepOn, ranOn}
 use Rattle.trains.specs.Chains.{noted, Targets, Taking}
 use Rattle.trains.proofs.ChainLaws.{noted-targets}
+use Rattle.trains.proofs.Noting.{too-many}
 
 each-member : {X : Type 0} {P : X → Type 0} (l : List X) → ((x : X) → List·Memᴰ x l → P x) → Each P l
 each-member [] f = each-none
@@ -50,22 +54,21 @@ module _ (g h : List ℕ) (ms : List (ℕ × ℕ)) where
         targets .goes (m .0) ∙ rw (passed (leaves ms (m .0)) (leaves-iff ms (m .0) .1 (m, k, refl)), goesTo-takes up k) refl,
       ))
 
-  stays : legalStepOn g h ms ≡ false → (false ≡ legalStepOn g h ms) × (h ≡ ranOn g h ms)
+  pub not-sound : soundMoves g h ms ≡ false → false ≡ legalStepOn g h ms
+  unfolding legalStepOn
+  not-sound e = rw e refl
+
+  pub sound : (r : Bool) → soundMoves g h ms ≡ true → r ≡ allLed h ms → r ≡ legalStepOn g h ms
+  unfolding legalStepOn
+  sound r e f = rw e f
+
+  pub stays : legalStepOn g h ms ≡ false → h ≡ ranOn g h ms
   unfolding ranOn
-  stays e = (sym e, rw e refl)
+  stays e = rw e refl
 
-  pub not-sound : soundMoves g h ms ≡ false → (false ≡ legalStepOn g h ms) × (h ≡ ranOn g h ms)
-  not-sound e = stays none
-    where
-      none : legalStepOn g h ms ≡ false
-      none = unfold legalStepOn in rw e refl
+  pub ran : (h′ : List ℕ) → legalStepOn g h ms ≡ true → h′ ≡ stepOn h ms → h′ ≡ ranOn g h ms
+  unfolding ranOn
+  ran h′ e is = rw e is
 
-  pub not-led : soundMoves g h ms ≡ true → allLed h ms ≡ false → (false ≡ legalStepOn g h ms) × (h ≡ ranOn g h ms)
-  not-led e f = stays none
-    where
-      none : legalStepOn g h ms ≡ false
-      none = unfold legalStepOn in rw (e, f) refl
-
-  pub ran : (h′ : List ℕ) → soundMoves g h ms ≡ true → allLed h ms ≡ true → h′ ≡ stepOn h ms → (true ≡ legalStepOn g h ms) × (h′ ≡ ranOn g h ms)
-  unfolding ranOn legalStepOn
-  ran h′ e f is = (rw (e, f) refl, rw (e, f) is)
+pub not-read : (g h s : List ℕ) (c : ℕ) → 64 < c → false ≡ legalStepOn g h (pairs s 0 c)
+not-read g h s c many = not-sound g h (pairs s 0 c) (too-many g h (pairs-lt s 0 c) (rw (length-pairs s 0 c) many))

@@ -19,11 +19,12 @@ use Rattle.motion.specs.Arrangement.{Arrangement, vacant}
 use Rattle.motion.proofs.ArrangementLaws.{occupied-rack, vacant-racks}
 use Rattle.motion.specs.Move.{goesTo, after}
 use Rattle.motion.proofs.MoveLaws.{after-length, after-at}
-use Rattle.motion.specs.Step.{leaves, enters, Train, leader, follows}
+use Rattle.motion.specs.Step.{leaves, enters}
 use Rattle.motion.specs.StepTests.{EnteredOnce}
-use Rattle.motion.proofs.StepTestsLaws.{occupied-iff, vacant-iff, leaves-iff, enters-iff, Goes, taken, stays, goesTo-cases, goesTo-stays, goesTo-takes}
+use Rattle.motion.proofs.StepTestsLaws.{occupied-iff, vacant-iff, leaves-iff, enters-iff}
+use Rattle.motion.proofs.StepTestsLaws.{Goes, taken, stays, goesTo-cases, goesTo-stays, goesTo-takes}
 use Rattle.motion.proofs.Trains.{train-member}
-use Rattle.motion.specs.LegalStep.{LegalStep}
+use Rattle.motion.specs.LegalStep.{Train, leader, follows, LegalStep}
 use Rattle.motion.proofs.ListLaws.{by-member, pairwise-rel}
 use Rattle.motion.proofs.Test.{equal?, decided}
 use Rattle.tables.proofs.TablesLaws.{Holds}
@@ -39,7 +40,8 @@ unfolding putDown
 putDown-length b h [] = refl
 putDown-length b h (m ∷ ms) = putDown-length b (set h (m .1) (getD b (m .0) 0)) ms ∙ length-set h (m .1) (getD b (m .0) 0)
 
-pub takenUp-other : (h : List ℕ) (ms : List (ℕ × ℕ)) (q : ℕ) → ((m : ℕ × ℕ) → List·Memᴰ m ms → m .0 ≢ q) → getD (takenUp h ms) q 0 ≡ getD h q 0
+pub takenUp-other : (h : List ℕ) (ms : List (ℕ × ℕ)) (q : ℕ) → ((m : ℕ × ℕ) → List·Memᴰ m ms → m .0 ≢ q)
+    → getD (takenUp h ms) q 0 ≡ getD h q 0
 unfolding takenUp
 takenUp-other h [] q away = refl
 takenUp-other h (m ∷ ms) q away =
@@ -65,7 +67,8 @@ takenUp-left h (x ∷ ms) {m} k l =
     (λ e. takenUp-none (set h (x .0) 0) ms (m .0) (rw (length-set h (x .0) 0) l) (rw (← e) (getD-set-same h (m .0) 0 0 l)))
     (λ n. takenUp-left (set h (x .0) 0) ms n (rw (length-set h (x .0) 0) l))
 
-pub putDown-other : (b h : List ℕ) (ms : List (ℕ × ℕ)) (q : ℕ) → ((m : ℕ × ℕ) → List·Memᴰ m ms → m .1 ≢ q) → getD (putDown b h ms) q 0 ≡ getD h q 0
+pub putDown-other : (b h : List ℕ) (ms : List (ℕ × ℕ)) (q : ℕ) → ((m : ℕ × ℕ) → List·Memᴰ m ms → m .1 ≢ q)
+    → getD (putDown b h ms) q 0 ≡ getD h q 0
 unfolding putDown
 putDown-other b h [] q away = refl
 putDown-other b h (m ∷ ms) q away =
@@ -84,7 +87,8 @@ putDown-entered b h (x ∷ ms) {m} o k l =
     ∙ getD-set-same h (x .1) (getD b (x .0) 0) 0 (rw e at l)))
     (λ n. putDown-entered b (set h (x .1) (getD b (x .0) 0)) ms (Pairwise·of-cons o) n (rw (length-set h (x .1) (getD b (x .0) 0)) l))
 
-module _ (F : Floor) (few : F .positions ≤ 64) (A : Arrangement) (h : List ℕ) (holds : Holds A h) (ms : List (ℕ × ℕ)) (s : LegalStep F A ms) where
+module _ (F : Floor) (few : F .positions ≤ 64) (A : Arrangement) (h : List ℕ) (holds : Holds A h) (ms : List (ℕ × ℕ))
+    (s : LegalStep F A ms) where
   entered : {m : ℕ × ℕ} → List·Memᴰ m ms → getD (stepOn h ms) (m .1) 0 ≡ getD h (m .0) 0
   unfolding stepOn
   entered {m} k =
@@ -97,9 +101,9 @@ module _ (F : Floor) (few : F .positions ≤ 64) (A : Arrangement) (h : List ℕ
 
   -- no move enters a position whose rack stays
   alone : (q : ℕ) → List·Memᴰ q A → ((m : ℕ × ℕ) → List·Memᴰ m ms → m .0 ≢ q) → (m : ℕ × ℕ) → List·Memᴰ m ms → m .1 ≢ q
-  alone q there stay m k e = on (s .trains m k)
+  alone q there stay m k e = on (s .trains m k .1)
     where
-      on : Train A ms m → ⊥
+      on : {i : ℕ} → Train A ms i m → ⊥
       on (leader n v) = vacant-iff A (m .1) .0 v (Memᴰ·cast e there)
       on (follows {m′ = m′} n f t) = stay m′ (train-member A ms t) (sym f ∙ e)
 

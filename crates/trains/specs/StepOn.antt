@@ -1,6 +1,7 @@
 -- A step on tables: the definitions of crates/motion's Step and Move, with a matrix of edges for the floor and a table of racks for the
 -- arrangement (crates/tables). `ascends`, `enteredOnce`, `leaves` and `goesTo` speak of the moves alone, and are motion's own.
 --
+--     entries d j k        the k moves that the table d has from place j on: a move from a to b is the number a * 64 + b
 --     ledOn k ms h p       by the table h, the chain of a move into p ends at its leader, at most k moves further on
 --     soundMoves g h ms    a step's moves, but for the trains: they ascend, run along edges, take racks along, enter no position twice
 --     allLed h ms          each of the moves belongs to a train with a leader
@@ -10,13 +11,17 @@
 --     stepOn h ms          the table that the moves ms, made all at once, make of h
 --     ranOn g h ms         the table after the step ms: as it was, where the step is not legal
 -- Assumes nothing.
-use Prim.Native.Nat.{ℕ, zero, suc}
+use Prim.Native.Nat.{ℕ, zero, suc, _+_, _/_, _%_}
 use mathlib.Core.Bool.{Bool, not, cond, _&&_, _||_}
 use mathlib.Core.List.{List, [], _∷_}
 use lib.ListN.{length, getD, set}
 use Rattle.motion.specs.Move.{goesTo}
 use Rattle.motion.specs.Step.{every, ascends, leaves, enteredOnce}
 use Rattle.tables.specs.Tables.{edgeAt, heldAt}
+
+unfoldable pub entries : List ℕ → ℕ → ℕ → List (ℕ × ℕ)
+entries d j zero = []
+entries d j (suc k) = (getD d j 0 / 64 % 64, getD d j 0 % 64) ∷ entries d (j + 1) k
 
 -- "The chain is followed rack by rack to its leader: a move into a position left in the same step follows that move, and the
 -- chain has to end at a move into a position vacant before the step."

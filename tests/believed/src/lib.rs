@@ -19,18 +19,13 @@ const CONTRACTS: [(&str, &[&str]); 4] = [
 ];
 
 /// The records that the main theorems state; of a file without names, all of it.
-const THEOREMS: [(&str, &[&str]); 11] = [
+const THEOREMS: [(&str, &[&str]); 6] = [
     ("crates/order/specs/Theorems.antt", &[]),
     ("crates/plan/specs/Solutions.antt", &[]),
     ("crates/timetable/specs/Solutions.antt", &[]),
     ("crates/motion/specs/LegalStep.antt", &[]),
-    ("crates/motion/specs/Step.antt", &["Train"]),
     ("crates/floor/specs/Plannable.antt", &[]),
-    ("crates/breakdown/specs/Answer.antt", &[]),
-    ("crates/controller/specs/Unpacked.antt", &[]),
-    ("crates/planner/specs/Planned.antt", &[]),
     ("crates/scheduling/specs/Maker.antt", &["Timetabled"]),
-    ("crates/casebook/specs/CaseBook.antt", &["Claim", "starred"]),
 ];
 
 /// A decision carries the proof that it decides: what it decides stands in its type, and nobody has to believe the rest.

@@ -1,4 +1,5 @@
--- `breakdown::break_down` meets its contract. On a bi-connected floor there is a ring to choose (`ExistLaws`), and one through every position is the whole floor (`RingLaws`).
+-- `breakdown::break_down` meets its contract. On a bi-connected floor there is a ring to choose (`ExistLaws`), and one through every
+-- position is the whole floor (`RingLaws`).
 -- Assumes nothing.
 use mathlib.Core.Path.{refl}
 use native.Mathlib.Omega.{arith}
@@ -17,25 +18,42 @@ nothing-requires c κs = search needs
 
 returns : tie.Need-returns
 returns c =
-    answer-none (c .nothing .ensures) (λ bi ring. ring-exists (c .before .before .before .before .pre) bi _ _ _ (c .before .before .before .choose-ring .ensures) (c .before .if1 .taken))
+    let after-choose-ring = c .before .before .before in
+    let entry = after-choose-ring .before in
+    answer-none (c .nothing .ensures) (λ bi ring. ring-exists (entry .pre) bi _ _ _ (after-choose-ring .choose-ring .ensures)
+    (c .before .if1 .taken))
 
 lay-ring-requires : tie.Need-lay-ring-requires
-lay-ring-requires c κs = (c .before .before .before .before .pre, (omega arith, (c .before .before .before .choose-ring .ensures, refl)))
+lay-ring-requires c κs =
+    let after-choose-ring = c .before .before .before in
+    let entry = after-choose-ring .before in
+    (entry .pre, (omega arith, (after-choose-ring .choose-ring .ensures, refl)))
 
 nothing-requires-2 : tie.Need-nothing-requires-2
 nothing-requires-2 c κs = search needs
 
 returns-2 : tie.Need-returns-2
 returns-2 c =
-    let l = c .before .before .before .lay-ring in
-    answer-none (c .nothing2 .ensures) (λ bi ring. ring (record { biConnected = bi; count = ring-counts _ _ _ _ _ _ (c .before .before .before .before .before .before .before .before .pre) (l .ensures .0) (c .before .before .before .before .before .before .before .choose-ring .ensures) (l .ensures .1) (omega arith) }))
+    let after-lay-ring = c .before .before .before in
+    let after-struct-known = after-lay-ring .before .before .before in
+    let after-choose-ring = after-struct-known .before in
+    let entry = after-choose-ring .before in
+    let l = after-lay-ring .lay-ring in
+    answer-none (c .nothing2 .ensures) (λ bi ring. ring (record {
+      biConnected = bi;
+      count = ring-counts _ _ _ _ _ _ (entry .pre) (l .ensures .0) (after-choose-ring .choose-ring .ensures) (l .ensures .1)
+          (omega arith);
+    }))
 
 add-handles-requires : tie.Need-add-handles-requires
 add-handles-requires c κs = search needs
 
 returns-3 : tie.Need-returns-3
 returns-3 c =
-    answer-found (c .before .before .before .before .before .before .before .before .before .pre) (c .add-handles .ensures)
+    let after-struct-known2 = c .before .before .before in
+    let else1 = after-struct-known2 .before .before .before in
+    let entry = else1 .before .before .before in
+    answer-found (entry .pre) (c .add-handles .ensures)
 
 pub break-down-spec : {M : Type 1} → statement M
 break-down-spec =

@@ -29,7 +29,9 @@ loop-again : tie.Need-loop-again Inv-loop μ-loop
 loop-again c = (omega arith, c .choose-handle-at .ensures)
 
 returns : tie.Need-returns Inv-loop μ-loop
-returns c = handle-done (c .before .before .args .rows .now) (c .before .before .args .settled) (c .before .before .pre) _ _ _ _ (omega arith) (c .before .loop .inv .1)
+returns c =
+    handle-done (c .before .before .args .rows .now) (c .before .before .args .settled) (c .before .before .pre) _ _ _ _
+    (omega arith) (c .before .loop .inv .1)
 
 pub choose-handle-spec : {M : Type 1} → statement M
 choose-handle-spec =

@@ -1,5 +1,5 @@
--- `breakdown::choose_ring_at` meets its contract. The invariant: of the pairs that begin at a, those that go on to none of `rest` are done, and
--- `rest` has positions beside a alone.
+-- `breakdown::choose_ring_at` meets its contract. The invariant: of the pairs that begin at a, those that go on to none of `rest` are done,
+-- and `rest` has positions beside a alone.
 -- Assumes nothing.
 use Prim.Native.Nat.{ℕ}
 use native.Mathlib.Omega.{arith}
@@ -13,7 +13,8 @@ use Rattle.breakdown.proofs.choose_ring_at.Statement.{statement}
 use Rattle.breakdown.proofs.choose_ring_at.Tie as tie
 
 abbrev Inv-loop : tie.InvT-loop
-Inv-loop rows n a best₀ rest₀ best rest = RingChoice n rows (Upto a rest) (best .from) (best .to) (best .size) × ((y : ℕ) → Has rest y → Edge rows a y)
+Inv-loop rows n a best₀ rest₀ best rest =
+    RingChoice n rows (Upto a rest) (best .from) (best .to) (best .size) × ((y : ℕ) → Has rest y → Edge rows a y)
 
 abbrev μ-loop : tie.MeasureT-loop
 μ-loop rows n a best₀ rest₀ best rest = ones rest
@@ -32,9 +33,10 @@ lowest-requires c κs = omega arith
 
 ring-size-requires : tie.Need-ring-size-requires Inv-loop μ-loop
 ring-size-requires c κs =
-    let s = c .before .before .before .before in
-    let edge = c .before .before .loop .inv .1 (c .lowest .result) (c .lowest .ensures .1 .0) in
-    (s .pre .0, (s .pre .1 .0, s .pre .0 .inside _ _ edge .1))
+    let at-loop = c .before .before in
+    let entry = at-loop .before .before in
+    let edge = at-loop .loop .inv .1 (c .lowest .result) (c .lowest .ensures .1 .0) in
+    (entry .pre .0, (entry .pre .1 .0, entry .pre .0 .inside _ _ edge .1))
 
 better-requires : tie.Need-better-requires Inv-loop μ-loop
 better-requires c κs = tt
@@ -49,11 +51,15 @@ loop-less c =
 
 loop-again : tie.Need-loop-again Inv-loop μ-loop
 loop-again c =
-    let w = c .before .before .before .lowest in
-    let l = c .before .before .before .before .before .loop in
-    let s = c .before .before .before .before .before .before .before in
+    let after-ring-size = c .before .before in
+    let after-lowest = after-ring-size .before in
+    let at-loop = after-lowest .before .before in
+    let entry = at-loop .before .before in
+    let w = after-lowest .lowest in
+    let l = at-loop .loop in
     let edge = l .inv .1 (w .result) (w .ensures .1 .0) in (
-      ring-turn (s .args .rows .now) _ _ _ _ _ _ _ _ _ _ _ (c .without .ensures) edge (c .before .before .ring-size .ensures) (c .before .better .ensures) (l .inv .0),
+      ring-turn (entry .args .rows .now) _ _ _ _ _ _ _ _ _ _ _ (c .without .ensures) edge (after-ring-size .ring-size .ensures)
+          (c .before .better .ensures) (l .inv .0),
       λ y h. l .inv .1 y (c .without .ensures y .0 h .0),
     )
 

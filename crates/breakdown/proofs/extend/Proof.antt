@@ -11,7 +11,8 @@ use Rattle.breakdown.proofs.extend.Statement.{statement}
 use Rattle.breakdown.proofs.extend.Tie as tie
 
 abbrev Inv-loop : tie.InvT-loop
-Inv-loop at k m order₀ settled₀ i₀ order settled i = (i ≤ k) × Extended at i m order₀ order settled × ((j : ℕ) → i ≤ j → j < k → Has settled (row at j) → ⊥)
+Inv-loop at k m order₀ settled₀ i₀ order settled i =
+    (i ≤ k) × Extended at i m order₀ order settled × ((j : ℕ) → i ≤ j → j < k → Has settled (row at j) → ⊥)
 
 abbrev μ-loop : tie.MeasureT-loop
 μ-loop at k m order₀ settled₀ i₀ order settled i = k - i
@@ -23,37 +24,49 @@ element-copy-out-p : tie.Need-element-copy-out-p Inv-loop μ-loop
 element-copy-out-p c =
     let i = c .before .loop .i in
     let small = c .before .before .pre .1 .small i (omega arith) in
-    let room = settled-room (c .before .loop .inv .1 .settled) (row (c .before .before .args .at .now) i) small (c .before .loop .inv .2 i (omega arith) (omega arith)) in
+    let room = settled-room (c .before .loop .inv .1 .settled) (row (c .before .before .args .at .now) i) small
+    (c .before .loop .inv .2 i (omega arith) (omega arith)) in
     omega arith
 
 add-order : tie.Need-add-order Inv-loop μ-loop
 add-order c =
     let i = c .before .before .loop .i in
     let small = c .before .before .before .pre .1 .small i (omega arith) in
-    let room = settled-room (c .before .before .loop .inv .1 .settled) (row (c .before .before .before .args .at .now) i) small (c .before .before .loop .inv .2 i (omega arith) (omega arith)) in
+    let room = settled-room (c .before .before .loop .inv .1 .settled) (row (c .before .before .before .args .at .now) i) small
+    (c .before .before .loop .inv .2 i (omega arith) (omega arith)) in
     omega arith
 
 element-write-order : tie.Need-element-write-order Inv-loop μ-loop
 element-write-order c =
     let i = c .before .before .loop .i in
     let small = c .before .before .before .pre .1 .small i (omega arith) in
-    let room = settled-room (c .before .before .loop .inv .1 .settled) (row (c .before .before .before .args .at .now) i) small (c .before .before .loop .inv .2 i (omega arith) (omega arith)) in
+    let room = settled-room (c .before .before .loop .inv .1 .settled) (row (c .before .before .before .args .at .now) i) small
+    (c .before .before .loop .inv .2 i (omega arith) (omega arith)) in
     omega arith
 
 cast-with : tie.Need-cast-with Inv-loop μ-loop
 cast-with c =
-    let i = c .before .before .before .loop .i in
-    let small = c .before .before .before .before .pre .1 .small i (omega arith) in
+    let at-loop = c .before .before .before in
+    let entry = at-loop .before in
+    let i = at-loop .loop .i in
+    let small = entry .pre .1 .small i (omega arith) in
     omega arith
 
 with-requires : tie.Need-with-requires Inv-loop μ-loop
-with-requires c κs = c .before .before .before .before .pre .1 .small (c .before .before .before .loop .i) (omega arith)
+with-requires c κs =
+    let at-loop = c .before .before .before in
+    let entry = at-loop .before in
+    entry .pre .1 .small (at-loop .loop .i) (omega arith)
 
 add-i : tie.Need-add-i Inv-loop μ-loop
 add-i c =
-    let i = c .before .before .before .before .loop .i in
-    let small = c .before .before .before .before .before .pre .1 .small i (omega arith) in
-    let room = settled-room (c .before .before .before .before .loop .inv .1 .settled) (row (c .before .before .before .before .before .args .at .now) i) small (c .before .before .before .before .loop .inv .2 i (omega arith) (omega arith)) in
+    let in-loop = c .before .before .before in
+    let at-loop = in-loop .before in
+    let entry = at-loop .before in
+    let i = at-loop .loop .i in
+    let small = entry .pre .1 .small i (omega arith) in
+    let room = settled-room (at-loop .loop .inv .1 .settled) (row (entry .args .at .now) i) small
+    (at-loop .loop .inv .2 i (omega arith) (omega arith)) in
     omega arith
 
 loop-less : tie.Need-loop-less Inv-loop μ-loop
@@ -61,9 +74,12 @@ loop-less c = omega arith
 
 loop-again : tie.Need-loop-again Inv-loop μ-loop
 loop-again c =
-    let l = c .before .before .before .before .loop in
-    let fresh = c .before .before .before .before .before .pre .1 in
-    let at = c .before .before .before .before .before .args .at .now in
+    let in-loop = c .before .before .before in
+    let at-loop = in-loop .before in
+    let entry = at-loop .before in
+    let l = at-loop .loop in
+    let fresh = entry .pre .1 in
+    let at = entry .args .at .now in
     let w = c .with .ensures in (
       omega arith,
       extended-push _ _ _ _ _ _ _ (fresh .small (l .i) (omega arith)) (l .inv .2 (l .i) (omega arith) (omega arith)) w (l .inv .1),

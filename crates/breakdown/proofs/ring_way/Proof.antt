@@ -23,7 +23,8 @@ returns : tie.Need-returns
 returns c =
     let a = c .before .before .before .args in
     let w = c .before .without .ensures in
-    nearest-targets (Beside (Edge (a .rows .now)) (a .a) (a .b)) (λ p h. record { edge = w p .0 h .0; other = w p .0 h .1 }) (λ p e. w p .1 (e .edge, e .other)) (c .way-round .ensures)
+    nearest-targets (Beside (Edge (a .rows .now)) (a .a) (a .b)) (λ p h. record { edge = w p .0 h .0; other = w p .0 h .1 })
+    (λ p e. w p .1 (e .edge, e .other)) (c .way-round .ensures)
 
 pub ring-way-spec : {M : Type 1} → statement M
 ring-way-spec = tie.close (tie.spec mul-without element-copy-out-without without-requires way-round-requires returns)

@@ -18,7 +18,8 @@ returns : tie.Need-returns
 returns c =
     let b = c .before .before .below .ensures in
     let w = c .before .without .ensures in
-    nearest-same (λ p h. record { there = b p .0 (w p .0 h .0); other = w p .0 h .1 }) (λ p e. w p .1 (b p .1 (e .there), e .other)) (c .search .ensures)
+    nearest-same (λ p h. record { there = b p .0 (w p .0 h .0); other = w p .0 h .1 })
+    (λ p e. w p .1 (b p .1 (e .there), e .other)) (c .search .ensures)
 
 pub way-round-spec : {M : Type 1} → statement M
 way-round-spec = tie.close (tie.spec below-requires without-requires search-requires returns)

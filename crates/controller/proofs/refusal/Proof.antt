@@ -1,4 +1,4 @@
--- `controller::refusal` meets its contract: a fault's number is at most 45, so the sum fits. Assumes nothing.
+-- `controller::refusal` meets its contract: a number fits 8 bits, so the sum fits. Assumes nothing.
 use native.Mathlib.Omega.{arith}
 use Rattle.answers.proofs.AnswerLaws.{numberOf-le}
 use borrow.Author.Needs.{needs}

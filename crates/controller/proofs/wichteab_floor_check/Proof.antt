@@ -2,12 +2,14 @@
 use mathlib.Core.Path.{ap, sym, _∙_}
 use Rattle.floor.specs.Verdict.{answerOf}
 use Rattle.controller.specs.Packed.{packed, nothing}
+use Rattle.controller.proofs.AnswerSizes.{floor-sized}
+use Rattle.controller.proofs.PackedLaws.{tells, nothing-packs}
 use borrow.Author.Needs.{needs}
 use Rattle.controller.proofs.wichteab_floor_check.Statement.{statement}
 use Rattle.controller.proofs.wichteab_floor_check.Tie as tie
 
-judge-requires : tie.Need-judge-requires
-judge-requires c κs = search needs
+check-requires : tie.Need-check-requires
+check-requires c κs = search needs
 
 enum-told : tie.Need-enum-told
 enum-told c = search needs
@@ -19,13 +21,16 @@ refusal-requires : tie.Need-refusal-requires
 refusal-requires c κs = search needs
 
 returns : tie.Need-returns
-returns c = ap (packed nothing) (ap answerOf (sym (c .enum-told .given .1)) ∙ c .before .before .judge .ensures)
+returns c =
+    tells nothing-packs (floor-sized _)
+    (ap (packed nothing) (ap answerOf (sym (c .enum-told .given .1)) ∙ c .before .before .check .ensures))
 
 returns-2 : tie.Need-returns-2
 returns-2 c =
-    c .refusal .ensures ∙ ap (packed nothing) (ap answerOf (sym (c .before .before .fault .given .1)) ∙ c .before .before .before .before .judge .ensures)
+    tells nothing-packs (floor-sized _)
+    (c .refusal .ensures ∙ ap (packed nothing) (ap answerOf (sym (c .before .before .fault .given .1)) ∙ c .before .before .before .before .check .ensures))
 
 pub wichteab-floor-check-spec : {M : Type 1} → statement M
 wichteab-floor-check-spec =
     tie.close
-    (tie.spec judge-requires enum-told enum-known-fault refusal-requires returns returns-2)
+    (tie.spec check-requires enum-told enum-known-fault refusal-requires returns returns-2)

@@ -1,7 +1,10 @@
 -- `controller::wichteab_order_check` meets its contract: the verdict's answer, packed. Assumes nothing.
 use mathlib.Core.Path.{ap, sym, _∙_}
+use Rattle.order.specs.Order.{orderAnswer}
 use Rattle.order.specs.Verdict.{answerOf}
 use Rattle.controller.specs.Packed.{packed, nothing}
+use Rattle.controller.proofs.AnswerSizes.{order-sized}
+use Rattle.controller.proofs.PackedLaws.{tells, nothing-packs, uncounted-sized, uncounted-same}
 use borrow.Author.Needs.{needs}
 use Rattle.controller.proofs.wichteab_order_check.Statement.{statement}
 use Rattle.controller.proofs.wichteab_order_check.Tie as tie
@@ -19,11 +22,17 @@ refusal-requires : tie.Need-refusal-requires
 refusal-requires c κs = search needs
 
 returns : tie.Need-returns
-returns c = ap (packed nothing) (ap answerOf (sym (c .enum-told .given .1)) ∙ c .before .before .read .ensures)
+returns c =
+    let answer = ap answerOf (sym (c .enum-told .given .1)) ∙ c .before .before .read .ensures in
+    let o = c .before .before .before .before .args .order .now in
+    tells nothing-packs (uncounted-sized (order-sized o)) (ap (packed nothing) answer ∙ uncounted-same (orderAnswer o))
 
 returns-2 : tie.Need-returns-2
 returns-2 c =
-    c .refusal .ensures ∙ ap (packed nothing) (ap answerOf (sym (c .before .before .fault .given .1)) ∙ c .before .before .before .before .read .ensures)
+    let answer = ap answerOf (sym (c .before .before .fault .given .1)) ∙ c .before .before .before .before .read .ensures in
+    let o = c .before .before .before .before .before .before .args .order .now in
+    tells nothing-packs (uncounted-sized (order-sized o))
+    (c .refusal .ensures ∙ ap (packed nothing) answer ∙ uncounted-same (orderAnswer o))
 
 pub wichteab-order-check-spec : {M : Type 1} → statement M
 wichteab-order-check-spec =

@@ -4,6 +4,8 @@ use native.Mathlib.Omega.{arith}
 use Rattle.plan.specs.Verdict.{answerOf}
 use Rattle.plan.proofs.SizeLaws.{moves-small}
 use Rattle.controller.specs.Packed.{packed, oneCount}
+use Rattle.controller.proofs.AnswerSizes.{plan-sized}
+use Rattle.controller.proofs.PackedLaws.{tells, plan-moves-pack}
 use borrow.Author.Needs.{needs}
 use Rattle.controller.proofs.wichteab_plan_check.Statement.{statement}
 use Rattle.controller.proofs.wichteab_plan_check.Tie as tie
@@ -26,11 +28,13 @@ refusal-requires c κs = search needs
 
 returns : tie.Need-returns
 returns c =
-    ap (packed oneCount) (ap answerOf (sym (c .before .moves .given .1)) ∙ c .before .before .before .check .ensures)
+    tells plan-moves-pack (plan-sized _ _)
+    (ap (packed oneCount) (ap answerOf (sym (c .before .moves .given .1)) ∙ c .before .before .before .check .ensures))
 
 returns-2 : tie.Need-returns-2
 returns-2 c =
-    c .refusal .ensures ∙ ap (packed oneCount) (ap answerOf (sym (c .before .before .fault .given .1)) ∙ c .before .before .before .before .check .ensures)
+    tells plan-moves-pack (plan-sized _ _)
+    (c .refusal .ensures ∙ ap (packed oneCount) (ap answerOf (sym (c .before .before .fault .given .1)) ∙ c .before .before .before .before .check .ensures))
 
 pub wichteab-plan-check-spec : {M : Type 1} → statement M
 wichteab-plan-check-spec =

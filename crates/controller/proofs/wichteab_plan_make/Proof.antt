@@ -6,6 +6,8 @@ use native.Mathlib.Omega.{arith}
 use Rattle.planner.specs.declared.PlannerVerdict.{PlannerVerdict}
 use Rattle.planner.specs.Planner.{PlanMade, answerOf}
 use Rattle.planner.proofs.PlannerLaws.{moves-few}
+use Rattle.controller.proofs.AnswerSizes.{made-sized}
+use Rattle.controller.proofs.PackedLaws.{tells, plan-moves-pack}
 use borrow.Author.Needs.{needs}
 use Rattle.controller.proofs.wichteab_plan_make.Statement.{statement}
 use Rattle.controller.proofs.wichteab_plan_make.Tie as tie
@@ -34,13 +36,17 @@ same-length : tie.Need-same-length
 same-length c = search needs
 
 returns : tie.Need-returns
-returns c = (_, refl, made-as (c .before .moves .given .1) (c .before .before .before .before .before .make .ensures))
+returns c =
+    let made = made-as (c .before .moves .given .1) (c .before .before .before .before .before .make .ensures) in
+    (_, tells plan-moves-pack (made-sized made) refl, made)
 
 same-length-2 : tie.Need-same-length-2
 same-length-2 c = search needs
 
 returns-2 : tie.Need-returns-2
-returns-2 c = (_, c .refusal .ensures, made-as (c .before .before .fault .given .1) (c .before .before .before .before .before .before .make .ensures))
+returns-2 c =
+    let made = made-as (c .before .before .fault .given .1) (c .before .before .before .before .before .before .make .ensures) in
+    (_, tells plan-moves-pack (made-sized made) (c .refusal .ensures), made)
 
 pub wichteab-plan-make-spec : {M : Type 1} → statement M
 wichteab-plan-make-spec =

@@ -4,6 +4,8 @@ use native.Mathlib.Omega.{arith}
 use Rattle.timetable.specs.Checking.{answerOfCheck}
 use Rattle.timetable.proofs.SizeLaws.{checked-small}
 use Rattle.controller.specs.Packed.{packed, stepsAndMoves}
+use Rattle.controller.proofs.AnswerSizes.{timetable-sized}
+use Rattle.controller.proofs.PackedLaws.{tells, steps-moves-pack}
 use borrow.Author.Needs.{needs}
 use Rattle.controller.proofs.wichteab_timetable_check.Statement.{statement}
 use Rattle.controller.proofs.wichteab_timetable_check.Tie as tie
@@ -34,11 +36,13 @@ refusal-requires c κs = search needs
 
 returns : tie.Need-returns
 returns c =
-    ap (packed stepsAndMoves) (ap answerOfCheck (sym (c .before .steps .given .1)) ∙ c .before .before .before .check .ensures)
+    tells steps-moves-pack (timetable-sized _ _ (λ i. c .before .before .before .before .shared-slice-known2 .given i .fits))
+    (ap (packed stepsAndMoves) (ap answerOfCheck (sym (c .before .steps .given .1)) ∙ c .before .before .before .check .ensures))
 
 returns-2 : tie.Need-returns-2
 returns-2 c =
-    c .refusal .ensures ∙ ap (packed stepsAndMoves) (ap answerOfCheck (sym (c .before .before .fault .given .1)) ∙ c .before .before .before .before .check .ensures)
+    tells steps-moves-pack (timetable-sized _ _ (λ i. c .before .before .before .before .before .shared-slice-known2 .given i .fits))
+    (c .refusal .ensures ∙ ap (packed stepsAndMoves) (ap answerOfCheck (sym (c .before .before .fault .given .1)) ∙ c .before .before .before .before .check .ensures))
 
 pub wichteab-timetable-check-spec : {M : Type 1} → statement M
 wichteab-timetable-check-spec =

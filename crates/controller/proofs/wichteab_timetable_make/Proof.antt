@@ -5,6 +5,8 @@ use lib.ListN.{length}
 use Rattle.scheduling.specs.Maker.{answerOf}
 use Rattle.scheduling.proofs.SizeLaws.{steps-small}
 use Rattle.controller.specs.Packed.{packed, oneCount}
+use Rattle.controller.proofs.AnswerSizes.{maker-sized}
+use Rattle.controller.proofs.PackedLaws.{tells, made-steps-pack}
 use borrow.Author.Needs.{needs}
 use Rattle.controller.proofs.wichteab_timetable_make.Statement.{statement}
 use Rattle.controller.proofs.wichteab_timetable_make.Tie as tie
@@ -30,14 +32,21 @@ same-length c = search needs
 
 returns : tie.Need-returns
 returns c =
-    (ap (packed oneCount) (ap answerOf (sym (c .before .steps .given .1)) ∙ c .before .before .before .before .before .make .ensures .0), c .before .before .before .before .before .make .ensures .1)
+    let made = c .before .before .before .before .before .make .ensures in (
+      tells made-steps-pack (maker-sized _ _ _) (ap (packed oneCount) (ap answerOf (sym (c .before .steps .given .1)) ∙ made .0)),
+      made .1,
+    )
 
 same-length-2 : tie.Need-same-length-2
 same-length-2 c = search needs
 
 returns-2 : tie.Need-returns-2
 returns-2 c =
-    (c .refusal .ensures ∙ ap (packed oneCount) (ap answerOf (sym (c .before .before .fault .given .1)) ∙ c .before .before .before .before .before .before .make .ensures .0), c .before .before .before .before .before .before .make .ensures .1)
+    let made = c .before .before .before .before .before .before .make .ensures in (
+      tells made-steps-pack (maker-sized _ _ _)
+          (c .refusal .ensures ∙ ap (packed oneCount) (ap answerOf (sym (c .before .before .fault .given .1)) ∙ made .0)),
+      made .1,
+    )
 
 pub wichteab-timetable-make-spec : {M : Type 1} → statement M
 wichteab-timetable-make-spec =

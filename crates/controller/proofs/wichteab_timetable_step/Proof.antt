@@ -4,6 +4,8 @@ use native.Mathlib.Omega.{arith}
 use Rattle.timetable.specs.Reading.{answerOfStep}
 use Rattle.timetable.proofs.SizeLaws.{found-small}
 use Rattle.controller.specs.Packed.{packed, lengthAndOffset}
+use Rattle.controller.proofs.AnswerSizes.{step-sized}
+use Rattle.controller.proofs.PackedLaws.{tells, offset-length-packs}
 use borrow.Author.Needs.{needs}
 use Rattle.controller.proofs.wichteab_timetable_step.Statement.{statement}
 use Rattle.controller.proofs.wichteab_timetable_step.Tie as tie
@@ -34,11 +36,13 @@ refusal-requires c κs = search needs
 
 returns : tie.Need-returns
 returns c =
-    ap (packed lengthAndOffset) (ap answerOfStep (sym (c .before .offset .given .1)) ∙ c .before .before .before .find-step .ensures)
+    tells offset-length-packs (step-sized _ _ (λ i. c .before .before .before .before .shared-slice-known .given i .fits))
+    (ap (packed lengthAndOffset) (ap answerOfStep (sym (c .before .offset .given .1)) ∙ c .before .before .before .find-step .ensures))
 
 returns-2 : tie.Need-returns-2
 returns-2 c =
-    c .refusal .ensures ∙ ap (packed lengthAndOffset) (ap answerOfStep (sym (c .before .before .fault .given .1)) ∙ c .before .before .before .before .find-step .ensures)
+    tells offset-length-packs (step-sized _ _ (λ i. c .before .before .before .before .before .shared-slice-known .given i .fits))
+    (c .refusal .ensures ∙ ap (packed lengthAndOffset) (ap answerOfStep (sym (c .before .before .fault .given .1)) ∙ c .before .before .before .before .find-step .ensures))
 
 pub wichteab-timetable-step-spec : {M : Type 1} → statement M
 wichteab-timetable-step-spec =

@@ -4,7 +4,7 @@ use mathlib.Core.Path.{refl, sym, ap}
 use native.Mathlib.Omega.{arith}
 use lib.ListN.{take}
 use lib.Seq.{length-take-le}
-use Rattle.field.specs.Units.{unitsLength}
+use Rattle.field.specs.Units.{recordLength}
 use Rattle.delivery.specs.Delivery.{planLength, planAlone, timetableAlone}
 use Rattle.delivery.proofs.Calls.{both, plan-made, few-moves, plan-ends, timetable-ends, refused-plan, refused-timetable, all-called}
 use borrow.Author.Needs.{needs}
@@ -24,23 +24,39 @@ same-length : tie.Need-same-length
 same-length c = search needs
 
 returns : tie.Need-returns
-returns c = both (refused-plan _ (c .enum-told .given .1) (c .before .before .before .before .make .ensures))
+returns c =
+    let plan = c .before .before .before in let make = plan .before in
+    both (refused-plan _ (c .enum-told .given .1) (make .make .ensures))
 
 mul-plan-end : tie.Need-mul-plan-end
-mul-plan-end c = omega (arith, few-moves (c .before .planned .given .1) (c .before .before .before .before .before .make .ensures))
+mul-plan-end c =
+    let match = c .before .before in let make = match .before .before .before in
+    omega (arith, few-moves (c .before .planned .given .1) (make .make .ensures))
+
+mul-plan-end-2 : tie.Need-mul-plan-end-2
+mul-plan-end-2 c =
+    let called = c .before .before .before in
+    omega (arith, few-moves (c .before .planned .given .1) (called .before .before .make .ensures))
 
 add-plan-end : tie.Need-add-plan-end
-add-plan-end c = omega (arith, few-moves (c .before .planned .given .1) (c .before .before .before .before .before .make .ensures))
+add-plan-end c =
+    let match = c .before .before in let make = match .before .before .before in
+    omega (arith, few-moves (c .before .planned .given .1) (make .make .ensures))
 
 add-plan-end-2 : tie.Need-add-plan-end-2
-add-plan-end-2 c = omega (arith, few-moves (c .before .planned .given .1) (c .before .before .before .before .before .make .ensures))
+add-plan-end-2 c =
+    let match = c .before .before in let make = match .before .before .before in
+    omega (arith, few-moves (c .before .planned .given .1) (make .make .ensures))
 
 slice-reshare-prefix-make : tie.Need-slice-reshare-prefix-make
-slice-reshare-prefix-make c = omega (arith, plan-ends (c .before .planned .given .1) (c .before .before .before .before .before .make .ensures))
+slice-reshare-prefix-make c =
+    let match = c .before .before in let make = match .before .before .before in
+    omega (arith, plan-ends (c .before .planned .given .1) (make .make .ensures))
 
 slice-aggregate-make : tie.Need-slice-aggregate-make
 slice-aggregate-make c =
-    sym (length-take-le _ _ (omega (arith, plan-ends (c .before .before .planned .given .1) (c .before .before .before .before .before .before .make .ensures))))
+    let planned = c .before .before in let plan = planned .before .before .before in let make = plan .before in
+    sym (length-take-le _ _ (omega (arith, plan-ends (planned .planned .given .1) (make .make .ensures))))
 
 make-requires-2 : tie.Need-make-requires-2
 make-requires-2 c κs = search needs
@@ -58,10 +74,13 @@ same-length-3 : tie.Need-same-length-3
 same-length-3 c = search needs
 
 returns-2 : tie.Need-returns-2
-unfolding planAlone planLength unitsLength
+unfolding planAlone planLength recordLength
 returns-2 c =
-    let plan = plan-made (c .before .before .before .before .before .before .before .before .planned .given .1) (c .before .before .before .before .before .before .before .before .before .before .before .before .make .ensures) in
-    let maker = c .before .before .before .before .make2 in
+    let timetable = c .before .before .before in let make2 = timetable .before in
+    let known-told = make2 .before .before .before in let planned = known-told .before in
+    let at-plan = planned .before .before .before in let make = at-plan .before in
+    let plan = plan-made (planned .planned .given .1) (make .make .ensures) in
+    let maker = make2 .make2 in
     both (refused-timetable _ plan _ _ (maker .ensures .0) (maker .ensures .1) refl (c .enum-told2 .given .1))
 
 record-length-requires : tie.Need-record-length-requires
@@ -83,13 +102,18 @@ same-length-5 : tie.Need-same-length-5
 same-length-5 c = search needs
 
 returns-3 : tie.Need-returns-3
-unfolding planAlone planLength unitsLength timetableAlone
+unfolding planAlone planLength recordLength timetableAlone
 returns-3 c =
-    let plan = plan-made (c .before .before .before .before .before .before .before .before .before .before .before .before .before .planned .given .1) (c .before .before .before .before .before .before .before .before .before .before .before .before .before .before .before .before .before .make .ensures) in
-    let maker = c .before .before .before .before .before .before .before .before .before .make2 in
-    let found = c .before .before .record-length in
+    let record-length = c .before .before in let made = record-length .before .before .before in
+    let timetable = made .before .before .before in let make2 = timetable .before in
+    let known-told = make2 .before .before .before in let planned = known-told .before in
+    let at-plan = planned .before .before .before in let make = at-plan .before in
+    let plan = plan-made (planned .planned .given .1) (make .make .ensures) in
+    let maker = make2 .make2 in
+    let found = record-length .record-length in
     both
-    (all-called _ plan _ _ (maker .ensures .0) (maker .ensures .1) refl (c .before .before .before .before .before .made .given .1) (c .check .result) _ (c .check .ensures) (ap (λ (n : ℕ). take n (maker .last .1 .1 .0)) (found .ensures)))
+    (all-called _ plan _ _ (maker .ensures .0) (maker .ensures .1) refl (made .made .given .1) (c .check .result) _ (c .check .ensures)
+    (ap (λ (n : ℕ). take n (maker .last .1 .1 .0)) (found .ensures)))
 
 pub deliver-spec : {M : Type 1} → statement M
 deliver-spec =
@@ -101,6 +125,7 @@ deliver-spec =
     same-length
     returns
     mul-plan-end
+    mul-plan-end-2
     add-plan-end
     add-plan-end-2
     slice-reshare-prefix-make

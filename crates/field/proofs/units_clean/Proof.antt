@@ -8,34 +8,48 @@ use Rattle.field.proofs.units_clean.Statement.{statement}
 use Rattle.field.proofs.units_clean.Tie as tie
 
 spare-at-head-requires : tie.Need-spare-at-head-requires
-spare-at-head-requires c κs = (fitting (c .before .args .s .now) (c .before .args .u) (c .before .pre)) .head-there
+spare-at-head-requires c κs =
+    let entry = c .before in
+    fitting (entry .args .s .now) (entry .args .q) (entry .pre) .head-there
 
 returns : tie.Need-returns
 returns c =
-    ap not (sym (unclean-spare (c .before .before .before .args .s .now) (c .before .before .before .args .u) (λ z. c .if1 .taken (c .before .spare-at-head .ensures ∙ z))))
+    let entry = c .before .before .before in
+    ap not (sym (unclean-spare (entry .args .s .now) (entry .args .q) (λ z. c .if1 .taken (c .before .spare-at-head .ensures ∙ z))))
 
 sub-pad-after : tie.Need-sub-pad-after
 sub-pad-after c =
-    (fitting (c .before .before .before .args .s .now) (c .before .before .before .args .u) (c .before .before .before .pre)) .head-there
+    let entry = c .before .before .before in
+    fitting (entry .args .s .now) (entry .args .q) (entry .pre) .head-there
 
 part-pad-after-start : tie.Need-part-pad-after-start
 part-pad-after-start c =
-    (fitting (c .before .before .before .args .s .now) (c .before .before .before .args .u) (c .before .before .before .pre)) .head-there
+    let entry = c .before .before .before in
+    fitting (entry .args .s .now) (entry .args .q) (entry .pre) .head-there
 
 part-pad-after-end : tie.Need-part-pad-after-end
 part-pad-after-end c = search needs
 
 pad-after-requires : tie.Need-pad-after-requires
 pad-after-requires c κs =
-    tail-room (c .before .before .before .before .args .s .now) (c .before .before .before .before .args .u) (fitting (c .before .before .before .before .args .s .now) (c .before .before .before .before .args .u) (c .before .before .before .before .pre))
+    let first = c .before in
+    let entry = first .before .before .before in
+    tail-room (entry .args .s .now) (entry .args .q) (fitting (entry .args .s .now) (entry .args .q) (entry .pre))
 
 returns-2 : tie.Need-returns-2
 returns-2 c =
-    ap not (sym (unclean-pad (c .before .before .before .before .before .before .args .s .now) (c .before .before .before .before .before .before .args .u) (λ z. c .if2 .taken (c .before .pad-after .ensures ∙ pad-of-tail (c .before .before .before .before .before .before .args .s .now) (c .before .before .before .before .before .before .args .u) ∙ z))))
+    let first = c .before .before .before in
+    let entry = first .before .before .before in
+    let read = c .before .pad-after .ensures ∙ pad-of-tail (entry .args .s .now) (entry .args .q) in
+    ap not (sym (unclean-pad (entry .args .s .now) (entry .args .q) (λ z. c .if2 .taken (read ∙ z))))
 
 returns-3 : tie.Need-returns-3
 returns-3 c =
-    ap not (sym (clean (c .before .before .before .before .before .before .args .s .now) (c .before .before .before .before .before .before .args .u) (sym (c .before .before .before .before .spare-at-head .ensures) ∙ c .before .before .before .if1 .left) (sym (pad-of-tail (c .before .before .before .before .before .before .args .s .now) (c .before .before .before .before .before .before .args .u)) ∙ sym (c .before .pad-after .ensures) ∙ c .if2 .left)))
+    let first = c .before .before .before in
+    let spare = first .before .spare-at-head .ensures in
+    let entry = first .before .before .before in
+    let read = c .before .pad-after .ensures ∙ pad-of-tail (entry .args .s .now) (entry .args .q) in
+    ap not (sym (clean (entry .args .s .now) (entry .args .q) (sym spare ∙ first .if1 .left) (sym read ∙ c .if2 .left)))
 
 pub units-clean-spec : {M : Type 1} → statement M
 units-clean-spec =

@@ -8,7 +8,7 @@ use Rattle.field.proofs.units_fit.Statement.{statement}
 use Rattle.field.proofs.units_fit.Tie as tie
 
 returns : tie.Need-returns
-returns c = ap not (sym (misfits-short (c .before .args .s .now) (c .before .args .u) (c .if1 .taken)))
+returns c = ap not (sym (misfits-short (c .before .args .s .now) (c .before .args .q) (c .if1 .taken)))
 
 mul-if2 : tie.Need-mul-if2
 mul-if2 c = search needs
@@ -21,11 +21,11 @@ add-if2-2 c = search needs
 
 returns-2 : tie.Need-returns-2
 returns-2 c =
-    ap not (sym (misfits-not (c .before .before .args .s .now) (c .before .before .args .u) (c .if2 .taken)))
+    ap not (sym (misfits-not (c .before .before .args .s .now) (c .before .before .args .q) (c .if2 .taken)))
 
 returns-3 : tie.Need-returns-3
 returns-3 c =
-    ap not (sym (fits (c .before .before .args .s .now) (c .before .before .args .u) (omega arith) (c .if2 .left)))
+    ap not (sym (fits (c .before .before .args .s .now) (c .before .before .args .q) (omega arith) (c .if2 .left)))
 
 pub units-fit-spec : {M : Type 1} → statement M
 units-fit-spec = tie.close (tie.spec returns mul-if2 add-if2 add-if2-2 returns-2 returns-3)

@@ -32,7 +32,11 @@ loop-less : tie.Need-loop-less Inv-loop μ-loop
 loop-less c = ones-without _ _ _ (c .before .before .lowest .ensures .1 .0) (c .without .ensures)
 
 loop-again : tie.Need-loop-again Inv-loop μ-loop
-loop-again c = around-next _ (c .before .before .before .before .before .pre) _ _ _ _ _ (c .before .before .lowest .ensures .1 .0) (c .without .ensures) (c .before .before .before .before .loop .inv)
+loop-again c =
+    let after-lowest = c .before .before in
+    let at-loop = after-lowest .before .before in
+    let entry = at-loop .before in
+    around-next _ (entry .pre) _ _ _ _ _ (after-lowest .lowest .ensures .1 .0) (c .without .ensures) (at-loop .loop .inv)
 
 returns : tie.Need-returns Inv-loop μ-loop
 returns c = around-end _ (c .before .before .pre) _ _ _ (c .loop-test .left) (c .before .loop .inv)

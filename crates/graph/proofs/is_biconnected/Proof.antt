@@ -29,7 +29,9 @@ is-connected-without-requires : tie.Need-is-connected-without-requires Inv-loop 
 is-connected-without-requires c κs = (c .before .before .before .pre, c .loop-test .taken)
 
 returns-2 : tie.Need-returns-2 Inv-loop μ-loop
-returns-2 c = says-no (λ b. false≢true (sym (not-true _ (c .if2 .taken)) ∙ c .before .is-connected-without .ensures .1 (b .without (c .before .before .before .loop .x) (omega arith))))
+returns-2 c =
+    says-no (λ b. false≢true (sym (not-true _ (c .if2 .taken)) ∙ c .before .is-connected-without .ensures .1
+    (b .without (c .before .before .before .loop .x) (omega arith))))
 
 add-x : tie.Need-add-x Inv-loop μ-loop
 add-x c = omega arith

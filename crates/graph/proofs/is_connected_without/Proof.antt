@@ -17,7 +17,8 @@ is-whole-requires c κs = c .before .before .pre .0 .symmetric
 returns : tie.Need-returns
 returns c =
     let a = c .before .before .before .args in
-    whole-set (a .rows .now) _ (λ p. except-is (a .n) (a .x) _ _ p (c .before .before .below .ensures p) (c .before .without .ensures p)) _ (c .is-whole .ensures)
+    whole-set (a .rows .now) _ (λ p. except-is (a .n) (a .x) _ _ p (c .before .before .below .ensures p)
+    (c .before .without .ensures p)) _ (c .is-whole .ensures)
 
 pub is-connected-without-spec : {M : Type 1} → statement M
 is-connected-without-spec =

@@ -17,12 +17,18 @@ only-requires : tie.Need-only-requires
 only-requires c κs = search needs
 
 spread-requires : tie.Need-spread-requires
-spread-requires c κs = (c .before .before .before .before .pre, refl)
+spread-requires c κs =
+    let else1 = c .before .before .before in
+    let entry = else1 .before in
+    (entry .pre, refl)
 
 returns-2 : tie.Need-returns-2
 returns-2 c =
-    let s = c .before .before .before .before .before .before in
-    empty-test _ (whole-reached (s .args .rows .now) (s .args .set) _ _ _ _ _ (s .pre) (c .before .before .before .before .lowest .ensures .1 .0) (c .before .before .before .only .ensures) (c .before .spread .ensures))
+    let after-only = c .before .before .before in
+    let after-lowest = after-only .before in
+    let entry = after-lowest .before .before in
+    empty-test _ (whole-reached (entry .args .rows .now) (entry .args .set) _ _ _ _ _ (entry .pre)
+    (after-lowest .lowest .ensures .1 .0) (after-only .only .ensures) (c .before .spread .ensures))
 
 pub is-whole-spec : {M : Type 1} → statement M
 is-whole-spec =

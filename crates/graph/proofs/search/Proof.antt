@@ -18,14 +18,26 @@ returns c = nearest-none (c .before .before .before .only .ensures) (c .before .
 
 trace-requires : tie.Need-trace-requires
 trace-requires c κs =
-    let s = c .before .before .spread .ensures in
+    let after-spread = c .before .before in
+    let after-only = after-spread .before .before in
+    let entry = after-only .before in
+    let s = after-spread .spread .ensures in
     let d = c .before .if1 .left in
-    ((omega arith, s .small, c .before .before .before .before .before .pre .1, met-at (c .before .before .before .before .only .ensures) s (omega arith)), s .levels .down)
+    record {
+      some = omega arith;
+      few = s .small;
+      small = entry .pre .1;
+      on = met-at (after-only .only .ensures) s (omega arith);
+      down = s .levels .down;
+    }
 
 returns-2 : tie.Need-returns-2
 returns-2 c =
-    let d = c .before .before .if1 .left in
-    nearest-traced (c .before .before .before .before .before .only .ensures) (c .before .before .before .spread .ensures) _ (omega arith) (c .trace .ensures)
+    let else1 = c .before .before in
+    let after-spread = else1 .before in
+    let after-only = after-spread .before .before in
+    let d = else1 .if1 .left in
+    nearest-traced (after-only .only .ensures) (after-spread .spread .ensures) _ (omega arith) (c .trace .ensures)
 
 pub search-spec : {M : Type 1} → statement M
 search-spec = tie.close (tie.spec only-requires spread-requires returns trace-requires returns-2)

@@ -16,7 +16,9 @@ minus-requires : tie.Need-minus-requires Inv-loop μ-loop
 minus-requires c κs = tt
 
 returns : tie.Need-returns Inv-loop μ-loop
-returns c = let a = c .before .before .args in begin-none (a .rows .now) (a .free) (a .targets) (a .goal) _ _ (c .if1 .taken) (c .before .minus .ensures)
+returns c =
+    let a = c .before .before .args in begin-none (a .rows .now) (a .free) (a .targets) (a .goal) _ _ (c .if1 .taken)
+    (c .before .minus .ensures)
 
 element-write-levels : tie.Need-element-write-levels Inv-loop μ-loop
 element-write-levels c = omega arith
@@ -25,46 +27,69 @@ loop-holds : tie.Need-loop-holds Inv-loop μ-loop
 loop-holds c =
     let s = c .before .before in
     let a = s .args in
-    begin (a .rows .now) (a .free) (a .targets) (a .goal) (a .levels .now) _ (s .pre .1) (s .fits .free .fits) (c .if1 .left) (c .before .minus .ensures)
+    begin (a .rows .now) (a .free) (a .targets) (a .goal) (a .levels .now) _ (s .pre .1) (s .fits .free .fits) (c .if1 .left)
+    (c .before .minus .ensures)
 
 returns-2 : tie.Need-returns-2 Inv-loop μ-loop
 returns-2 c =
-    let a = c .before .before .before .before .args in
+    let after-minus = c .before .before .before in
+    let entry = after-minus .before in
+    let a = entry .args in
     found (a .rows .now) (a .free) (a .targets) (a .goal) (c .before .loop .inv) (c .if2 .taken)
 
 around-requires : tie.Need-around-requires Inv-loop μ-loop
-around-requires c κs = c .before .before .before .before .pre .0
+around-requires c κs =
+    let after-minus = c .before .before .before in
+    let entry = after-minus .before in
+    entry .pre .0
 
 returns-3 : tie.Need-returns-3 Inv-loop μ-loop
 returns-3 c =
-    let a = c .before .before .before .before .before .before .args in
-    stop (a .rows .now) (a .free) (a .targets) (a .goal) (c .before .before .before .loop .inv) _ (c .before .around .ensures) (c .before .before .if2 .left) (c .if3 .taken)
+    let else2 = c .before .before in
+    let at-loop = else2 .before in
+    let entry = at-loop .before .before .before in
+    let a = entry .args in
+    stop (a .rows .now) (a .free) (a .targets) (a .goal) (at-loop .loop .inv) _ (c .before .around .ensures) (else2 .if2 .left)
+    (c .if3 .taken)
 
 mul-levels : tie.Need-mul-levels Inv-loop μ-loop
 mul-levels c = let r = c .before .before .before .loop .inv .room in omega arith
 
 element-write-levels-2 : tie.Need-element-write-levels-2 Inv-loop μ-loop
 element-write-levels-2 c =
-    let a = c .before .before .before .before .before .before .args in
-    room (a .rows .now) (a .free) (a .targets) (a .goal) (c .before .before .before .loop .inv) _ (c .before .around .ensures) (c .if3 .left)
+    let at-loop = c .before .before .before in
+    let entry = at-loop .before .before .before in
+    let a = entry .args in
+    room (a .rows .now) (a .free) (a .targets) (a .goal) (at-loop .loop .inv) _ (c .before .around .ensures) (c .if3 .left)
 
 minus-requires-2 : tie.Need-minus-requires-2 Inv-loop μ-loop
 minus-requires-2 c κs = tt
 
 add-depth : tie.Need-add-depth Inv-loop μ-loop
-add-depth c = let r = c .before .before .before .before .loop .inv .room in omega arith
+add-depth c =
+    let else2 = c .before .before .before in
+    let at-loop = else2 .before in
+    let r = at-loop .loop .inv .room in omega arith
 
 loop-less : tie.Need-loop-less Inv-loop μ-loop
 loop-less c =
-    let a = c .before .before .before .before .before .before .before .args in
-    let r = room (a .rows .now) (a .free) (a .targets) (a .goal) (c .before .before .before .before .loop .inv) _ (c .before .before .around .ensures) (c .before .if3 .left) in
+    let after-around = c .before .before in
+    let at-loop = after-around .before .before in
+    let entry = at-loop .before .before .before in
+    let a = entry .args in
+    let r = room (a .rows .now) (a .free) (a .targets) (a .goal) (at-loop .loop .inv) _ (after-around .around .ensures)
+    (c .before .if3 .left) in
     omega arith
 
 loop-again : tie.Need-loop-again Inv-loop μ-loop
 loop-again c =
-    let a = c .before .before .before .before .before .before .before .args in
-    next (a .rows .now) (a .free) (a .targets) (a .goal) (c .before .before .before .before .loop .inv) _ (c .before .before .around .ensures)
-    (c .before .before .before .if2 .left) _ (c .before .if3 .left) (c .minus2 .ensures)
+    let after-around = c .before .before in
+    let else2 = after-around .before in
+    let at-loop = else2 .before in
+    let entry = at-loop .before .before .before in
+    let a = entry .args in
+    next (a .rows .now) (a .free) (a .targets) (a .goal) (at-loop .loop .inv) _ (after-around .around .ensures)
+    (else2 .if2 .left) _ (c .before .if3 .left) (c .minus2 .ensures)
 
 pub spread-spec : {M : Type 1} → statement M
 spread-spec =

@@ -20,7 +20,7 @@ array-write-path : tie.Need-array-write-path Inv-loop μ-loop
 array-write-path c = omega arith
 
 loop-holds : tie.Need-loop-holds Inv-loop μ-loop
-loop-holds c = let a = c .args in tracing-begin (a .rows .now) _ _ _ (c .pre .0 .0) (c .pre .0 .2) (c .pre .0 .3)
+loop-holds c = let a = c .args in tracing-begin (a .rows .now) _ _ _ (c .pre .some) (c .pre .small) (c .pre .on)
 
 mul-lowest : tie.Need-mul-lowest Inv-loop μ-loop
 mul-lowest c = omega arith
@@ -42,9 +42,12 @@ element-copy-out-lowest-2 c = omega arith
 
 lowest-requires : tie.Need-lowest-requires Inv-loop μ-loop
 lowest-requires c κs =
-    let l = c .before .before .before .loop in
-    let a = c .before .before .before .before .args in
-    tracing-some (a .rows .now) _ _ _ (c .before .before .before .before .pre .1) _ _ _ (l .inv) (c .before .before .loop-test .taken)
+    let in-loop = c .before .before in
+    let at-loop = in-loop .before in
+    let entry = at-loop .before in
+    let l = at-loop .loop in
+    let a = entry .args in
+    tracing-some (a .rows .now) _ _ _ (entry .pre .down) _ _ _ (l .inv) (in-loop .loop-test .taken)
 
 cast-path-2 : tie.Need-cast-path-2 Inv-loop μ-loop
 cast-path-2 c = omega arith
@@ -60,9 +63,12 @@ loop-less c = omega arith
 
 loop-again : tie.Need-loop-again Inv-loop μ-loop
 loop-again c =
-    let l = c .before .before .before .before .loop in
-    let a = c .before .before .before .before .before .args in
-    tracing-step (a .rows .now) _ _ _ (c .before .before .before .before .before .pre .1) _ _ _ (l .inv) (c .before .before .before .loop-test .taken) _ (omega arith)
+    let in-loop = c .before .before .before in
+    let at-loop = in-loop .before in
+    let entry = at-loop .before in
+    let l = at-loop .loop in
+    let a = entry .args in
+    tracing-step (a .rows .now) _ _ _ (entry .pre .down) _ _ _ (l .inv) (in-loop .loop-test .taken) _ (omega arith)
     (c .lowest .ensures .0) (c .lowest .ensures .1 .0)
 
 returns : tie.Need-returns Inv-loop μ-loop

@@ -4,19 +4,21 @@ use Prim.Native.Nat.{_+_, _-_, _≤_}
 use mathlib.Core.Path.{_≡_, _∙_}
 use native.Mathlib.Omega.{arith}
 use lib.ListN.{length, length-set}
-use Rattle.moving.specs.Journey.{row}
-use Rattle.handles.proofs.StageLaws.{Copied, copied-none, copied-next}
+use Rattle.shunting.specs.Journey.{row}
+use Rattle.handles.specs.Lane.{Copied}
+use Rattle.handles.proofs.StageLaws.{copied-none, copied-next, copied-all}
 use Rattle.handles.proofs.copy_places.Statement.{statement}
 use Rattle.handles.proofs.copy_places.Tie as tie
 
 abbrev Inv-loop : tie.InvT-loop
-Inv-loop from first count to cycle₀ j₀ cycle j = (j ≤ count) × (length cycle ≡ 64) × Copied (row from) first to (row cycle₀) (row cycle) j
+Inv-loop from first count to cycle₀ j₀ cycle j =
+    (j ≤ count) × (length cycle ≡ 64) × Copied (row from) first to (row cycle₀) (row cycle) j
 
 abbrev μ-loop : tie.MeasureT-loop
 μ-loop from first count to cycle₀ j₀ cycle j = count - j
 
 loop-holds : tie.Need-loop-holds Inv-loop μ-loop
-loop-holds c = (omega arith, c .pre .2, copied-none (row (c .args .from .now)) (c .args .first) (c .args .to) (row (c .args .cycle .now)))
+loop-holds c = (omega arith, c .pre .1 .1, copied-none _ _ _ _)
 
 add-cycle : tie.Need-add-cycle Inv-loop μ-loop
 add-cycle c = omega arith
@@ -37,15 +39,18 @@ loop-less : tie.Need-loop-less Inv-loop μ-loop
 loop-less c = omega arith
 
 loop-again : tie.Need-loop-again Inv-loop μ-loop
-loop-again c = let s = c .before .before .before in
-    let l = c .before .before .loop in (
+loop-again c =
+    let turn = c .before .before in
+    let entry = turn .before in
+    let a = entry .args in
+    let l = turn .loop in (
       omega arith,
-      length-set (l .cycle) (s .args .to + l .j) (row (s .args .from .now) (s .args .first + l .j)) ∙ l .inv .1,
-      copied-next (row (s .args .from .now)) (s .args .first) (s .args .to) (row (s .args .cycle .now)) (l .cycle) (l .j) (omega arith) (l .inv .2),
+      length-set (l .cycle) (a .to + l .j) (row (a .from .now) (a .first + l .j)) ∙ l .inv .1,
+      copied-next _ _ _ _ (l .cycle) (l .j) (omega arith) (l .inv .2),
     )
 
 returns : tie.Need-returns Inv-loop μ-loop
-returns c = let l = c .before .loop in (λ j h. l .inv .2 .copied j (omega arith), l .inv .2 .before, l .inv .1)
+returns c = let l = c .before .loop in (copied-all (omega arith) (l .inv .2), l .inv .1)
 
 pub copy-places-spec : {M : Type 1} → statement M
 copy-places-spec =

@@ -3,360 +3,200 @@
 use Prim.Native.Nat.{_+_, _-_, _*_}
 use mathlib.Core.Path.{refl, _∙_}
 use native.Mathlib.Omega.{arith}
-use Rattle.moving.proofs.JourneyLaws.{trip-none, trip-more, trip-append, fits-anew, fits-then, room-less, room-then}
-use Rattle.settling.proofs.TableLaws.{table-went}
-use Rattle.handles.proofs.CycleLaws.{lane-floor, lane-order, stage-below, right-below}
+use borrow.Author.Needs.{needs}
+use Rattle.shunting.proofs.JourneyLaws.{trip-none, trip-more, trip-append, room-less, room-then}
+use Rattle.shunting.proofs.TableLaws.{table-went}
+use Rattle.handles.proofs.StageLaws.{handle-places}
+use Rattle.handles.proofs.CycleLaws.{lane-floor, lane-places}
 use Rattle.handles.proofs.PlaceLaws.{rack-there}
-use Rattle.handles.proofs.FetchLaws.{fails, fetch-bound, lane-four, region-below, fetch-reaches-beside, fetch-reaches-end, fetch-below, fetch-kept, fetch-kept-end, fetch-beside, fetch-already, fetch-cleared, fetch-place, fetch-held, fetch-carried}
+use Rattle.handles.proofs.FetchLaws.{fails, fetch-bound, lane-four, fetch-already, fetch-place, fetch-held, fetch-carried}
 use Rattle.handles.proofs.fetch.Statement.{statement}
 use Rattle.handles.proofs.fetch.Tie as tie
 
-sub-rack : tie.Need-sub-rack
-sub-rack c = let more = c .before .pre .1 .1 .1 .0 .1 in omega arith
-
-sub-rack-2 : tie.Need-sub-rack-2
-sub-rack-2 c = let more = c .before .pre .1 .1 .1 .0 .1 in omega arith
-
-element-copy-out-rack : tie.Need-element-copy-out-rack
-element-copy-out-rack c =
-    let s = c .before in
-    let a = s .args in
-    let rows = s .pre .0 in
-    let lane = s .pre .1 .0 .1 in
-    let within = lane .within in
-    let small = rows .small in
-    let inner = lane .handle .inner in
-    let four = lane-four rows lane in
-    omega arith
-
-cast-rack : tie.Need-cast-rack
-cast-rack c =
-    let s = c .before .before in
-    let a = s .args in
-    let rows = s .pre .0 in
-    let lane = s .pre .1 .0 .1 in
-    let state = s .pre .1 .1 .1 .0 in
-    let within = lane .within in
-    let small = rows .small in
-    let inner = lane .handle .inner in
-    let four = lane-four rows lane in
-    let more = state .1 in
-    let l = lane-order rows lane (a .e - a .k - 1) (omega arith) in
-    omega arith
-
-element-copy-out-rack-2 : tie.Need-element-copy-out-rack-2
-element-copy-out-rack-2 c =
-    let s = c .before .before in
-    let a = s .args in
-    let rows = s .pre .0 in
-    let lane = s .pre .1 .0 .1 in
-    let state = s .pre .1 .1 .1 .0 in
-    let within = lane .within in
-    let small = rows .small in
-    let inner = lane .handle .inner in
-    let four = lane-four rows lane in
-    let more = state .1 in
-    lane-order rows lane (a .e - a .k - 1) (omega arith)
+next-rack-requires : tie.Need-next-rack-requires
+next-rack-requires c κs =
+    let entry = c .before .before in
+    (handle-places (entry .pre .1 .0) (entry .pre .0 .small), entry .pre .1 .1 .1 .1 .0)
 
 part-requires : tie.Need-part-requires
 part-requires c κs =
-    let s = c .before .before .before in
-    let a = s .args in
-    let rows = s .pre .0 in
-    let lane = s .pre .1 .0 .1 in
-    let within = lane .within in
-    let small = rows .small in
-    let inner = lane .handle .inner in
-    let four = lane-four rows lane in
-    (omega arith, λ i l. lane-order rows lane i (omega arith))
+    let after-order = c .before .before in
+    let entry = after-order .before .before in
+    lane-places (entry .pre .0) (entry .pre .1 .0)
 
 where-is-requires : tie.Need-where-is-requires
 where-is-requires c κs =
-    let s = c .before .before .before .before .before in
-    let a = s .args in
-    let rows = s .pre .0 in
-    let lane = s .pre .1 .0 .1 in
-    let state = s .pre .1 .1 .1 .0 in
-    let within = lane .within in
-    let small = rows .small in
-    let inner = lane .handle .inner in
-    let four = lane-four rows lane in
-    (small, rack-there rows lane (state .0) (state .1))
+    let after-order2 = c .before .before .before in
+    let after-next-rack = after-order2 .before in
+    let entry = after-next-rack .before .before .before in
+    let rows = entry .pre .0 in
+    let asked = entry .pre .1 .1 .1 in
+    (rows .small, rack-there rows (entry .pre .1 .0) (asked .0) (asked .1 .0) (after-next-rack .next-rack .ensures))
 
 has-requires : tie.Need-has-requires
 has-requires c κs =
-    let s = c .before .before .before .before .before .before in
-    let a = s .args in
-    let rows = s .pre .0 in
-    let lane = s .pre .1 .0 .1 in
-    lane-floor rows lane (c .where-is .result) (c .where-is .ensures .0)
+    let after-part = c .before .before .before in
+    let after-order = after-part .before .before .before in
+    let entry = after-order .before .before in
+    lane-floor (entry .pre .0) (entry .pre .1 .0) (c .where-is .result) (c .where-is .ensures .inside)
 
 returns : tie.Need-returns
 returns c =
-    let part-at = c .before .before .before .before in
-    let s = part-at .before .before .before .before in
-    let a = s .args in
-    let rows = s .pre .0 in
-    let lane = s .pre .1 .0 .1 in
-    let state = s .pre .1 .1 .1 .0 in
-    let part = part-at .part .ensures in
-    let from = c .before .before .where-is in
-    let there = c .before .has .ensures .0 (c .if1 .taken) in (
-      trip-more (2 * (a .n * a .n)) (omega arith) (trip-none _ _ _),
-      (fetch-already rows lane _ part (state .0) (state .1) (from .result) (from .ensures .1) there (state .2), refl),
-    )
-
-add-part : tie.Need-add-part
-add-part c =
-    let s = c .before .before .before .before .before .before .before .before in
-    let a = s .args in
-    let rows = s .pre .0 in
-    let lane = s .pre .1 .0 .1 in
-    let state = s .pre .1 .1 .1 .0 in
-    let within = lane .within in
-    let small = rows .small in
-    let inner = lane .handle .inner in
-    let four = lane-four rows lane in
-    let more = state .1 in
-    omega arith
-
-part-requires-2 : tie.Need-part-requires-2
-part-requires-2 c κs =
-    let s = c .before .before .before .before .before .before .before .before in
-    let a = s .args in
-    let rows = s .pre .0 in
-    let lane = s .pre .1 .0 .1 in
-    let within = lane .within in
-    let small = rows .small in
-    let inner = lane .handle .inner in
-    let four = lane-four rows lane in
-    (omega arith, λ i l. lane-order rows lane i (omega arith))
-
-clear-requires : tie.Need-clear-requires
-clear-requires c κs =
-    let rest-at = c .before .before .before in
-    let part-at = rest-at .before .before .before .before .before in
-    let s = part-at .before .before .before .before in
-    let a = s .args in
-    let rows = s .pre .0 in
-    let lane = s .pre .1 .0 .1 in
-    let near = s .pre .1 .1 .0 in
-    let state = s .pre .1 .1 .1 .0 in
-    let room = s .pre .1 .1 .1 .1 in
-    let within = lane .within in
-    let small = rows .small in
-    let inner = lane .handle .inner in
-    let four = lane-four rows lane in
-    let part = part-at .part .ensures in
-    let rest = rest-at .part2 .ensures in
-    let bound = fetch-bound (a .n) four in (
-      rows,
+    let after-has = c .before in
+    let after-where-is = after-has .before in
+    let after-part = after-where-is .before .before .before in
+    let after-next-rack = after-part .before .before in
+    let entry = after-next-rack .before .before .before in
+    let n = entry .args .lane .positions in
+    let asked = entry .pre .1 .1 .1 in
+    let from = after-where-is .where-is in
+    let is = from .ensures .there ∙ after-next-rack .next-rack .ensures in
+    let there = after-has .has .ensures .0 (c .if1 .taken) in
+    let part = after-part .part .ensures in (
+      trip-more (2 * (n * n)) (omega arith) (trip-none _ _),
       (
-        (
-          stage-below rows lane (a .y) (near .0),
-          region-below rows lane (a .k) _ _ part rest,
-          fetch-reaches-beside rows lane (a .k) _ _ part rest (a .y) (near .0) (state .2),
-        ),
-        fits-anew (a .n - 1) (omega arith) (omega arith) room,
+        fetch-already (entry .pre .0) (entry .pre .1 .0) _ part (asked .0) (asked .1 .0) (from .result) is there (asked .1 .1 .0),
+        refl,
       ),
     )
 
-without-requires : tie.Need-without-requires
-without-requires c κs =
-    let s = c .before .before .before .before .before .before .before .before .before .before .before .before .before .before .before in
-    let a = s .args in
-    let rows = s .pre .0 in
-    let lane = s .pre .1 .0 .1 in
-    let near = s .pre .1 .1 .0 in
-    lane-floor rows lane (a .y) (stage-below rows lane (a .y) (near .0))
-
-clear-requires-2 : tie.Need-clear-requires-2
-clear-requires-2 c κs =
-    let without-at = c .before .before .before in
-    let one-at = without-at .before .before .before in
-    let rest-at = one-at .before .before .before .before in
-    let part-at = rest-at .before .before .before .before .before in
-    let s = part-at .before .before .before .before in
-    let a = s .args in
-    let rows = s .pre .0 in
-    let lane = s .pre .1 .0 .1 in
-    let near = s .pre .1 .1 .0 in
-    let state = s .pre .1 .1 .1 .0 in
-    let room = s .pre .1 .1 .1 .1 in
-    let within = lane .within in
-    let small = rows .small in
-    let inner = lane .handle .inner in
-    let four = lane-four rows lane in
-    let part = part-at .part .ensures in
-    let rest = rest-at .part2 .ensures in
-    let one = one-at .clear .ensures in
-    let table = table-went (rows .inside) (one .0 .journey .trip .went) (state .0 .table) in
-    let placing = fetch-kept rows lane (a .k) _ _ part rest (a .y) (state .0) table (one .1) in
-    let without = without-at .without .ensures in
-    let bound = fetch-bound (a .n) four in (
-      rows,
-      (
-        (
-          right-below rows lane,
-          fetch-below rows lane (a .k) _ _ part rest (a .y) (near .0) (near .1) _ without,
-          fetch-reaches-end rows lane (a .k) _ _ part rest (a .y) (near .0) (near .1) _ without placing,
-        ),
-        fits-then (fits-anew ((a .n - 1) + (a .n - 1)) (omega arith) (omega arith) room) (one .0 .journey),
-      ),
-    )
+open-end-requires : tie.Need-open-end-requires
+open-end-requires c κs =
+    let after-has = c .before .before .before in
+    let after-racks = after-has .before .before .before in
+    let after-next-rack = after-racks .before .before .before in
+    let entry = after-next-rack .before .before .before in
+    let rows = entry .pre .0 in
+    let on = entry .pre .1 .0 in
+    let asked = entry .pre .1 .1 .1 in
+    let n = entry .args .lane .positions in
+    let bound = fetch-bound n (lane-four rows on) in
+    (rows, (on, (entry .pre .1 .1 .0, ((_, asked .0), room-less (2 * (n - 1)) (omega arith) (asked .1 .1 .1)))))
 
 where-is-requires-2 : tie.Need-where-is-requires-2
 where-is-requires-2 c κs =
-    let two-at = c .before .before .before in
-    let without-at = two-at .before .before .before .before in
-    let one-at = without-at .before .before .before in
-    let rest-at = one-at .before .before .before .before in
-    let part-at = rest-at .before .before .before .before .before in
-    let s = part-at .before .before .before .before in
-    let a = s .args in
-    let rows = s .pre .0 in
-    let lane = s .pre .1 .0 .1 in
-    let near = s .pre .1 .1 .0 in
-    let state = s .pre .1 .1 .1 .0 in
-    let part = part-at .part .ensures in
-    let rest = rest-at .part2 .ensures in
-    let one = one-at .clear .ensures in
-    let table = table-went (rows .inside) (one .0 .journey .trip .went) (state .0 .table) in
-    let placing = fetch-kept rows lane (a .k) _ _ part rest (a .y) (state .0) table (one .1) in
-    let without = without-at .without .ensures in
-    let two = two-at .clear2 .ensures in
-    let table2 = table-went (rows .inside) (two .0 .journey .trip .went) table in
-    let placing2 = fetch-kept-end rows lane (a .k) _ _ part rest (a .y) (near .0) (near .1) _ without placing table2 (two .1) in
-    (rows .small, rack-there rows lane placing2 (state .1))
+    let after-moved = c .before in
+    let after-open-end = after-moved .before .before .before in
+    let after-if1 = after-open-end .before .before .before in
+    let after-racks2 = after-if1 .before .before .before in
+    let after-order2 = after-racks2 .before .before .before in
+    let after-next-rack = after-order2 .before in
+    let entry = after-next-rack .before .before .before in
+    let rows = entry .pre .0 in
+    let asked = entry .pre .1 .1 .1 in
+    let placing = after-open-end .open-end .ensures .1 .0 _ (asked .0) in
+    (rows .small, rack-there rows (entry .pre .1 .0) placing (asked .1 .0) (after-next-rack .next-rack .ensures))
 
 has-requires-2 : tie.Need-has-requires-2
 has-requires-2 c κs =
-    let s = c .before .before .before .before .before .before .before .before .before .before .before .before .before .before .before .before .before .before .before .before .before .before .before .before in
-    let a = s .args in
-    let rows = s .pre .0 in
-    let lane = s .pre .1 .0 .1 in
-    lane-floor rows lane (c .where-is2 .result) (c .where-is2 .ensures .0)
+    let after-moved = c .before .before in
+    let after-open-end = after-moved .before .before .before in
+    let after-if1 = after-open-end .before .before .before in
+    let after-racks2 = after-if1 .before .before .before in
+    let after-order2 = after-racks2 .before .before .before in
+    let after-order = after-order2 .before .before in
+    let entry = after-order .before .before in
+    lane-floor (entry .pre .0) (entry .pre .1 .0) (c .where-is2 .result) (c .where-is2 .ensures .inside)
 
 same-length : tie.Need-same-length
 same-length c =
-    let two-at = c .before .before .before .before .before .before in
-    let one-at = two-at .before .before .before .before .before .before .before in
-    let one = one-at .clear .ensures in
-    let two = two-at .clear2 .ensures in
-    two .0 .journey .trip .tail ∙ one .0 .journey .trip .tail
+    let after-moved2 = c .before .before .before in
+    let after-moved = after-moved2 .before in
+    let after-open-end = after-moved .before .before .before in
+    after-open-end .open-end .ensures .0 .tail
 
 returns-2 : tie.Need-returns-2
 returns-2 c =
-    let two-at = c .before .before .before .before .before .before in
-    let without-at = two-at .before .before .before .before in
-    let one-at = without-at .before .before .before in
-    let rest-at = one-at .before .before .before .before in
-    let part-at = rest-at .before .before .before .before .before in
-    let s = part-at .before .before .before .before in
-    let a = s .args in
-    let rows = s .pre .0 in
-    let lane = s .pre .1 .0 .1 in
-    let near = s .pre .1 .1 .0 in
-    let state = s .pre .1 .1 .1 .0 in
-    let within = lane .within in
-    let small = rows .small in
-    let inner = lane .handle .inner in
-    let four = lane-four rows lane in
-    let part = part-at .part .ensures in
-    let rest = rest-at .part2 .ensures in
-    let one = one-at .clear .ensures in
-    let table = table-went (rows .inside) (one .0 .journey .trip .went) (state .0 .table) in
-    let placing = fetch-kept rows lane (a .k) _ _ part rest (a .y) (state .0) table (one .1) in
-    let without = without-at .without .ensures in
-    let two = two-at .clear2 .ensures in
-    let table2 = table-went (rows .inside) (two .0 .journey .trip .went) table in
-    let placing2 = fetch-kept-end rows lane (a .k) _ _ part rest (a .y) (near .0) (near .1) _ without placing table2 (two .1) in
-    let bound = fetch-bound (a .n) four in
-    let from = c .before .before .where-is2 in
-    let there = c .before .has2 .ensures .0 (c .if2 .taken) in (
-      trip-more (2 * (a .n * a .n)) (omega arith) (trip-append (one .0 .journey .trip) (two .0 .journey .trip)),
+    let after-has2 = c .before in
+    let after-where-is2 = after-has2 .before in
+    let after-moved = after-where-is2 .before .before in
+    let after-open-end = after-moved .before .before .before in
+    let after-if1 = after-open-end .before .before .before in
+    let after-racks2 = after-if1 .before .before .before in
+    let after-part = after-racks2 .before .before in
+    let after-next-rack = after-part .before .before in
+    let entry = after-next-rack .before .before .before in
+    let rows = entry .pre .0 in
+    let on = entry .pre .1 .0 in
+    let asked = entry .pre .1 .1 .1 in
+    let n = entry .args .lane .positions in
+    let bound = fetch-bound n (lane-four rows on) in
+    let opened = after-open-end .open-end .ensures in
+    let placing = opened .1 .0 _ (asked .0) in
+    let from = after-where-is2 .where-is2 in
+    let is = from .ensures .there ∙ after-next-rack .next-rack .ensures in
+    let there = after-has2 .has2 .ensures .0 (c .if2 .taken) in
+    let part = after-part .part .ensures in (
+      trip-more (2 * (n * n)) (omega arith) (opened .0),
       (
-        fetch-cleared rows lane _ part placing2 (state .1) (from .result) (from .ensures .1) there (two .1 .vacant),
-        two .0 .journey .log ∙ one .0 .journey .log,
+        fetch-already rows on _ part placing (asked .1 .0) (from .result) is there
+            (record { at = entry .args .lane .right; there = on .handle .right; vacant = opened .1 .1 .0 .end }),
+        opened .1 .1 .1,
       ),
     )
 
 place-of-requires : tie.Need-place-of-requires
 place-of-requires c κs =
-    let two-at = c .before .before .before .before .before .before in
-    let without-at = two-at .before .before .before .before in
-    let one-at = without-at .before .before .before in
-    let rest-at = one-at .before .before .before .before in
-    let part-at = rest-at .before .before .before .before .before in
-    let s = part-at .before .before .before .before in
-    let a = s .args in
-    let rows = s .pre .0 in
-    let lane = s .pre .1 .0 .1 in
-    let near = s .pre .1 .1 .0 in
-    let state = s .pre .1 .1 .1 .0 in
-    let within = lane .within in
-    let small = rows .small in
-    let inner = lane .handle .inner in
-    let four = lane-four rows lane in
-    let part = part-at .part .ensures in
-    let rest = rest-at .part2 .ensures in
-    let one = one-at .clear .ensures in
-    let table = table-went (rows .inside) (one .0 .journey .trip .went) (state .0 .table) in
-    let placing = fetch-kept rows lane (a .k) _ _ part rest (a .y) (state .0) table (one .1) in
-    let without = without-at .without .ensures in
-    let two = two-at .clear2 .ensures in
-    let table2 = table-went (rows .inside) (two .0 .journey .trip .went) table in
-    let placing2 = fetch-kept-end rows lane (a .k) _ _ part rest (a .y) (near .0) (near .1) _ without placing table2 (two .1) in
-    let from = c .before .before .where-is2 in
-    let away = fails (c .before .has2 .ensures) (c .if2 .left) in (
-      omega arith,
-      fetch-place rows lane _ part placing2 (state .1) (from .result) (from .ensures .0) (from .ensures .1) away,
+    let after-if2 = c .before in
+    let after-has2 = after-if2 .before in
+    let after-where-is2 = after-has2 .before in
+    let after-moved = after-where-is2 .before .before in
+    let after-open-end = after-moved .before .before .before in
+    let after-if1 = after-open-end .before .before .before in
+    let after-racks2 = after-if1 .before .before .before in
+    let after-part = after-racks2 .before .before in
+    let after-next-rack = after-part .before .before in
+    let entry = after-next-rack .before .before .before in
+    let rows = entry .pre .0 in
+    let on = entry .pre .1 .0 in
+    let asked = entry .pre .1 .1 .1 in
+    let placing = after-open-end .open-end .ensures .1 .0 _ (asked .0) in
+    let from = after-where-is2 .where-is2 in
+    let is = from .ensures .there ∙ after-next-rack .next-rack .ensures in
+    let away = fails (after-has2 .has2 .ensures) (after-if2 .if2 .left) in (
+      handle-places on (rows .small) .most,
+      fetch-place rows on _ (after-part .part .ensures) placing (asked .1 .0) (from .result) (from .ensures .inside) is away,
     )
 
 carry-requires : tie.Need-carry-requires
 carry-requires c κs =
-    let two-at = c .before .before .before .before .before .before .before .before .before .before in
-    let without-at = two-at .before .before .before .before in
-    let one-at = without-at .before .before .before in
-    let rest-at = one-at .before .before .before .before in
-    let part-at = rest-at .before .before .before .before .before in
-    let s = part-at .before .before .before .before in
-    let a = s .args in
-    let rows = s .pre .0 in
-    let lane = s .pre .1 .0 .1 in
-    let near = s .pre .1 .1 .0 in
-    let state = s .pre .1 .1 .1 .0 in
-    let room = s .pre .1 .1 .1 .1 in
-    let within = lane .within in
-    let small = rows .small in
-    let inner = lane .handle .inner in
-    let four = lane-four rows lane in
-    let part = part-at .part .ensures in
-    let rest = rest-at .part2 .ensures in
-    let one = one-at .clear .ensures in
-    let table = table-went (rows .inside) (one .0 .journey .trip .went) (state .0 .table) in
-    let placing = fetch-kept rows lane (a .k) _ _ part rest (a .y) (state .0) table (one .1) in
-    let without = without-at .without .ensures in
-    let two = two-at .clear2 .ensures in
-    let table2 = table-went (rows .inside) (two .0 .journey .trip .went) table in
-    let placing2 = fetch-kept-end rows lane (a .k) _ _ part rest (a .y) (near .0) (near .1) _ without placing table2 (two .1) in
-    let bound = fetch-bound (a .n) four in
-    let from = c .before .before .before .before .before .before .where-is2 in
-    let q = c .before .before .before .place-of .ensures in (
+    let after-place-of = c .before .before in
+    let after-has2 = after-place-of .before .before .before in
+    let after-where-is2 = after-has2 .before in
+    let after-moved = after-where-is2 .before .before in
+    let after-open-end = after-moved .before .before .before in
+    let after-if1 = after-open-end .before .before .before in
+    let after-racks2 = after-if1 .before .before .before in
+    let after-part = after-racks2 .before .before in
+    let after-next-rack = after-part .before .before in
+    let entry = after-next-rack .before .before .before in
+    let rows = entry .pre .0 in
+    let on = entry .pre .1 .0 in
+    let asked = entry .pre .1 .1 .1 in
+    let more = asked .1 .0 in
+    let n = entry .args .lane .positions in
+    let bound = fetch-bound n (lane-four rows on) in
+    let opened = after-open-end .open-end .ensures in
+    let placing = opened .1 .0 _ (asked .0) in
+    let from = after-where-is2 .where-is2 in
+    let is = from .ensures .there ∙ after-next-rack .next-rack .ensures in
+    let q = after-place-of .place-of .ensures in
+    let part = after-part .part .ensures in (
       rows,
       (
-        s .pre .1 .0,
+        on,
         (
-          (q .0, q .1, near .0, near .1, near .2),
+          entry .pre .1 .1 .0,
           (
+            record { from = q .from; before = q .before },
             (
-              table2,
-              two .1 .vacant,
-              fetch-beside rows lane (a .k) _ _ part rest (a .y) (near .0) (near .1) _ without (two .1) (one .1 .vacant),
-              fetch-held rows lane _ part placing2 (state .1) (from .result) _ (from .ensures .1) (q .2),
+              record {
+                table = placing .table;
+                vacant = opened .1 .1 .0;
+                held = fetch-held rows on _ part placing more (from .result) _ is (q .is);
+              },
+              room-then (room-less (2 * (n - 1) + (2 * (n * (n - 3)) + 1)) (omega arith) (asked .1 .1 .1)) (opened .1 .1 .1) (opened .0),
             ),
-            room-then (room-less ((a .n - 1) + (a .n - 1) + (2 * (a .n * (a .n - 3)) + 1)) (omega arith) room)
-                (two .0 .journey .log ∙ one .0 .journey .log) (trip-append (one .0 .journey .trip) (two .0 .journey .trip)),
           ),
         ),
       ),
@@ -364,47 +204,46 @@ carry-requires c κs =
 
 same-length-2 : tie.Need-same-length-2
 same-length-2 c =
-    let two-at = c .before .before .before .before .before .before .before .before .before .before .before .before .before in
-    let one-at = two-at .before .before .before .before .before .before .before in
-    let one = one-at .clear .ensures in
-    let two = two-at .clear2 .ensures in
-    c .before .before .carry .ensures .0 .tail ∙ two .0 .journey .trip .tail ∙ one .0 .journey .trip .tail
+    let after-carry = c .before .before in
+    let after-place-of = after-carry .before .before .before in
+    let after-has2 = after-place-of .before .before .before in
+    let after-moved = after-has2 .before .before .before in
+    let after-open-end = after-moved .before .before .before in
+    after-carry .carry .ensures .0 .tail ∙ after-open-end .open-end .ensures .0 .tail
 
 returns-3 : tie.Need-returns-3
 returns-3 c =
-    let two-at = c .before .before .before .before .before .before .before .before .before .before .before .before .before in
-    let without-at = two-at .before .before .before .before in
-    let one-at = without-at .before .before .before in
-    let rest-at = one-at .before .before .before .before in
-    let part-at = rest-at .before .before .before .before .before in
-    let s = part-at .before .before .before .before in
-    let a = s .args in
-    let rows = s .pre .0 in
-    let lane = s .pre .1 .0 .1 in
-    let near = s .pre .1 .1 .0 in
-    let state = s .pre .1 .1 .1 .0 in
-    let within = lane .within in
-    let small = rows .small in
-    let inner = lane .handle .inner in
-    let four = lane-four rows lane in
-    let part = part-at .part .ensures in
-    let rest = rest-at .part2 .ensures in
-    let one = one-at .clear .ensures in
-    let table = table-went (rows .inside) (one .0 .journey .trip .went) (state .0 .table) in
-    let placing = fetch-kept rows lane (a .k) _ _ part rest (a .y) (state .0) table (one .1) in
-    let without = without-at .without .ensures in
-    let two = two-at .clear2 .ensures in
-    let table2 = table-went (rows .inside) (two .0 .journey .trip .went) table in
-    let placing2 = fetch-kept-end rows lane (a .k) _ _ part rest (a .y) (near .0) (near .1) _ without placing table2 (two .1) in
-    let bound = fetch-bound (a .n) four in
-    let from = c .before .before .before .before .before .before .before .before .before .where-is2 in
-    let q = c .before .before .before .before .before .before .place-of in
-    let three = c .before .before .carry .ensures in
-    let table3 = table-went (rows .inside) (three .0 .went) table2 in (
-      trip-more (2 * (a .n * a .n)) (omega arith) (trip-append (trip-append (one .0 .journey .trip) (two .0 .journey .trip)) (three .0)),
+    let after-carry = c .before .before in
+    let after-place-of = after-carry .before .before .before in
+    let after-has2 = after-place-of .before .before .before in
+    let after-where-is2 = after-has2 .before in
+    let after-moved = after-where-is2 .before .before in
+    let after-open-end = after-moved .before .before .before in
+    let after-if1 = after-open-end .before .before .before in
+    let after-racks2 = after-if1 .before .before .before in
+    let after-part = after-racks2 .before .before in
+    let after-next-rack = after-part .before .before in
+    let entry = after-next-rack .before .before .before in
+    let rows = entry .pre .0 in
+    let on = entry .pre .1 .0 in
+    let near = entry .pre .1 .1 .0 in
+    let asked = entry .pre .1 .1 .1 in
+    let more = asked .1 .0 in
+    let n = entry .args .lane .positions in
+    let bound = fetch-bound n (lane-four rows on) in
+    let opened = after-open-end .open-end .ensures in
+    let placing = opened .1 .0 _ (asked .0) in
+    let from = after-where-is2 .where-is2 in
+    let is = from .ensures .there ∙ after-next-rack .next-rack .ensures in
+    let q = after-place-of .place-of in
+    let part = after-part .part .ensures in
+    let carried = after-carry .carry .ensures in
+    let table = table-went (rows .inside) (carried .0 .went) (placing .table) in (
+      trip-more (2 * (n * n)) (omega arith) (trip-append (opened .0) (carried .0)),
       (
-        fetch-carried rows lane _ part placing2 (state .1) (a .y) (from .result) (q .result) (near .0) (near .1) (from .ensures .1) (q .ensures .2) (two .1 .vacant) (three .1 .0) table3,
-        three .1 .1 ∙ two .0 .journey .log ∙ one .0 .journey .log,
+        fetch-carried rows on _ part placing more (entry .args .lane .beside) (from .result) (q .result) (near .there) (near .right) is
+            (q .ensures .is) (opened .1 .1 .0 .end) (carried .1 .0) table,
+        carried .1 .1 ∙ opened .1 .1 .1,
       ),
     )
 
@@ -412,20 +251,12 @@ pub fetch-spec : {M : Type 1} → statement M
 fetch-spec =
     tie.close
     (tie.spec
-    sub-rack
-    sub-rack-2
-    element-copy-out-rack
-    cast-rack
-    element-copy-out-rack-2
+    next-rack-requires
     part-requires
     where-is-requires
     has-requires
     returns
-    add-part
-    part-requires-2
-    clear-requires
-    without-requires
-    clear-requires-2
+    open-end-requires
     where-is-requires-2
     has-requires-2
     same-length

@@ -3,8 +3,9 @@
 use Prim.Native.Nat.{ℕ, _-_, _≤_, _<_}
 use native.Mathlib.Omega.{arith}
 use Rattle.graph.proofs.Decision.{says-yes, says-no}
-use Rattle.moving.specs.Journey.{row}
-use Rattle.handles.proofs.StageLaws.{Agreed, agreed-next}
+use Rattle.shunting.specs.Journey.{row}
+use Rattle.handles.specs.Lane.{Agreed}
+use Rattle.handles.proofs.StageLaws.{agreed-next}
 use Rattle.handles.proofs.is_settled.Statement.{statement}
 use Rattle.handles.proofs.is_settled.Tie as tie
 
@@ -21,19 +22,35 @@ loop-holds : tie.Need-loop-holds Inv-loop μ-loop
 loop-holds c = (omega arith, λ j le l. absurd (none le l))
 
 element-copy-out-p : tie.Need-element-copy-out-p Inv-loop μ-loop
-element-copy-out-p c = let p = c .before .before .pre .0 in omega arith
+element-copy-out-p c = let most = c .before .before .pre .most in omega arith
 
 cast-p : tie.Need-cast-p Inv-loop μ-loop
-cast-p c = let x = c .before .before .before .pre .1 (c .before .before .loop .i) (c .before .loop-test .taken) in omega arith
+cast-p c =
+    let test = c .before in
+    let turn = test .before in
+    let entry = turn .before in
+    let below = entry .pre .below (turn .loop .i) (test .loop-test .taken) in
+    omega arith
 
 element-copy-out-if1 : tie.Need-element-copy-out-if1 Inv-loop μ-loop
-element-copy-out-if1 c = c .before .before .before .pre .1 (c .before .before .loop .i) (c .before .loop-test .taken)
+element-copy-out-if1 c =
+    let test = c .before in
+    let turn = test .before in
+    let entry = turn .before in
+    entry .pre .below (turn .loop .i) (test .loop-test .taken)
 
 element-copy-out-if1-2 : tie.Need-element-copy-out-if1-2 Inv-loop μ-loop
-element-copy-out-if1-2 c = c .before .before .before .before .pre .1 (c .before .before .before .loop .i) (c .before .before .loop-test .taken)
+element-copy-out-if1-2 c =
+    let test = c .before .before in
+    let turn = test .before in
+    let entry = turn .before in
+    entry .pre .below (turn .loop .i) (test .loop-test .taken)
 
 returns : tie.Need-returns Inv-loop μ-loop
-returns c = let i = c .before .before .before .before .before .loop .i in says-no (λ all. c .if1 .taken (all i (omega arith) (omega arith)))
+returns c =
+    let after-p = c .before .before .before in
+    let turn = after-p .before .before in
+    says-no (λ all. c .if1 .taken (all (turn .loop .i) (omega arith) (omega arith)))
 
 add-i : tie.Need-add-i Inv-loop μ-loop
 add-i c = omega arith
@@ -42,8 +59,12 @@ loop-less : tie.Need-loop-less Inv-loop μ-loop
 loop-less c = omega arith
 
 loop-again : tie.Need-loop-again Inv-loop μ-loop
-loop-again c = let a = c .before .before .before .before .before .before .args in
-    let l = c .before .before .before .before .before .loop in
+loop-again c =
+    let after-p = c .before .before .before in
+    let turn = after-p .before .before in
+    let entry = turn .before in
+    let a = entry .args in
+    let l = turn .loop in
     (omega arith, agreed-next (row (a .order .now)) (row (a .goal .now)) (row (a .racks .now)) (a .s) (l .i) (c .if1 .left) (l .inv .1))
 
 returns-2 : tie.Need-returns-2 Inv-loop μ-loop

@@ -4,82 +4,102 @@ use Prim.Native.Nat.{_-_}
 use mathlib.Core.Path.{refl}
 use mathlib.Core.Logic.{inl}
 use native.Mathlib.Omega.{arith}
-use Rattle.moving.proofs.JourneyLaws.{trip-none, trip-more, fits-anew}
-use Rattle.settling.proofs.TableLaws.{table-went}
-use Rattle.handles.proofs.StageLaws.{lane-fits, lane-small, region-has, region-below, region-reaches, placing-kept, stage-vacancy}
+use Rattle.shunting.proofs.JourneyLaws.{trip-none, trip-more, trip-anew, fits-anew}
+use Rattle.shunting.proofs.TableLaws.{table-went}
+use Rattle.handles.proofs.StageLaws.{handle-places, region-has, region-below, region-reaches, placing-kept, stage-vacancy}
+use Rattle.handles.proofs.CycleLaws.{lane-places}
 use Rattle.handles.proofs.open_stage.Statement.{statement}
 use Rattle.handles.proofs.open_stage.Tie as tie
 
 part-requires : tie.Need-part-requires
 part-requires c κs =
-    let s = c .before .pre in
-    let lane = s .1 .0 .2 in
-    let n64 = s .0 .small in
-    let inner = lane .handle .inner in
-    let fits = lane-fits lane n64 in
-    (omega arith, λ i l. lane-small lane n64 i (omega arith))
+    let after-order = c .before .before in
+    let entry = after-order .before .before in
+    lane-places (entry .pre .0) (entry .pre .1 .0)
 
 vacancies-requires : tie.Need-vacancies-requires
-vacancies-requires c κs = let n64 = c .before .before .before .pre .0 .small in omega arith
+vacancies-requires c κs =
+    let after-racks = c .before .before .before in
+    let entry = after-racks .before .before .before in
+    entry .pre .0 .small
 
 returns : tie.Need-returns
-returns c = let s = c .before .before .before .before .before in (
-  trip-more (s .args .n - 1) (omega arith) (trip-none (s .args .racks .now) (s .args .tail .now) (s .args .written)),
-  ((λ T x. x, stage-vacancy _ _ (c .before .vacancies .ensures) (c .before .before .before .part .ensures) (c .if1 .taken)), refl),
-)
+returns c =
+    let after-vacancies = c .before in
+    let after-part = after-vacancies .before .before in
+    let after-order = after-part .before .before .before in
+    let entry = after-order .before .before in (
+      trip-more (entry .args .lane .positions - 1) (omega arith) (trip-none _ _),
+      (λ T x. x, (stage-vacancy _ _ (after-vacancies .vacancies .ensures) (after-part .part .ensures) (c .if1 .taken), refl)),
+    )
 
 add-part : tie.Need-add-part
-add-part c = let s = c .before .before .before .before .before .pre in
-    let n64 = s .0 .small in
-    let lane = s .1 .0 .2 in
-    let few = s .1 .0 .3 .few in
+add-part c =
+    let after-racks2 = c .before .before .before in
+    let after-racks = after-racks2 .before .before .before in
+    let entry = after-racks .before .before .before in
+    let small = entry .pre .0 .small in
+    let lane = entry .pre .1 .0 in
+    let few = entry .pre .1 .1 .0 .1 .few in
     let inner = lane .handle .inner in
     let within = lane .within in
     omega arith
 
 part-requires-2 : tie.Need-part-requires-2
 part-requires-2 c κs =
-    let s = c .before .before .before .before .before .pre in
-    (lane-fits (s .1 .0 .2) (s .0 .small), lane-small (s .1 .0 .2) (s .0 .small))
+    let after-racks2 = c .before .before .before in
+    let after-racks = after-racks2 .before .before .before in
+    let entry = after-racks .before .before .before in
+    handle-places (entry .pre .1 .0) (entry .pre .0 .small)
 
 clear-requires : tie.Need-clear-requires
-clear-requires c κs = let st = c .before .before .before .before .before .before .before .before .before in
-    let s = st .pre in
-    let a = st .args in
-    let rows = s .0 in
-    let n64 = rows .small in
-    let lane = s .1 .0 .2 in
-    let has = region-has lane (a .k) _ _ (c .before .before .before .before .before .before .before .part .ensures) (c .before .before .before .part2 .ensures) in (
+clear-requires c κs =
+    let after-part2 = c .before .before in
+    let after-vacancies = after-part2 .before .before .before in
+    let after-part = after-vacancies .before .before in
+    let after-order = after-part .before .before .before in
+    let entry = after-order .before .before in
+    let rows = entry .pre .0 in
+    let small = rows .small in
+    let lane = entry .pre .1 .0 in
+    let k = entry .args .k in
+    let here = inl (lane .handle .right) in
+    let has = region-has lane k _ _ (after-part .part .ensures) (after-part2 .part2 .ensures) in (
       rows,
       (
+        region-below lane k (entry .args .lane .right) here,
         (
-          region-below lane (a .k) (a .v) (inl (lane .handle .right)),
-          λ q h. region-below lane (a .k) q (has q .0 h),
-          region-reaches lane (s .1 .0 .3) (a .v) (rows .symmetric) (λ q x. has q .1 x) (inl (lane .handle .right)),
+          λ q h. region-below lane k q (has q .0 h),
+          (
+            region-reaches lane (entry .pre .1 .1 .0 .1) (entry .args .lane .right) (rows .symmetric) (λ q x. has q .1 x) here,
+            fits-anew (entry .args .lane .positions - 1) (omega arith) (omega arith) (entry .pre .1 .1 .1),
+          ),
         ),
-        fits-anew (a .n - 1) (omega arith) (omega arith) (s .1 .1),
       ),
     )
 
 same-length : tie.Need-same-length
-same-length c = c .before .before .clear .kept .1 .1 .1 .1 .1 .1 .1 .0
+same-length c = c .before .before .clear .kept .1 .1 .1 .1 .1 .1 .0
 
 returns-2 : tie.Need-returns-2
-returns-2 c = let st = c .before .before .before .before .before .before .before .before .before .before .before .before in
-    let s = st .pre in
-    let a = st .args in
-    let rows = s .0 in
-    let lane = s .1 .0 .2 in
-    let cl = c .before .before .clear .ensures in
-    let has = region-has lane (a .k) _ _ (c .before .before .before .before .before .before .before .before .before .before .part .ensures) (c .before .before .before .before .before .before .part2 .ensures) in
+returns-2 c =
+    let after-clear = c .before .before in
+    let after-part2 = after-clear .before .before .before in
+    let after-vacancies = after-part2 .before .before .before in
+    let after-part = after-vacancies .before .before in
+    let after-order = after-part .before .before .before in
+    let entry = after-order .before .before in
+    let rows = entry .pre .0 in
+    let lane = entry .pre .1 .0 in
+    let cl = after-clear .clear .ensures in
+    let has = region-has lane (entry .args .k) _ _ (after-part .part .ensures) (after-part2 .part2 .ensures) in
     let trip = cl .0 .journey .trip in (
-      trip,
+      trip-anew trip,
       (
-        (
-          λ T placing. placing-kept lane placing (λ p out. cl .1 .outside p (λ x. out (has p .0 x))) (table-went (rows .inside) (trip .went) (placing .table)),
-          record { at = a .v; there = lane .handle .right; vacant = cl .1 .vacant },
-        ),
-        cl .0 .journey .log,
+        λ T placing.
+            placing-kept lane placing (λ p x. has p .0 x)
+            (table-went (rows .inside) (trip .went) (placing .table)) (cl .1 .outside),
+        (record { at = entry .args .lane .right; there = lane .handle .right; vacant = cl .1 .vacant }, cl .0 .journey .log),
       ),
     )
 

@@ -30,7 +30,8 @@ returns c = value-as (λ (a : Verdict). answered (answerOfCheck a)) _ (c .before
 
 returns-2 : tie.Need-returns-2
 returns-2 c =
-    value-as (λ (a : Verdict). answered (answerOfCheck a)) _ (c .before .before .before .answer2 .given .1) (rw (c .before .number .ensures) at (c .choose2 .ensures))
+    value-as (λ (a : Verdict). answered (answerOfCheck a)) _ (c .before .before .before .answer2 .given .1)
+    (rw (c .before .number .ensures) at (c .choose2 .ensures))
 
 pub checker-value-spec : {M : Type 1} → statement M
 checker-value-spec =

@@ -34,8 +34,9 @@ loop-less c = omega arith
 
 loop-again : tie.Need-loop-again Inv-loop μ-loop
 loop-again c =
-    let a = c .before .before .before .before .args in
-    let l = c .before .before .loop in
+    let round = c .before .before in let entry = round .before .before in
+    let a = entry .args in
+    let l = round .loop in
     let inv = l .inv in
     let u = c .used .ensures in
     (omega arith, inv .1, copied-more (upTo (a .count) (row (a .bytes .now))) (a .at) (l .i) _ _ _ u (omega arith) (inv .2))

@@ -24,7 +24,12 @@ same-length c = search needs
 
 returns : tie.Need-returns
 returns c =
-    laid-out _ _ _ _ _ _ _ _ _ (c .before .before .before .before .before .before .before .before .before .before .before .before .before .before .before .before .before .copy-row .ensures) (c .before .before .before .before .before .before .before .before .before .before .before .before .copy-row2 .ensures) (c .before .before .before .before .before .before .before .copy-row3 .ensures) (c .before .before .copy-row4 .ensures)
+    let copy-row4 = c .before .before in let right2 = copy-row4 .before .before in
+    let copy-row3 = right2 .before .before .before in let left2 = copy-row3 .before .before in
+    let copy-row2 = left2 .before .before .before in let start2 = copy-row2 .before .before in
+    let copy-row = start2 .before .before .before in
+    laid-out _ _ _ _ _ _ _ _ _ (copy-row .copy-row .ensures) (copy-row2 .copy-row2 .ensures) (copy-row3 .copy-row3 .ensures)
+    (copy-row4 .copy-row4 .ensures)
 
 pub lay-out-spec : {M : Type 1} → statement M
 lay-out-spec =

@@ -5,29 +5,37 @@ use mathlib.Core.List.{List, [], _∷_}
 use native.Mathlib.Omega.{arith}
 use Rattle.answers.specs.Answer.{accepted}
 use Rattle.order.specs.Order.{orderAnswer}
+use Rattle.order.specs.Tables.{decodedRows}
 use Rattle.order.specs.Verdict.{answerOf}
 use Rattle.order.specs.declared.Counts.{Counts}
-use Rattle.tables.proofs.AcceptedLaws.{order-gave}
 use Rattle.inspection.proofs.ShownLaws.{short, order-refused, rows-right, not-found, small, found}
 use borrow.Author.Needs.{needs}
 use Rattle.inspection.proofs.wichteab_inspect_breakdown.Statement.{statement}
 use Rattle.inspection.proofs.wichteab_inspect_breakdown.Tie as tie
 
--- the order's bytes, the counts that the order reader gave, and that it accepted with them
+-- the long enough buffer, the order's bytes, the counts that the order reader gave, and that it accepted with them
+abbrev measured : tie.After-known-told → tie.Else1
+measured k =
+    let called = k .before .before .before in
+    let lent = called .before .before .before in
+    lent .before
+
 abbrev bytes : tie.After-known-told → List ℕ
-bytes k = k .before .before .before .before .before .before .before .args .order .now
+bytes k = measured k .before .before .before .args .order .now
 
 abbrev told : tie.After-known-told → Counts
 told k = k .before .below .given .0 .0
 
 accepted-by : (k : tie.After-known-told) → accepted (told k .positions ∷ told k .edges ∷ told k .racks ∷ []) ≡ orderAnswer (bytes k)
-accepted-by k = ap answerOf (sym (k .before .below .given .1)) ∙ k .before .before .before .read .ensures
+accepted-by k =
+    let called = k .before .before .before in
+    ap answerOf (sym (k .before .below .given .1)) ∙ called .decode .ensures .0
 
 returns : tie.Need-returns
 returns c = short _ _ (c .if1 .taken)
 
-read-requires : tie.Need-read-requires
-read-requires c κs = search needs
+decode-requires : tie.Need-decode-requires
+decode-requires c κs = search needs
 
 enum-known-below : tie.Need-enum-known-below
 enum-known-below c = search needs
@@ -37,64 +45,80 @@ enum-told c = search needs
 
 returns-2 : tie.Need-returns-2
 returns-2 c =
-    order-refused _ _ _ _ (sym (ap answerOf (c .enum-told .given .1)) ∙ c .before .before .read .ensures)
-
-sub-rows-of : tie.Need-sub-rows-of
-sub-rows-of c =
-    order-gave (bytes (c)) (told (c) .positions) (told (c) .edges) (told (c) .racks) (accepted-by (c)) .head-there
-
-part-rows-of-start : tie.Need-part-rows-of-start
-part-rows-of-start c =
-    order-gave (bytes (c)) (told (c) .positions) (told (c) .edges) (told (c) .racks) (accepted-by (c)) .head-there
-
-part-rows-of-end : tie.Need-part-rows-of-end
-part-rows-of-end c = search needs
-
-rows-of-requires : tie.Need-rows-of-requires
-rows-of-requires c κs =
-    omega (arith, order-gave (bytes (c .before)) (told (c .before) .positions) (told (c .before) .edges) (told (c .before) .racks) (accepted-by (c .before)))
+    let called = c .before .before in
+    order-refused _ _ _ _ (sym (ap answerOf (c .enum-told .given .1)) ∙ called .decode .ensures .0)
 
 break-down-requires : tie.Need-break-down-requires
 break-down-requires c κs =
-    rows-right (bytes (c .before .before .before)) (told (c .before .before .before) .positions) (told (c .before .before .before) .edges) (told (c .before .before .before) .racks) (accepted-by (c .before .before .before)) (c .before .rows-of .result) (c .before .rows-of .ensures)
+    let k = c .before in
+    rows-right (bytes k) (told k .positions) (told k .edges) (told k .racks) (accepted-by k) _ (k .before .before .before .decode .ensures .1 .0)
 
 returns-3 : tie.Need-returns-3
 returns-3 c =
-    not-found (bytes (c .before .before .before .before .before)) (told (c .before .before .before .before .before) .positions) (told (c .before .before .before .before .before) .edges) (told (c .before .before .before .before .before) .racks) (accepted-by (c .before .before .before .before .before)) (c .before .before .before .rows-of .result) (c .before .before .before .rows-of .ensures) (c .before .break-down .result .ring) (c .before .break-down .result .handles) (c .before .break-down .result .order) (c .before .break-down .result .start) (c .before .break-down .result .left) (c .before .break-down .result .right) (c .before .break-down .ensures) _ (c .if2 .taken)
+    let broken = c .before in
+    let k = broken .before .before in
+    let b = broken .break-down in
+    not-found (bytes k) (told k .positions) (told k .edges) (told k .racks) (accepted-by k) _ (k .before .before .before .decode .ensures .1 .0)
+    (b .result .ring) (b .result .handles) (b .result .order) (b .result .start) (b .result .left) (b .result .right) (b .ensures) _ (c .if2 .taken)
 
 lay-out-requires : tie.Need-lay-out-requires
 lay-out-requires c κs =
-    let few = small (bytes (c .before .before .before .before .before .before)) (told (c .before .before .before .before .before .before) .positions) (told (c .before .before .before .before .before .before) .edges) (told (c .before .before .before .before .before .before) .racks) (accepted-by (c .before .before .before .before .before .before)) (c .before .before .before .before .rows-of .result) (c .before .before .before .before .rows-of .ensures) (c .before .before .break-down .result .ring) (c .before .before .break-down .result .handles) (c .before .before .break-down .result .order) (c .before .before .break-down .result .start) (c .before .before .break-down .result .left) (c .before .before .break-down .result .right) (c .before .before .break-down .ensures) (omega arith) in
+    let broken = c .before .before in
+    let k = broken .before .before in
+    let b = broken .break-down in
+    let long = measured k .if1 .left in
+    let few = small (bytes k) (told k .positions) (told k .edges) (told k .racks) (accepted-by k) _ (k .before .before .before .decode .ensures .1 .0)
+    (b .result .ring) (b .result .handles) (b .result .order) (b .result .start) (b .result .left) (b .result .right) (b .ensures) (omega arith) in
     (omega arith, omega arith)
 
 mul-result : tie.Need-mul-result
 mul-result c =
-    omega (arith, small (bytes (c .before .before .before .before .before .before .before .before .before)) (told (c .before .before .before .before .before .before .before .before .before) .positions) (told (c .before .before .before .before .before .before .before .before .before) .edges) (told (c .before .before .before .before .before .before .before .before .before) .racks) (accepted-by (c .before .before .before .before .before .before .before .before .before)) (c .before .before .before .before .before .before .before .rows-of .result) (c .before .before .before .before .before .before .before .rows-of .ensures) (c .before .before .before .before .before .break-down .result .ring) (c .before .before .before .before .before .break-down .result .handles) (c .before .before .before .before .before .break-down .result .order) (c .before .before .before .before .before .break-down .result .start) (c .before .before .before .before .before .break-down .result .left) (c .before .before .before .before .before .break-down .result .right) (c .before .before .before .before .before .break-down .ensures) (omega arith))
+    let laid = c .before .before in
+    let tested = laid .before .before in
+    let broken = tested .before in
+    let k = broken .before .before in
+    let b = broken .break-down in
+    omega (
+      arith,
+      small (bytes k) (told k .positions) (told k .edges) (told k .racks) (accepted-by k) _ (k .before .before .before .decode .ensures .1 .0)
+          (b .result .ring) (b .result .handles) (b .result .order) (b .result .start) (b .result .left) (b .result .right) (b .ensures) (omega arith),
+    )
 
 add-result : tie.Need-add-result
 add-result c =
-    omega (arith, small (bytes (c .before .before .before .before .before .before .before .before .before)) (told (c .before .before .before .before .before .before .before .before .before) .positions) (told (c .before .before .before .before .before .before .before .before .before) .edges) (told (c .before .before .before .before .before .before .before .before .before) .racks) (accepted-by (c .before .before .before .before .before .before .before .before .before)) (c .before .before .before .before .before .before .before .rows-of .result) (c .before .before .before .before .before .before .before .rows-of .ensures) (c .before .before .before .before .before .break-down .result .ring) (c .before .before .before .before .before .break-down .result .handles) (c .before .before .before .before .before .break-down .result .order) (c .before .before .before .before .before .break-down .result .start) (c .before .before .before .before .before .break-down .result .left) (c .before .before .before .before .before .break-down .result .right) (c .before .before .before .before .before .break-down .ensures) (omega arith))
+    let laid = c .before .before in
+    let tested = laid .before .before in
+    let broken = tested .before in
+    let k = broken .before .before in
+    let b = broken .break-down in
+    omega (
+      arith,
+      small (bytes k) (told k .positions) (told k .edges) (told k .racks) (accepted-by k) _ (k .before .before .before .decode .ensures .1 .0)
+          (b .result .ring) (b .result .handles) (b .result .order) (b .result .start) (b .result .left) (b .result .right) (b .ensures) (omega arith),
+    )
 
 same-length : tie.Need-same-length
 same-length c = search needs
 
 returns-4 : tie.Need-returns-4
 returns-4 c =
-    found (bytes (c .before .before .before .before .before .before .before .before .before)) (told (c .before .before .before .before .before .before .before .before .before) .positions) (told (c .before .before .before .before .before .before .before .before .before) .edges) (told (c .before .before .before .before .before .before .before .before .before) .racks) (accepted-by (c .before .before .before .before .before .before .before .before .before)) (c .before .before .before .before .before .before .before .rows-of .result) (c .before .before .before .before .before .before .before .rows-of .ensures) (c .before .before .before .before .before .break-down .result .ring) (c .before .before .before .before .before .break-down .result .handles) (c .before .before .before .before .before .break-down .result .order) (c .before .before .before .before .before .break-down .result .start) (c .before .before .before .before .before .break-down .result .left) (c .before .before .before .before .before .break-down .result .right) (c .before .before .before .before .before .break-down .ensures) (omega arith) _ _ (c .before .before .before .before .before .before .before .before .before .before .before .before .before .if1 .left) (c .before .before .lay-out .ensures)
+    let laid = c .before .before in
+    let tested = laid .before .before in
+    let broken = tested .before in
+    let k = broken .before .before in
+    let b = broken .break-down in
+    found (bytes k) (told k .positions) (told k .edges) (told k .racks) (accepted-by k) _ (k .before .before .before .decode .ensures .1 .0)
+    (b .result .ring) (b .result .handles) (b .result .order) (b .result .start) (b .result .left) (b .result .right) (b .ensures) (omega arith) _ _ (measured k .if1 .left) (laid .lay-out .ensures)
 
 pub wichteab-inspect-breakdown-spec : {M : Type 1} → statement M
 wichteab-inspect-breakdown-spec =
     tie.close
     (tie.spec
     returns
-    read-requires
+    decode-requires
     enum-known-below
     enum-told
     returns-2
-    sub-rows-of
-    part-rows-of-start
-    part-rows-of-end
-    rows-of-requires
     break-down-requires
     returns-3
     lay-out-requires

@@ -18,7 +18,9 @@ same-length-2 : tie.Need-same-length-2
 same-length-2 c = search needs
 
 returns : tie.Need-returns
-returns c = told-planner (c .before .before .before .before .before .before .deliver .ensures .0) (omega arith) (c .planner-value .ensures)
+returns c =
+    let timetable = c .before .before .before in let deliver = timetable .before .before .before in
+    told-planner (deliver .deliver .ensures .0) (omega arith) (c .planner-value .ensures)
 
 maker-call-value-requires : tie.Need-maker-call-value-requires
 maker-call-value-requires c κs = search needs
@@ -30,7 +32,10 @@ same-length-4 : tie.Need-same-length-4
 same-length-4 c = search needs
 
 returns-2 : tie.Need-returns-2
-returns-2 c = told-maker (c .before .before .before .before .before .before .before .deliver .ensures .0) (λ z. omega arith) (omega arith) (c .maker-call-value .ensures)
+returns-2 c =
+    let else1 = c .before .before in let timetable = else1 .before .before in
+    let deliver = timetable .before .before .before in
+    told-maker (deliver .deliver .ensures .0) (λ z. omega arith) (omega arith) (c .maker-call-value .ensures)
 
 checker-call-value-requires : tie.Need-checker-call-value-requires
 checker-call-value-requires c κs = search needs
@@ -42,7 +47,10 @@ same-length-6 : tie.Need-same-length-6
 same-length-6 c = search needs
 
 returns-3 : tie.Need-returns-3
-returns-3 c = told-checker (c .before .before .before .before .before .before .before .deliver .ensures .0) (λ z. omega arith) (λ z. omega arith) (c .checker-call-value .ensures)
+returns-3 c =
+    let else1 = c .before .before in let timetable = else1 .before .before in
+    let deliver = timetable .before .before .before in
+    told-checker (deliver .deliver .ensures .0) (λ z. omega arith) (λ z. omega arith) (c .checker-call-value .ensures)
 
 pub wichteab-inspect-delivery-spec : {M : Type 1} → statement M
 wichteab-inspect-delivery-spec =

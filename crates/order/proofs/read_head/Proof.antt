@@ -15,6 +15,9 @@ counts-of-requires c κs = search needs
 add-units : tie.Need-add-units
 add-units c = search needs
 
+mul-units : tie.Need-mul-units
+mul-units c = search needs
+
 units-fit-requires : tie.Need-units-fit-requires
 units-fit-requires c κs = search needs
 
@@ -49,6 +52,7 @@ read-head-spec =
     returns
     counts-of-requires
     add-units
+    mul-units
     units-fit-requires
     returns-2
     returns-3

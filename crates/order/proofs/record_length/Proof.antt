@@ -1,7 +1,7 @@
 -- `order::record_length` meets its contract: the length by the counts, or none. Assumes nothing.
 use mathlib.Core.Path.{sym}
 use native.Mathlib.Omega.{arith}
-use Rattle.field.specs.Units.{unitsLength}
+use Rattle.field.specs.Units.{recordLength}
 use Rattle.field.proofs.FrontLaws.{whole-as, whole-none}
 use Rattle.order.specs.Order.{unitCount}
 use Rattle.order.specs.RecordLength.{orderLength, wholeOrderLength}
@@ -10,7 +10,7 @@ use Rattle.order.proofs.record_length.Statement.{statement}
 use Rattle.order.proofs.record_length.Tie as tie
 
 returns : tie.Need-returns
-unfolding wholeOrderLength orderLength unitsLength
+unfolding wholeOrderLength orderLength recordLength
 returns c = sym (whole-none _ _ (omega arith))
 
 counts-of-requires : tie.Need-counts-of-requires
@@ -29,11 +29,11 @@ add-len-3 : tie.Need-add-len-3
 add-len-3 c = search needs
 
 returns-2 : tie.Need-returns-2
-unfolding wholeOrderLength orderLength unitsLength unitCount
+unfolding wholeOrderLength orderLength recordLength unitCount
 returns-2 c = sym (whole-none _ _ (omega arith))
 
 returns-3 : tie.Need-returns-3
-unfolding wholeOrderLength orderLength unitsLength unitCount
+unfolding wholeOrderLength orderLength recordLength unitCount
 returns-3 c = whole-as _ _ _ (omega arith) (omega arith)
 
 pub record-length-spec : {M : Type 1} → statement M

@@ -1,9 +1,11 @@
 -- `plan::check` meets its contract: a refusal of the order reader or of the record reader is passed up, and `Layers` has the judgement
 -- above their acceptance. Assumes nothing.
 use mathlib.Core.Path.{_≡_, ap, sym, _∙_}
-use mathlib.Core.List.{[], _∷_}
+use Prim.Native.Nat.{ℕ}
+use mathlib.Core.List.{List, [], _∷_}
 use Rattle.answers.specs.Answer.{accepted}
 use Rattle.order.specs.Order.{orderAnswer}
+use Rattle.order.specs.declared.Counts.{Counts}
 use Rattle.order.specs.Verdict.{answerOf as orderAnswerOf}
 use Rattle.tables.specs.Accepted.{OrderGave}
 use Rattle.tables.proofs.AcceptedLaws.{order-gave}
@@ -15,17 +17,37 @@ use Rattle.plan.proofs.check.Statement.{statement}
 use Rattle.plan.proofs.check.Tie as tie
 
 -- what both readers' acceptance tells
-order-accepted : (c : tie.After-known-told2) → accepted (c .before .before .before .before .before .below .given .0 .0 .positions ∷ c .before .before .before .before .before .below .given .0 .0 .edges ∷ c .before .before .before .before .before .below .given .0 .0 .racks ∷ []) ≡ orderAnswer (c .before .before .before .before .before .before .before .before .before .before .args .order .now)
-order-accepted c = ap orderAnswerOf (sym (c .before .before .before .before .before .below .given .1)) ∙ c .before .before .before .before .before .before .before .read .ensures
+module _ (c : tie.After-known-told2) where
+  -- the two calls, and the two byte strings
+  abbrev plan-read : tie.After-read-record
+  plan-read = c .before .before .before
 
-record-accepted : (c : tie.After-known-told2) → accepted (c .before .head .given .0 .0 ∷ []) ≡ recordAnswer (c .before .before .before .before .before .before .before .before .before .before .args .plan .now)
-record-accepted c = ap answerOf (sym (c .before .head .given .1)) ∙ c .before .before .before .read-record .ensures
+  abbrev order-told : tie.After-below
+  order-told = plan-read .before .before
 
-of-order : (c : tie.After-known-told2) → OrderGave (c .before .before .before .before .before .before .before .before .before .before .args .order .now) (c .before .before .before .before .before .below .given .0 .0 .positions) (c .before .before .before .before .before .below .given .0 .0 .edges) (c .before .before .before .before .before .below .given .0 .0 .racks)
-of-order c = order-gave (c .before .before .before .before .before .before .before .before .before .before .args .order .now) (c .before .before .before .before .before .below .given .0 .0 .positions) (c .before .before .before .before .before .below .given .0 .0 .edges) (c .before .before .before .before .before .below .given .0 .0 .racks) (order-accepted c)
+  abbrev order-read : tie.After-read
+  order-read = order-told .before .before
 
-of-record : (c : tie.After-known-told2) → RecordGave (c .before .before .before .before .before .before .before .before .before .before .args .plan .now) (c .before .head .given .0 .0)
-of-record c = record-gave (c .before .before .before .before .before .before .before .before .before .before .args .plan .now) (c .before .head .given .0 .0) (record-accepted c)
+  abbrev o : List ℕ
+  o = order-read .before .before .before .args .order .now
+
+  abbrev p : List ℕ
+  p = order-read .before .before .before .args .plan .now
+
+  abbrev given : Counts
+  given = order-told .below .given .0 .0
+
+  order-accepted : accepted (given .positions ∷ given .edges ∷ given .racks ∷ []) ≡ orderAnswer o
+  order-accepted = ap orderAnswerOf (sym (order-told .below .given .1)) ∙ order-read .read .ensures
+
+  record-accepted : accepted (c .before .head .given .0 .0 ∷ []) ≡ recordAnswer p
+  record-accepted = ap answerOf (sym (c .before .head .given .1)) ∙ plan-read .read-record .ensures
+
+  of-order : OrderGave o (given .positions) (given .edges) (given .racks)
+  of-order = order-gave o (given .positions) (given .edges) (given .racks) order-accepted
+
+  of-record : RecordGave p (c .before .head .given .0 .0)
+  of-record = record-gave p (c .before .head .given .0 .0) record-accepted
 
 read-requires : tie.Need-read-requires
 read-requires c κs = search needs
@@ -41,7 +63,11 @@ refusal-requires c κs = search needs
 
 returns : tie.Need-returns
 returns c =
-    order-turned-down (c .before .before .before .before .before .before .args .order .now) (c .before .before .before .before .before .before .args .plan .now) _ _ _ _ (c .before .before .before .read .ensures) (ap orderAnswerOf (c .before .enum-told .given .1)) (c .refusal .ensures)
+    let told = c .before in
+    let read = told .before .before in
+    let entry = read .before .before .before .args in
+    order-turned-down (entry .order .now) (entry .plan .now) _ _ _ _ (read .read .ensures) (ap orderAnswerOf (told .enum-told .given .1))
+    (c .refusal .ensures)
 
 read-record-requires : tie.Need-read-record-requires
 read-record-requires c κs = search needs
@@ -54,7 +80,13 @@ enum-told-2 c = search needs
 
 returns-2 : tie.Need-returns-2
 returns-2 c =
-    record-turned-down (c .before .before .before .before .before .before .before .before .before .args .order .now) (c .before .before .before .before .before .before .before .before .before .args .plan .now) _ _ _ _ (ap orderAnswerOf (sym (c .before .before .before .before .below .given .1)) ∙ c .before .before .before .before .before .before .read .ensures) (c .before .before .read-record .ensures) (ap answerOf (c .enum-told2 .given .1))
+    let plan-read = c .before .before in
+    let told = plan-read .before .before in
+    let read = told .before .before in
+    let entry = read .before .before .before .args in
+    record-turned-down (entry .order .now) (entry .plan .now) _ _ _ _
+    (ap orderAnswerOf (sym (told .below .given .1)) ∙ read .read .ensures) (plan-read .read-record .ensures)
+    (ap answerOf (c .enum-told2 .given .1))
 
 sub-judge : tie.Need-sub-judge
 sub-judge c = of-order c .head-there
@@ -76,11 +108,22 @@ part-judge-end-2 c = search needs
 
 judge-requires : tie.Need-judge-requires
 judge-requires c κs =
-    (of-order (c .before .before) .few-edges, of-order (c .before .before) .few-racks, of-order (c .before .before) .room, of-record (c .before .before) .count-below, plan-room (c .before .before .before .before .before .before .before .before .before .before .before .before .args .order .now) (c .before .before .before .before .before .before .before .below .given .0 .0 .positions) (c .before .before .before .before .before .before .before .below .given .0 .0 .edges) (c .before .before .before .before .before .before .before .below .given .0 .0 .racks) (of-order (c .before .before)) (c .before .before .before .before .before .before .before .before .before .before .before .before .args .plan .now) (c .before .before .before .head .given .0 .0) (of-record (c .before .before)))
+    let read = c .before .before in
+    let n = given read in
+    let gave = of-order read in
+    let record-is = of-record read in
+    let k = read .before .head .given .0 .0 in
+    let room = plan-room (o read) (n .positions) (n .edges) (n .racks) gave (p read) k record-is in
+    ((gave .few-edges, gave .few-racks, gave .room), (record-is .count-below, room))
 
 returns-3 : tie.Need-returns-3
 returns-3 c =
-    c .judge .ensures ∙ answer-is (c .before .before .before .before .before .before .before .before .before .before .before .before .before .args .order .now) (c .before .before .before .before .before .before .before .before .below .given .0 .0 .positions) (c .before .before .before .before .before .before .before .before .below .given .0 .0 .edges) (c .before .before .before .before .before .before .before .before .below .given .0 .0 .racks) (of-order (c .before .before .before)) (c .before .before .before .before .before .before .before .before .before .before .before .before .before .args .plan .now) (c .before .before .before .before .head .given .0 .0) (of-record (c .before .before .before)) (order-accepted (c .before .before .before)) (record-accepted (c .before .before .before))
+    let read = c .before .before .before in
+    let n = given read in
+    let k = read .before .head .given .0 .0 in
+    c .judge .ensures
+    ∙ answer-is (o read) (n .positions) (n .edges) (n .racks) (of-order read) (p read) k (of-record read) (order-accepted read)
+    (record-accepted read)
 
 pub check-spec : {M : Type 1} → statement M
 check-spec =

@@ -1,8 +1,7 @@
 -- `plan::replay` meets its contract. The loop's invariant: what is left to replay decides. Assumes nothing.
-use Prim.Native.Nat.{_≤_, _-_}
+use Prim.Native.Nat.{_-_, _≤_}
 use native.Mathlib.Omega.{arith}
 use borrow.Author.Needs.{needs}
-use borrow.Author.Tests.{not-true, not-false}
 use Rattle.plan.proofs.Turns.{MovesLeft, moves-first, moves-stop, moves-next, moves-none}
 use Rattle.plan.proofs.replay.Statement.{statement}
 use Rattle.plan.proofs.replay.Tie as tie
@@ -22,27 +21,44 @@ pair-at-requires c κs = omega arith
 element-copy-out-rack : tie.Need-element-copy-out-rack Inv-loop μ-loop
 element-copy-out-rack c = omega arith
 
-mul-legal : tie.Need-mul-legal Inv-loop μ-loop
-mul-legal c = omega arith
+mul-move-fault : tie.Need-mul-move-fault Inv-loop μ-loop
+mul-move-fault c = omega arith
 
-add-legal : tie.Need-add-legal Inv-loop μ-loop
-add-legal c = omega arith
+add-move-fault : tie.Need-add-move-fault Inv-loop μ-loop
+add-move-fault c = omega arith
 
-element-copy-out-legal : tie.Need-element-copy-out-legal Inv-loop μ-loop
-element-copy-out-legal c = omega arith
+element-copy-out-move-fault : tie.Need-element-copy-out-move-fault Inv-loop μ-loop
+element-copy-out-move-fault c = omega arith
 
-element-copy-out-legal-2 : tie.Need-element-copy-out-legal-2 Inv-loop μ-loop
-element-copy-out-legal-2 c = omega arith
+element-copy-out-move-fault-2 : tie.Need-element-copy-out-move-fault-2 Inv-loop μ-loop
+element-copy-out-move-fault-2 c = omega arith
 
-legal-requires : tie.Need-legal-requires Inv-loop μ-loop
-legal-requires c κs = search needs
+move-fault-requires : tie.Need-move-fault-requires Inv-loop μ-loop
+move-fault-requires c κs = search needs
 
-add-result : tie.Need-add-result Inv-loop μ-loop
-add-result c = omega arith
+enum-known-verdict : tie.Need-enum-known-verdict Inv-loop μ-loop
+enum-known-verdict c = search needs
+
+add-t23 : tie.Need-add-t23 Inv-loop μ-loop
+add-t23 c = omega arith
+
+cast-t24 : tie.Need-cast-t24 Inv-loop μ-loop
+cast-t24 c = omega arith
 
 returns : tie.Need-returns Inv-loop μ-loop
 returns c =
-    moves-stop (c .before .before .before .before .before .before .before .before .before .args .tail .now) (c .before .before .before .before .before .before .before .before .before .args .k) (c .before .before .before .before .before .before .before .before .before .args .matrix .now) (c .before .before .before .before .before .before .before .before .before .args .racks .now) (c .before .before .before .before .before .before .before .loop .racks) (c .before .before .before .before .before .before .before .loop .j) (c .before .before .before .before .before .pair-at .result .first) (c .before .before .before .before .before .pair-at .result .second) (c .before .before .before .before .before .before .before .loop .inv .1) (omega arith) (c .before .before .before .before .before .pair-at .ensures .first-is) (c .before .before .before .before .before .pair-at .ensures .second-is) (c .before .legal .result) (c .before .legal .ensures) (not-true _ (c .if1 .taken))
+    let judged = c .before .before .before in
+    let held = judged .before .before in
+    let read = held .before .before in
+    let turn = read .before .before in
+    let entry = turn .before .before .args in
+    moves-stop (entry .tail .now) (entry .k) (entry .matrix .now) (entry .racks .now) (turn .loop .racks) (turn .loop .j)
+    (read .pair-at .result .first) (read .pair-at .result .second) (turn .loop .inv .1) (omega arith)
+    (read .pair-at .ensures .first-is) (read .pair-at .ensures .second-is) (judged .move-fault .result) (judged .move-fault .ensures)
+    _ (c .before .verdict .given .1)
+
+enum-told : tie.Need-enum-told Inv-loop μ-loop
+enum-told c = search needs
 
 element-write-racks : tie.Need-element-write-racks Inv-loop μ-loop
 element-write-racks c = omega arith
@@ -58,11 +74,23 @@ loop-less c = omega arith
 
 loop-again : tie.Need-loop-again Inv-loop μ-loop
 loop-again c =
-    (omega arith, moves-next (c .before .before .before .before .before .before .before .before .before .args .tail .now) (c .before .before .before .before .before .before .before .before .before .args .k) (c .before .before .before .before .before .before .before .before .before .args .matrix .now) (c .before .before .before .before .before .before .before .before .before .args .racks .now) (c .before .before .before .before .before .before .before .loop .racks) (c .before .before .before .before .before .before .before .loop .j) (c .before .before .before .before .before .pair-at .result .first) (c .before .before .before .before .before .pair-at .result .second) (c .before .before .before .before .before .before .before .loop .inv .1) (omega arith) (c .before .before .before .before .before .pair-at .ensures .first-is) (c .before .before .before .before .before .pair-at .ensures .second-is) (c .before .legal .result) (c .before .legal .ensures) (not-false _ (c .if1 .left)))
+    let judged = c .before .before in
+    let held = judged .before .before in
+    let read = held .before .before in
+    let turn = read .before .before in
+    let entry = turn .before .before .args in
+    let next = moves-next (entry .tail .now) (entry .k) (entry .matrix .now) (entry .racks .now) (turn .loop .racks) (turn .loop .j)
+    (read .pair-at .result .first) (read .pair-at .result .second) (turn .loop .inv .1) (omega arith)
+    (read .pair-at .ensures .first-is) (read .pair-at .ensures .second-is) (judged .move-fault .result) (judged .move-fault .ensures)
+    (c .enum-told .given .1) in
+    (omega arith, next)
 
 returns-2 : tie.Need-returns-2 Inv-loop μ-loop
 returns-2 c =
-    moves-none (c .before .before .before .args .tail .now) (c .before .before .before .args .k) (c .before .before .before .args .matrix .now) (c .before .before .before .args .racks .now) (c .before .loop .racks) (c .before .loop .j) (c .before .loop .inv .1) (omega arith)
+    let turn = c .before in
+    let entry = turn .before .before .args in
+    moves-none (entry .tail .now) (entry .k) (entry .matrix .now) (entry .racks .now) (turn .loop .racks) (turn .loop .j)
+    (turn .loop .inv .1) (omega arith)
 
 pub replay-spec : {M : Type 1} → statement M
 replay-spec =
@@ -73,13 +101,16 @@ replay-spec =
     loop-holds
     pair-at-requires
     element-copy-out-rack
-    mul-legal
-    add-legal
-    element-copy-out-legal
-    element-copy-out-legal-2
-    legal-requires
-    add-result
+    mul-move-fault
+    add-move-fault
+    element-copy-out-move-fault
+    element-copy-out-move-fault-2
+    move-fault-requires
+    enum-known-verdict
+    add-t23
+    cast-t24
     returns
+    enum-told
     element-write-racks
     element-write-racks-2
     add-j

@@ -1,19 +1,11 @@
 -- `plan_program::plan_program` meets its contract: what the planner answers and leaves is what is printed. Assumes nothing.
-use Prim.Native.Nat.{ℕ}
-use mathlib.Core.Path.{_≡_, subst}
-use mathlib.Core.List.{List}
 use native.Mathlib.Omega.{arith}
-use Rattle.text.proofs.Sizes.{refusal-fits}
-use Rattle.planner.specs.declared.PlannerVerdict.{PlannerVerdict}
-use Rattle.planner.specs.Planner.{PlanMade, answerOf}
+use Rattle.writers.proofs.LineLaws.{refusal-fits}
 use Rattle.planner.proofs.PlannerLaws.{moves-few}
 use Rattle.plan_program.proofs.PrintedLaws.{made-printed, refused-printed}
 use borrow.Author.Needs.{needs}
 use Rattle.plan_program.proofs.plan_program.Statement.{statement}
 use Rattle.plan_program.proofs.plan_program.Tie as tie
-
-made-as : {o B B′ : List ℕ} {v w : PlannerVerdict} → v ≡ w → PlanMade o B (answerOf v) B′ → PlanMade o B (answerOf w) B′
-made-as {o} {B} {B′} e h = subst (λ (v : PlannerVerdict). PlanMade o B (answerOf v) B′) e h
 
 make-requires : tie.Need-make-requires
 make-requires c κs = search needs
@@ -22,15 +14,15 @@ enum-known-moves : tie.Need-enum-known-moves
 enum-known-moves c = search needs
 
 mul-result : tie.Need-mul-result
-mul-result c = let few = moves-few (made-as (c .before .moves .given .1) (c .before .before .before .make .ensures)) in
+mul-result c = let few = moves-few (rw (c .before .moves .given .1) at (c .before .before .before .make .ensures)) in
     omega arith
 
 add-result : tie.Need-add-result
-add-result c = let few = moves-few (made-as (c .before .moves .given .1) (c .before .before .before .make .ensures)) in
+add-result c = let few = moves-few (rw (c .before .moves .given .1) at (c .before .before .before .make .ensures)) in
     omega arith
 
 add-result-2 : tie.Need-add-result-2
-add-result-2 c = let few = moves-few (made-as (c .before .moves .given .1) (c .before .before .before .make .ensures)) in
+add-result-2 c = let few = moves-few (rw (c .before .moves .given .1) at (c .before .before .before .make .ensures)) in
     omega arith
 
 enum-known-fault : tie.Need-enum-known-fault
@@ -43,12 +35,14 @@ put-refusal-requires : tie.Need-put-refusal-requires
 put-refusal-requires c κs = refusal-fits _ _ (omega arith) (omega arith) _ (omega arith)
 
 returns : tie.Need-returns
-returns c = made-printed (omega arith) (made-as (c .before .moves .given .1) (c .before .before .before .make .ensures)) (omega arith)
+returns c = made-printed (omega arith) (rw (c .before .moves .given .1) at (c .before .before .before .make .ensures)) (omega arith)
 
 returns-2 : tie.Need-returns-2
 returns-2 c =
-    let verdict = c .before .before .before .before .fault .given .1 in
-    let made = made-as verdict (c .before .before .before .before .before .before .make .ensures) in
+    let known-told2 = c .before .before .before in let fault = known-told2 .before in
+    let make = fault .before .before in
+    let verdict = fault .fault .given .1 in
+    let made = rw verdict at (make .make .ensures) in
     refused-printed (omega arith) made (c .put-refusal .ensures) (omega arith)
 
 pub plan-program-spec : {M : Type 1} → statement M

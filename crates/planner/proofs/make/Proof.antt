@@ -1,78 +1,90 @@
 -- `planner::make` meets its contract: a refusal of the floor judge is passed up, and `Making` has the answers above its acceptance. Assumes nothing.
-use mathlib.Core.Path.{ap, sym, _∙_}
-use mathlib.Core.List.{[]}
+use Prim.Native.Nat.{ℕ}
+use mathlib.Core.Path.{_≡_, ap, sym, _∙_}
+use mathlib.Core.List.{List, [], _∷_}
 use native.Mathlib.Omega.{arith}
-use Rattle.floor.specs.Verdict.{answerOf as floorAnswerOf}
+use Rattle.answers.specs.Answer.{accepted}
+use Rattle.order.specs.Order.{orderAnswer}
+use Rattle.order.specs.declared.Counts.{Counts}
+use Rattle.floor.specs.Plannable.{Plannable}
+use Rattle.floor.specs.Verdict.{answerOf as floorAnswerOf, handedOn}
 use Rattle.floor.proofs.FloorLaws.{plannable}
-use Rattle.planner.proofs.Making.{planner-refused, head-there, gave, square, cube, planner-short, room, few-moves, planner-made}
+use Rattle.planner.proofs.Making.{planner-refused, counted, tables, square, cube, planner-short, room, few-moves, planner-made}
 use borrow.Author.Needs.{needs}
 use Rattle.planner.proofs.make.Statement.{statement}
 use Rattle.planner.proofs.make.Tie as tie
 
+-- where the function begins, the order and the buffer there, and the counts that the floor judge handed on
+abbrev entry : tie.After-known-told → tie.Start
+entry k =
+    let called = k .before .before .before in
+    let lent = called .before .before .before in
+    lent .before .before .before
+
+abbrev bytes : tie.After-known-told → List ℕ
+bytes k = entry k .args .order .now
+
+abbrev lent : tie.After-known-told → List ℕ
+lent k = entry k .args .buffer .now
+
+abbrev told : tie.After-known-told → Counts
+told k = k .before .below .given .0 .0
+
+-- it accepted the order, with those counts
+can : (k : tie.After-known-told) → Plannable (bytes k)
+can k =
+    let judged = k .before .before .before .judge .ensures in
+    plannable (bytes k) [] (sym (judged .0) ∙ ap floorAnswerOf (k .before .below .given .1))
+
+read : (k : tie.After-known-told) → accepted (told k .positions ∷ told k .edges ∷ told k .racks ∷ []) ≡ orderAnswer (bytes k)
+read k =
+    let judged = k .before .before .before .judge .ensures in
+    counted (bytes k) (can k) _ (ap handedOn (sym (k .before .below .given .1)) ∙ judged .1 .0)
+
 judge-requires : tie.Need-judge-requires
 judge-requires c κs = search needs
 
+enum-known-below : tie.Need-enum-known-below
+enum-known-below c = search needs
+
 enum-told : tie.Need-enum-told
 enum-told c = search needs
-
-enum-told-2 : tie.Need-enum-told-2
-enum-told-2 c = search needs
 
 refusal-requires : tie.Need-refusal-requires
 refusal-requires c κs = search needs
 
 returns : tie.Need-returns
-returns c = planner-refused (c .before .before .before .before .before .before .args .order .now) (c .before .before .before .before .before .before .args .buffer .now) _ _ _ _ (c .before .before .before .judge .ensures) (ap floorAnswerOf (c .before .enum-told2 .given .1)) (c .refusal .ensures)
-
-counts-of-requires : tie.Need-counts-of-requires
-counts-of-requires c κs = let s = c .before .before .before .before .before in
-    let o = s .args .order .now in
-    let can = plannable o [] (sym (c .before .before .judge .ensures) ∙ ap floorAnswerOf (c .enum-told .given .1)) in
-    head-there o can
+returns c =
+    let called = c .before .before .before in
+    let lent = called .before .before .before in
+    let start = lent .before .before .before in
+    planner-refused (start .args .order .now) (start .args .buffer .now) _ _ _ _ (called .judge .ensures .0)
+    (ap floorAnswerOf (c .before .enum-told .given .1)) (c .refusal .ensures)
 
 mul-if1 : tie.Need-mul-if1
-mul-if1 c = let s = c .before .before .before .before .before .before in
-    let o = s .args .order .now in
-    let can = plannable o [] (sym (c .before .before .before .judge .ensures) ∙ ap floorAnswerOf (c .before .enum-told .given .1)) in
-    let w = c .counts-of in
-    let n = w .result .positions in
-    let q = square o (s .args .buffer .now) can (w .result .positions) (w .result .edges) (w .result .racks) (w .ensures) in
+mul-if1 c =
+    let q = square (bytes c) (lent c) (can c) (told c .positions) (told c .edges) (told c .racks) (read c) in
     omega arith
 
 mul-if1-2 : tie.Need-mul-if1-2
-mul-if1-2 c = let s = c .before .before .before .before .before .before in
-    let o = s .args .order .now in
-    let can = plannable o [] (sym (c .before .before .before .judge .ensures) ∙ ap floorAnswerOf (c .before .enum-told .given .1)) in
-    let w = c .counts-of in
-    let n = w .result .positions in
-    let q = cube o (s .args .buffer .now) can (w .result .positions) (w .result .edges) (w .result .racks) (w .ensures) in
+mul-if1-2 c =
+    let q = cube (bytes c) (lent c) (can c) (told c .positions) (told c .edges) (told c .racks) (read c) in
     omega arith
 
 mul-if1-3 : tie.Need-mul-if1-3
-mul-if1-3 c = let s = c .before .before .before .before .before .before in
-    let o = s .args .order .now in
-    let can = plannable o [] (sym (c .before .before .before .judge .ensures) ∙ ap floorAnswerOf (c .before .enum-told .given .1)) in
-    let w = c .counts-of in
-    let n = w .result .positions in
-    let q = cube o (s .args .buffer .now) can (w .result .positions) (w .result .edges) (w .result .racks) (w .ensures) in
+mul-if1-3 c =
+    let q = cube (bytes c) (lent c) (can c) (told c .positions) (told c .edges) (told c .racks) (read c) in
     omega arith
 
 add-if1 : tie.Need-add-if1
-add-if1 c = let s = c .before .before .before .before .before .before in
-    let o = s .args .order .now in
-    let can = plannable o [] (sym (c .before .before .before .judge .ensures) ∙ ap floorAnswerOf (c .before .enum-told .given .1)) in
-    let w = c .counts-of in
-    let n = w .result .positions in
-    let q = cube o (s .args .buffer .now) can (w .result .positions) (w .result .edges) (w .result .racks) (w .ensures) in
+add-if1 c =
+    let q = cube (bytes c) (lent c) (can c) (told c .positions) (told c .edges) (told c .racks) (read c) in
     omega arith
 
 returns-2 : tie.Need-returns-2
-returns-2 c = let s = c .before .before .before .before .before .before .before in
-    let o = s .args .order .now in
-    let can = plannable o [] (sym (c .before .before .before .before .judge .ensures) ∙ ap floorAnswerOf (c .before .before .enum-told .given .1)) in
-    let w = c .before .counts-of in
-    let n = w .result .positions in
-    planner-short o (s .args .buffer .now) can (w .result .positions) (w .result .edges) (w .result .racks) (w .ensures) (omega (arith, c .if1 .taken))
+returns-2 c =
+    let k = c .before in
+    planner-short (bytes k) (lent k) (can k) (told k .positions) (told k .edges) (told k .racks) (read k) (omega (arith, c .if1 .taken))
 
 sub-plan-moves : tie.Need-sub-plan-moves
 sub-plan-moves c = search needs
@@ -84,43 +96,52 @@ part-plan-moves-end : tie.Need-part-plan-moves-end
 part-plan-moves-end c = search needs
 
 plan-moves-requires : tie.Need-plan-moves-requires
-plan-moves-requires c κs = let s = c .before .before .before .before .before .before .before .before in
-    let o = s .args .order .now in
-    let can = plannable o [] (sym (c .before .before .before .before .before .judge .ensures) ∙ ap floorAnswerOf (c .before .before .before .enum-told .given .1)) in
-    let w = c .before .before .counts-of in
-    let n = w .result .positions in
-    ((gave o (s .args .buffer .now) can (w .result .positions) (w .result .edges) (w .result .racks) (w .ensures), can), room o (s .args .buffer .now) can (w .result .positions) (w .result .edges) (w .result .racks) (w .ensures) (c .before .if1 .left))
+plan-moves-requires c κs =
+    let k = c .before .before .before in
+    let judged = k .before .before .before .judge .ensures .1 .1 in
+    let t = tables (bytes k) (lent k) (can k) (told k .positions) (told k .edges) (told k .racks) (read k) _ _ _ (judged .0)
+    (judged .1 .0) (judged .1 .1) in (
+      record { order = bytes k; tables = t },
+      room (bytes k) (lent k) (can k) (told k .positions) (told k .edges) (told k .racks) (read k)
+          (c .before .before .if1 .left),
+    )
 
 put-head-requires : tie.Need-put-head-requires
-put-head-requires c κs = let s = c .before .before .before .before .before .before .before .before .before .before .before .before in
-    let o = s .args .order .now in
-    let can = plannable o [] (sym (c .before .before .before .before .before .before .before .before .before .judge .ensures) ∙ ap floorAnswerOf (c .before .before .before .before .before .before .before .enum-told .given .1)) in
-    let w = c .before .before .before .before .before .before .counts-of in
-    let n = w .result .positions in
-    let few = few-moves o (s .args .buffer .now) can (w .result .positions) (w .result .edges) (w .result .racks) (w .ensures) (c .before .before .before .before .before .if1 .left) _ _ (c .before .before .before .plan-moves .ensures) in
+put-head-requires c κs =
+    let planned = c .before .before .before in
+    let measured = planned .before .before .before in
+    let k = measured .before in
+    let judged = k .before .before .before .judge .ensures .1 .1 in
+    let t = tables (bytes k) (lent k) (can k) (told k .positions) (told k .edges) (told k .racks) (read k) _ _ _ (judged .0)
+    (judged .1 .0) (judged .1 .1) in
+    let few = few-moves (bytes k) (lent k) (can k) (told k .positions) (told k .edges) (told k .racks) (read k) (measured .if1 .left) _ _
+    (planned .plan-moves .ensures .moves-of (bytes k) t) in
     (search needs, omega (arith, few))
 
 same-length : tie.Need-same-length
 same-length c = search needs
 
 returns-3 : tie.Need-returns-3
-returns-3 c = let s = c .before .before .before .before .before .before .before .before .before .before .before .before .before .before .before in
-    let o = s .args .order .now in
-    let can = plannable o [] (sym (c .before .before .before .before .before .before .before .before .before .before .before .before .judge .ensures) ∙ ap floorAnswerOf (c .before .before .before .before .before .before .before .before .before .before .enum-told .given .1)) in
-    let w = c .before .before .before .before .before .before .before .before .before .counts-of in
-    let n = w .result .positions in
-    planner-made o (s .args .buffer .now) can (w .result .positions) (w .result .edges) (w .result .racks) (w .ensures) (c .before .before .before .before .before .before .before .before .if1 .left) _ _ (c .before .before .before .before .before .before .plan-moves .ensures) _ (c .before .before .put-head .ensures)
+returns-3 c =
+    let put = c .before .before in
+    let planned = (put .before .before .before) .before in
+    let measured = planned .before .before .before in
+    let k = measured .before in
+    let judged = k .before .before .before .judge .ensures .1 .1 in
+    let t = tables (bytes k) (lent k) (can k) (told k .positions) (told k .edges) (told k .racks) (read k) _ _ _ (judged .0)
+    (judged .1 .0) (judged .1 .1) in
+    planner-made (bytes k) (lent k) (can k) (told k .positions) (told k .edges) (told k .racks) (read k) (measured .if1 .left) _ _
+    (planned .plan-moves .ensures .moves-of (bytes k) t) _ (put .put-head .ensures)
 
 pub make-spec : {M : Type 1} → statement M
 make-spec =
     tie.close
     (tie.spec
     judge-requires
+    enum-known-below
     enum-told
-    enum-told-2
     refusal-requires
     returns
-    counts-of-requires
     mul-if1
     mul-if1-2
     mul-if1-3

@@ -66,16 +66,16 @@ loop-less c = omega arith
 
 loop-again : tie.Need-loop-again Inv-loop μ-loop
 loop-again c =
-    let step = c .before .before .before .before in
-    let turn = step .before .before .before in
-    let s = turn .before .before .args in
+    let at-note = c .before in let step = at-note .before .before .before in let pair-at = step .before in
+    let turn = pair-at .before .before in let entry = turn .before .before in
+    let s = entry .args in
     let l = turn .loop in
-    let pair = step .before .pair-at in
-    let note = c .before .note in (
+    let pair = pair-at .pair-at in
+    let note = at-note .note in (
       omega arith,
-      pass-next (s .tail .now) (s .k) (s .first) (s .window .now) (l .window) (l .arrived) (l .left) (l .greatest) (l .j) (l .inv .1) (omega arith)
-          (pair .result .first) (pair .result .second) (pair .ensures .first-is) (pair .ensures .second-is) (step .later .result) (step .later .ensures)
-          (note .last .0) (note .ensures .0) (c .later2 .result) (c .later2 .ensures),
+      pass-next (s .tail .now) (s .k) (s .first) (s .window .now) (l .window) (l .arrived) (l .left) (l .greatest) (l .j) (l .inv .1)
+          (omega arith) (pair .result .first) (pair .result .second) (pair .ensures .first-is) (pair .ensures .second-is)
+          (step .later .result) (step .later .ensures) (note .last .0) (note .ensures .0) (c .later2 .result) (c .later2 .ensures),
       λ left. note .ensures .1 (l .inv .2 left),
     )
 
@@ -83,7 +83,8 @@ returns : tie.Need-returns Inv-loop μ-loop
 returns c =
     let s = c .before .before .before .args in
     let l = c .before .loop in (
-      pass-last (s .tail .now) (s .k) (s .first) (s .window .now) (l .window) (l .arrived) (l .left) (l .greatest) (l .j) (l .inv .1) (omega arith),
+      pass-last (s .tail .now) (s .k) (s .first) (s .window .now) (l .window) (l .arrived) (l .left) (l .greatest) (l .j) (l .inv .1)
+          (omega arith),
       l .inv .2,
     )
 

@@ -18,16 +18,20 @@ rows-of-requires c κs = search needs
 write-window-requires : tie.Need-write-window-requires
 unfolding emptyWindow
 write-window-requires c κs =
-    let n = c .before .before .before .rows-of in
-    let filled = c .before .before .before .before in
-    let s = filled .before .before .before .before .before in
-    let ms = pairs (s .args .tail .now) 0 (s .args .k) in
+    let rows-of = c .before .before .before in let filled = rows-of .before in let window = filled .before .before in
+    let entry = window .before .before .before in
+    let n = rows-of .rows-of in
+    let ms = pairs (entry .args .tail .now) 0 (entry .args .k) in
     let f = filled .fill in (
       (
-        filled-few ms (s .args .first) (f .result) _ (f .ensures .0) (n .result) (n .ensures),
-        filled-room ms (s .args .first) (f .result) _ (f .ensures .0) (n .result) (n .ensures) (s .args .at) (s .args .buffer .now) (s .pre .2),
+        filled-few ms (entry .args .first) (f .result) _ (f .ensures .0) (n .result) (n .ensures),
+        filled-room ms (entry .args .first) (f .result) _ (f .ensures .0) (n .result) (n .ensures) (entry .args .at)
+            (entry .args .buffer .now) (entry .pre .2),
       ),
-      (filled-fit ms (s .args .first) (f .result) _ (f .ensures .0) (pairs-lt (s .args .tail .now) 0 (s .args .k)), f .ensures .1 left-empty),
+      (
+        filled-fit ms (entry .args .first) (f .result) _ (f .ensures .0) (pairs-lt (entry .args .tail .now) 0 (entry .args .k)),
+        f .ensures .1 left-empty,
+      ),
     )
 
 same-length : tie.Need-same-length
@@ -36,13 +40,12 @@ same-length c = search needs
 returns : tie.Need-returns
 unfolding emptyWindow
 returns c =
-    let write = c .before .before in
-    let n = write .before .before .before .before .rows-of in
-    let filled = write .before .before .before .before .before in
-    let s = filled .before .before .before .before .before in
+    let write = c .before .before in let window2 = write .before .before .before in let rows-of = window2 .before in
+    let filled = rows-of .before in let window = filled .before .before in let entry = window .before .before .before in
+    let n = rows-of .rows-of in
     let f = filled .fill in
-    filled-wrote (pairs (s .args .tail .now) 0 (s .args .k)) (s .args .first) (f .result) _ (f .ensures .0) (n .result) (n .ensures)
-    (s .args .at) (write .write-window .result) (s .args .buffer .now) _ (write .write-window .ensures)
+    filled-wrote (pairs (entry .args .tail .now) 0 (entry .args .k)) (entry .args .first) (f .result) _ (f .ensures .0) (n .result)
+    (n .ensures) (entry .args .at) (write .write-window .result) (entry .args .buffer .now) _ (write .write-window .ensures)
 
 pub make-window-spec : {M : Type 1} → statement M
 make-window-spec =

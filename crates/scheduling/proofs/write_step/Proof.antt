@@ -1,5 +1,5 @@
--- `scheduling::write_step` meets its contract. The loop's invariant: the moves of the entries passed are packed behind the place of the count, and
--- `rest` has the positions that the others leave. Assumes nothing.
+-- `scheduling::write_step` meets its contract. The loop's invariant: the moves of the entries passed are packed behind the place of the
+-- count, and `rest` has the positions that the others leave. Assumes nothing.
 use Prim.Native.Nat.{_≤_, _-_, _+_, _*_}
 use native.Mathlib.Omega.{arith}
 use borrow.Author.Needs.{needs}
@@ -101,86 +101,87 @@ put-pair-requires c κs =
 
 add-count : tie.Need-add-count Inv-loop μ-loop
 add-count c =
-    let low = c .before .before .before .before .before .before in
-    let turn = low .before .before in
-    let s = turn .before .before .before in
-    let least = low .lowest .ensures in
-    omega (arith, rest-few _ _ _ _ _ _ _ (turn .loop .inv) (low .lowest .result) (least .1 .0) (least .1 .1) (s .pre .0 .1))
+    let put-pair-arg = c .before .before .before in let lowest = put-pair-arg .before .before .before in
+    let turn = lowest .before .before in let entry = turn .before .before .before in
+    let least = lowest .lowest .ensures in
+    omega (arith, rest-few _ _ _ _ _ _ _ (turn .loop .inv) (lowest .lowest .result) (least .1 .0) (least .1 .1) (entry .pre .0 .1))
 
 without-requires : tie.Need-without-requires Inv-loop μ-loop
 without-requires c κs = omega arith
 
 loop-less : tie.Need-loop-less Inv-loop μ-loop
 loop-less c =
-    let low = c .before .before .before .before .before .before .before in
-    ones-without (low .lowest .result) _ _ (low .lowest .ensures .1 .0) (c .without .ensures)
+    let put-pair = c .before .before .before in let wide = put-pair .before .before in
+    let lowest = wide .before .before in
+    ones-without (lowest .lowest .result) _ _ (lowest .lowest .ensures .1 .0) (c .without .ensures)
 
 loop-again : tie.Need-loop-again Inv-loop μ-loop
 loop-again c =
-    let put = c .before .before .before in
-    let wide = put .before .before in
-    let low = wide .before .before in
-    let turn = low .before .before in
-    let s = turn .before .before .before in
+    let put = c .before .before .before in let wide = put .before .before in let low = wide .before .before in
+    let turn = low .before .before in let s = turn .before .before .before in
     let least = low .lowest .ensures in
-    rest-next _ _ _ _ _ _ _ (turn .loop .inv) (low .lowest .result) (least .1 .0) (least .1 .1) (s .pre .0 .1)
-    (wide .wide .result) (wide .wide .ensures .0) (put .put-pair .last .0) (put .put-pair .ensures) (c .without .result) (c .without .ensures)
+    rest-next _ _ _ _ _ _ _ (turn .loop .inv) (low .lowest .result) (least .1 .0) (least .1 .1) (s .pre .0 .1) (wide .wide .result)
+    (wide .wide .ensures .0) (put .put-pair .last .0) (put .put-pair .ensures) (c .without .result) (c .without .ensures)
 
 cast-buffer : tie.Need-cast-buffer Inv-loop μ-loop
 cast-buffer c =
-    let s = c .before .before .before .before in
+    let rest = c .before .before in let entry = rest .before .before in
     let l = c .before .loop in
-    omega (arith, count-at-most _ _ _ _ (s .pre .0 .1) (l .count) (l .buffer) (rest-last _ _ _ _ _ _ _ (l .inv) (omega arith)))
+    omega (arith, count-at-most _ _ _ _ (entry .pre .0 .1) (l .count) (l .buffer) (rest-last _ _ _ _ _ _ _ (l .inv) (omega arith)))
 
 slice-write-buffer : tie.Need-slice-write-buffer Inv-loop μ-loop
 slice-write-buffer c =
-    let s = c .before .before .before .before in
+    let rest = c .before .before in let entry = rest .before .before in
     let l = c .before .loop in
-    at-inside _ _ _ _ (s .pre .0 .1) (l .count) (l .buffer) (rest-last _ _ _ _ _ _ _ (l .inv) (omega arith))
+    at-inside _ _ _ _ (entry .pre .0 .1) (l .count) (l .buffer) (rest-last _ _ _ _ _ _ _ (l .inv) (omega arith))
 
 add-result : tie.Need-add-result Inv-loop μ-loop
 add-result c =
-    let s = c .before .before .before .before in
-    let l = c .before .loop in
-    let all = rest-last _ _ _ _ _ _ _ (l .inv) (omega arith) in
-    omega (arith, at-inside _ _ _ _ (s .pre .0 .1) (l .count) (l .buffer) all, length-same _ _ _ _ (s .pre .0 .1) (l .count) (l .buffer) all)
-
-mul-result : tie.Need-mul-result Inv-loop μ-loop
-mul-result c =
-    let s = c .before .before .before .before in
-    let l = c .before .loop in
-    omega (arith, count-at-most _ _ _ _ (s .pre .0 .1) (l .count) (l .buffer) (rest-last _ _ _ _ _ _ _ (l .inv) (omega arith)))
-
-add-result-2 : tie.Need-add-result-2 Inv-loop μ-loop
-add-result-2 c =
-    let s = c .before .before .before .before in
-    let l = c .before .loop in
-    omega (arith, count-at-most _ _ _ _ (s .pre .0 .1) (l .count) (l .buffer) (rest-last _ _ _ _ _ _ _ (l .inv) (omega arith)))
-
-add-result-3 : tie.Need-add-result-3 Inv-loop μ-loop
-add-result-3 c =
-    let s = c .before .before .before .before in
+    let rest = c .before .before in let entry = rest .before .before in
     let l = c .before .loop in
     let all = rest-last _ _ _ _ _ _ _ (l .inv) (omega arith) in
     omega (
       arith,
-      at-inside _ _ _ _ (s .pre .0 .1) (l .count) (l .buffer) all,
-      length-same _ _ _ _ (s .pre .0 .1) (l .count) (l .buffer) all,
-      count-at-most _ _ _ _ (s .pre .0 .1) (l .count) (l .buffer) all,
+      at-inside _ _ _ _ (entry .pre .0 .1) (l .count) (l .buffer) all,
+      length-same _ _ _ _ (entry .pre .0 .1) (l .count) (l .buffer) all,
+    )
+
+mul-result : tie.Need-mul-result Inv-loop μ-loop
+mul-result c =
+    let rest = c .before .before in let entry = rest .before .before in
+    let l = c .before .loop in
+    omega (arith, count-at-most _ _ _ _ (entry .pre .0 .1) (l .count) (l .buffer) (rest-last _ _ _ _ _ _ _ (l .inv) (omega arith)))
+
+add-result-2 : tie.Need-add-result-2 Inv-loop μ-loop
+add-result-2 c =
+    let rest = c .before .before in let entry = rest .before .before in
+    let l = c .before .loop in
+    omega (arith, count-at-most _ _ _ _ (entry .pre .0 .1) (l .count) (l .buffer) (rest-last _ _ _ _ _ _ _ (l .inv) (omega arith)))
+
+add-result-3 : tie.Need-add-result-3 Inv-loop μ-loop
+add-result-3 c =
+    let rest = c .before .before in let entry = rest .before .before in
+    let l = c .before .loop in
+    let all = rest-last _ _ _ _ _ _ _ (l .inv) (omega arith) in
+    omega (
+      arith,
+      at-inside _ _ _ _ (entry .pre .0 .1) (l .count) (l .buffer) all,
+      length-same _ _ _ _ (entry .pre .0 .1) (l .count) (l .buffer) all,
+      count-at-most _ _ _ _ (entry .pre .0 .1) (l .count) (l .buffer) all,
     )
 
 same-length : tie.Need-same-length Inv-loop μ-loop
 same-length c =
-    let s = c .before .before .before .before in
+    let rest = c .before .before in let entry = rest .before .before in
     let l = c .before .loop in
-    length-set (l .buffer) (s .args .at) (l .count)
-    ∙ length-same _ _ _ _ (s .pre .0 .1) (l .count) (l .buffer) (rest-last _ _ _ _ _ _ _ (l .inv) (omega arith))
+    length-set (l .buffer) (entry .args .at) (l .count)
+    ∙ length-same _ _ _ _ (entry .pre .0 .1) (l .count) (l .buffer) (rest-last _ _ _ _ _ _ _ (l .inv) (omega arith))
 
 returns : tie.Need-returns Inv-loop μ-loop
 returns c =
-    let s = c .before .before .before .before in
+    let rest = c .before .before in let entry = rest .before .before in
     let l = c .before .loop in
-    writing-last _ _ _ _ (s .pre .0 .1) (l .count) (l .buffer) (rest-last _ _ _ _ _ _ _ (l .inv) (omega arith))
+    writing-last _ _ _ _ (entry .pre .0 .1) (l .count) (l .buffer) (rest-last _ _ _ _ _ _ _ (l .inv) (omega arith))
 
 pub write-step-spec : {M : Type 1} → statement M
 write-step-spec =

@@ -18,9 +18,9 @@ loop-holds c =
 
 write-step-requires : tie.Need-write-step-requires Inv-loop μ-loop
 write-step-requires c κs =
-    let s = c .before .before .before .before in
-    let l = c .before .before .loop in
-    ((omega arith, rows-room _ _ _ _ (s .pre .0 .1) (l .buffer) (l .next) (l .row) (l .inv .1) (omega arith)), s .pre .1)
+    let round = c .before .before in let entry = round .before .before in
+    let l = round .loop in
+    ((omega arith, rows-room _ _ _ _ (entry .pre .0 .1) (l .buffer) (l .next) (l .row) (l .inv .1) (omega arith)), entry .pre .1)
 
 add-row : tie.Need-add-row Inv-loop μ-loop
 add-row c = omega arith
@@ -30,27 +30,28 @@ loop-less c = omega arith
 
 loop-again : tie.Need-loop-again Inv-loop μ-loop
 loop-again c =
-    let turn = c .before .before .before .before .before in
-    let s = turn .before .before in
+    let write-step = c .before .before in let turn = write-step .before .before .before in
+    let entry = turn .before .before in
     let l = turn .loop in
-    let step = c .before .before .write-step in (
+    let step = write-step .write-step in (
       omega arith,
-      rows-more (s .args .window .now) (s .args .buffer .now) (s .args .n) (s .args .at) (s .pre .0 .1)
-          (l .buffer) (l .next) (l .row) (l .inv .1) (omega arith) (step .result) _ (step .ensures),
+      rows-more (entry .args .window .now) (entry .args .buffer .now) (entry .args .n) (entry .args .at) (entry .pre .0 .1) (l .buffer)
+          (l .next) (l .row) (l .inv .1) (omega arith) (step .result) _ (step .ensures),
     )
 
 same-length : tie.Need-same-length Inv-loop μ-loop
 same-length c =
     let s = c .before .before .before in
     let l = c .before .loop in
-    rows-length (s .args .window .now) (s .args .buffer .now) (s .args .n) (s .args .at) (s .pre .0 .1) (l .buffer) (l .next) (l .row) (l .inv .1) (omega arith)
+    rows-length (s .args .window .now) (s .args .buffer .now) (s .args .n) (s .args .at) (s .pre .0 .1) (l .buffer) (l .next) (l .row)
+    (l .inv .1) (omega arith)
 
 returns : tie.Need-returns Inv-loop μ-loop
 returns c =
     let s = c .before .before .before in
     let l = c .before .loop in
-    rows-all (s .args .window .now) (s .args .buffer .now) (s .args .n) (s .args .at) (s .pre .0 .1) (l .buffer) (l .next) (l .row) (l .inv .1)
-    (omega arith) (omega arith)
+    rows-all (s .args .window .now) (s .args .buffer .now) (s .args .n) (s .args .at) (s .pre .0 .1) (l .buffer) (l .next) (l .row)
+    (l .inv .1) (omega arith) (omega arith)
 
 pub write-window-spec : {M : Type 1} → statement M
 write-window-spec =

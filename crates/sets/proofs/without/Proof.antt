@@ -11,7 +11,10 @@ minus-requires : tie.Need-minus-requires
 minus-requires c κs = search needs
 
 returns : tie.Need-returns
-returns c p = without-is (c .before .before .args .s) (c .before .only .result) (c .before .before .args .v) (c .minus .result) p (c .before .only .ensures p) (c .minus .ensures p)
+returns c p =
+    let args = c .before .before .args in
+    let only = c .before .only in
+    without-is (args .s) (only .result) (args .v) (c .minus .result) p (only .ensures p) (c .minus .ensures p)
 
 pub without-spec : {M : Type 1} → statement M
 without-spec = tie.close (tie.spec only-requires minus-requires returns)

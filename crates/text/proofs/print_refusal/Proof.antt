@@ -1,6 +1,6 @@
 -- `text::print_refusal` meets its contract: the line has room. Assumes nothing.
 use native.Mathlib.Omega.{arith}
-use Rattle.text.proofs.Sizes.{refusal-fits}
+use Rattle.writers.proofs.LineLaws.{refusal-fits}
 use Rattle.text.proofs.Program.{refusal-told}
 use borrow.Author.Needs.{needs}
 use Rattle.text.proofs.print_refusal.Statement.{statement}

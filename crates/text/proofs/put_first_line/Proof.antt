@@ -1,7 +1,5 @@
 -- `text::put_first_line` meets its contract: its parts stand one behind another. Assumes nothing.
-use Rattle.field.proofs.WritingLaws.{fits-front, fits-next, fits-as, wrote-then, wrote-as}
-use Rattle.text.proofs.TextLaws.{stepsText-is, movesWord-is, newline-is}
-use Rattle.text.specs.Text.{firstLine}
+use Rattle.text.proofs.TextLaws.{steps-fit, step-count-fits, word-fits, move-count-fits, end-fits, first-wrote}
 use borrow.Author.Needs.{needs}
 use Rattle.text.proofs.put_first_line.Statement.{statement}
 use Rattle.text.proofs.put_first_line.Tie as tie
@@ -10,40 +8,36 @@ slice-aggregate-put-bytes : tie.Need-slice-aggregate-put-bytes
 slice-aggregate-put-bytes c = search needs
 
 put-bytes-requires : tie.Need-put-bytes-requires
-unfolding firstLine
-put-bytes-requires c κs =
-    fits-as stepsText-is (fits-front _ _ (fits-front _ _ (fits-front _ _ (fits-front _ _ (c .before .before .before .pre)))))
+put-bytes-requires c κs = search (steps-fit, needs)
 
 put-decimal-requires : tie.Need-put-decimal-requires
-unfolding firstLine
-put-decimal-requires c κs =
-    fits-next _ _ (wrote-as stepsText-is (c .before .before .before .put-bytes .ensures)) (fits-front _ _ (fits-front _ _ (fits-front _ _ (c .before .before .before .before .before .before .before .pre))))
+put-decimal-requires c κs = search (step-count-fits, needs)
 
 slice-aggregate-put-bytes-2 : tie.Need-slice-aggregate-put-bytes-2
 slice-aggregate-put-bytes-2 c = search needs
 
 put-bytes-requires-2 : tie.Need-put-bytes-requires-2
-unfolding firstLine
-put-bytes-requires-2 c κs =
-    fits-as movesWord-is (fits-next _ _ (wrote-then _ _ (fits-front _ _ (fits-front _ _ (fits-front _ _ (c .before .before .before .before .before .before .before .before .before .before .before .before .pre)))) (wrote-as stepsText-is (c .before .before .before .before .before .before .before .before .put-bytes .ensures)) (c .before .before .before .before .put-decimal .ensures)) (fits-front _ _ (fits-front _ _ (c .before .before .before .before .before .before .before .before .before .before .before .before .pre))))
+put-bytes-requires-2 c κs = search (word-fits, needs)
 
 put-decimal-requires-2 : tie.Need-put-decimal-requires-2
-unfolding firstLine
-put-decimal-requires-2 c κs =
-    fits-next _ _ (wrote-then _ _ (fits-front _ _ (fits-front _ _ (c .before .before .before .before .before .before .before .before .before .before .before .before .before .before .before .before .pre))) (wrote-then _ _ (fits-front _ _ (fits-front _ _ (fits-front _ _ (c .before .before .before .before .before .before .before .before .before .before .before .before .before .before .before .before .pre)))) (wrote-as stepsText-is (c .before .before .before .before .before .before .before .before .before .before .before .before .put-bytes .ensures)) (c .before .before .before .before .before .before .before .before .put-decimal .ensures)) (wrote-as movesWord-is (c .before .before .before .put-bytes2 .ensures))) (fits-front _ _ (c .before .before .before .before .before .before .before .before .before .before .before .before .before .before .before .before .pre))
+put-decimal-requires-2 c κs = search (move-count-fits, needs)
 
 put-byte-requires : tie.Need-put-byte-requires
-unfolding firstLine
-put-byte-requires c κs =
-    fits-as newline-is (fits-next _ _ (wrote-then _ _ (fits-front _ _ (c .before .before .before .before .before .before .before .before .before .before .before .before .before .before .before .before .before .before .before .before .pre)) (wrote-then _ _ (fits-front _ _ (fits-front _ _ (c .before .before .before .before .before .before .before .before .before .before .before .before .before .before .before .before .before .before .before .before .pre))) (wrote-then _ _ (fits-front _ _ (fits-front _ _ (fits-front _ _ (c .before .before .before .before .before .before .before .before .before .before .before .before .before .before .before .before .before .before .before .before .pre)))) (wrote-as stepsText-is (c .before .before .before .before .before .before .before .before .before .before .before .before .before .before .before .before .put-bytes .ensures)) (c .before .before .before .before .before .before .before .before .before .before .before .before .put-decimal .ensures)) (wrote-as movesWord-is (c .before .before .before .before .before .before .before .put-bytes2 .ensures))) (c .before .before .before .put-decimal2 .ensures)) (c .before .before .before .before .before .before .before .before .before .before .before .before .before .before .before .before .before .before .before .before .pre))
+put-byte-requires c κs = search (end-fits, needs)
 
 same-length : tie.Need-same-length
 same-length c = search needs
 
 returns : tie.Need-returns
-unfolding firstLine
 returns c =
-    wrote-then _ _ (c .before .before .before .before .before .before .before .before .before .before .before .before .before .before .before .before .before .before .before .before .before .before .before .pre) (wrote-then _ _ (fits-front _ _ (c .before .before .before .before .before .before .before .before .before .before .before .before .before .before .before .before .before .before .before .before .before .before .before .pre)) (wrote-then _ _ (fits-front _ _ (fits-front _ _ (c .before .before .before .before .before .before .before .before .before .before .before .before .before .before .before .before .before .before .before .before .before .before .before .pre))) (wrote-then _ _ (fits-front _ _ (fits-front _ _ (fits-front _ _ (c .before .before .before .before .before .before .before .before .before .before .before .before .before .before .before .before .before .before .before .before .before .before .before .pre)))) (wrote-as stepsText-is (c .before .before .before .before .before .before .before .before .before .before .before .before .before .before .before .before .before .before .before .put-bytes .ensures)) (c .before .before .before .before .before .before .before .before .before .before .before .before .before .before .before .put-decimal .ensures)) (wrote-as movesWord-is (c .before .before .before .before .before .before .before .before .before .before .put-bytes2 .ensures))) (c .before .before .before .before .before .before .put-decimal2 .ensures)) (wrote-as newline-is (c .before .before .put-byte .ensures))
+    let put-byte = c .before .before in let out4 = put-byte .before .before .before in
+    let put-decimal2 = out4 .before in let out3 = put-decimal2 .before .before .before in
+    let put-bytes2 = out3 .before in let slice-known3 = put-bytes2 .before .before .before in
+    let put-decimal = slice-known3 .before .before in let out = put-decimal .before .before .before in
+    let put-bytes = out .before in let slice-known = put-bytes .before .before .before in
+    let entry = slice-known .before in
+    first-wrote _ _ (entry .pre) (put-bytes .put-bytes .ensures) (put-decimal .put-decimal .ensures) (put-bytes2 .put-bytes2 .ensures)
+    (put-decimal2 .put-decimal2 .ensures) (put-byte .put-byte .ensures)
 
 pub put-first-line-spec : {M : Type 1} → statement M
 put-first-line-spec =

@@ -3,7 +3,7 @@ use native.Mathlib.Omega.{arith}
 use lib.ListN.{getD}
 use Rattle.timetable.proofs.StepLaws.{stepLength-some}
 use Rattle.text.specs.Text.{stepLine}
-use Rattle.text.proofs.TextLaws.{newline-is}
+use Rattle.writers.proofs.LineLaws.{newline-is}
 use Rattle.field.proofs.WritingLaws.{fits-front, fits-next, fits-as, wrote-then, wrote-as}
 use Rattle.text.proofs.Loops.{part-room, part-moves}
 use borrow.Author.Needs.{needs}
@@ -16,18 +16,22 @@ put-decimal-requires c κs = fits-front _ _ (fits-front _ _ (c .before .before .
 
 sub-put-moves : tie.Need-sub-put-moves
 sub-put-moves c =
-    omega (arith, stepLength-some (getD (c .before .before .before .before .before .before .args .step .now) 0 0))
+    let put-decimal-arg = c .before .before .before in let entry = put-decimal-arg .before .before .before in
+    omega (arith, stepLength-some (getD (entry .args .step .now) 0 0))
 
 part-put-moves-start : tie.Need-part-put-moves-start
 part-put-moves-start c =
-    omega (arith, stepLength-some (getD (c .before .before .before .before .before .before .args .step .now) 0 0))
+    let put-decimal-arg = c .before .before .before in let entry = put-decimal-arg .before .before .before in
+    omega (arith, stepLength-some (getD (entry .args .step .now) 0 0))
 
 part-put-moves-end : tie.Need-part-put-moves-end
 part-put-moves-end c = search needs
 
 shared-slice-read-wide : tie.Need-shared-slice-read-wide
 shared-slice-read-wide c =
-    omega (arith, stepLength-some (getD (c .before .before .before .before .before .before .before .before .args .step .now) 0 0))
+    let out = c .before .before .before in let slice-known = out .before .before .before in
+    let entry = slice-known .before .before in
+    omega (arith, stepLength-some (getD (entry .args .step .now) 0 0))
 
 wide-requires : tie.Need-wide-requires
 wide-requires c κs = search needs
@@ -35,12 +39,25 @@ wide-requires c κs = search needs
 put-moves-requires : tie.Need-put-moves-requires
 unfolding stepLine
 put-moves-requires c κs =
-    (part-room (c .before .before .before .before .before .before .before .before .before .before .args .step .now) (c .before .wide .result) (c .before .wide .ensures .0) (c .before .before .before .before .before .before .before .before .before .before .pre .0), fits-as (part-moves (c .before .before .before .before .before .before .before .before .before .before .args .step .now) (c .before .wide .result) (c .before .wide .ensures .0)) (fits-next _ _ (c .before .before .before .before .before .before .put-decimal .ensures) (fits-front _ _ (c .before .before .before .before .before .before .before .before .before .before .pre .1))))
+    let wide = c .before in let slice-known2 = wide .before .before .before in
+    let put-decimal = slice-known2 .before .before in let shared-slice-known = put-decimal .before .before .before in
+    let entry = shared-slice-known .before in (
+      part-room (entry .args .step .now) (wide .wide .result) (wide .wide .ensures .0) (entry .pre .0),
+      fits-as (part-moves (entry .args .step .now) (wide .wide .result) (wide .wide .ensures .0))
+          (fits-next _ _ (put-decimal .put-decimal .ensures) (fits-front _ _ (entry .pre .1))),
+    )
 
 put-byte-requires : tie.Need-put-byte-requires
 unfolding stepLine
 put-byte-requires c κs =
-    fits-as newline-is (fits-next _ _ (wrote-then _ _ (fits-front _ _ (c .before .before .before .before .before .before .before .before .before .before .before .before .before .before .pre .1)) (c .before .before .before .before .before .before .before .before .before .before .put-decimal .ensures) (wrote-as (part-moves (c .before .before .before .before .before .before .before .before .before .before .before .before .before .before .args .step .now) (c .before .before .before .before .before .wide .result) (c .before .before .before .before .before .wide .ensures .0)) (c .before .before .before .put-moves .ensures))) (c .before .before .before .before .before .before .before .before .before .before .before .before .before .before .pre .1))
+    let put-moves = c .before .before .before in let wide = put-moves .before .before in
+    let slice-known2 = wide .before .before .before in let put-decimal = slice-known2 .before .before in
+    let shared-slice-known = put-decimal .before .before .before in let entry = shared-slice-known .before in
+    fits-as newline-is
+    (fits-next _ _
+    (wrote-then _ _ (fits-front _ _ (entry .pre .1)) (put-decimal .put-decimal .ensures)
+    (wrote-as (part-moves (entry .args .step .now) (wide .wide .result) (wide .wide .ensures .0)) (put-moves .put-moves .ensures)))
+    (entry .pre .1))
 
 same-length : tie.Need-same-length
 same-length c = search needs
@@ -48,7 +65,14 @@ same-length c = search needs
 returns : tie.Need-returns
 unfolding stepLine
 returns c =
-    wrote-then _ _ (c .before .before .before .before .before .before .before .before .before .before .before .before .before .before .before .before .before .pre .1) (wrote-then _ _ (fits-front _ _ (c .before .before .before .before .before .before .before .before .before .before .before .before .before .before .before .before .before .pre .1)) (c .before .before .before .before .before .before .before .before .before .before .before .before .before .put-decimal .ensures) (wrote-as (part-moves (c .before .before .before .before .before .before .before .before .before .before .before .before .before .before .before .before .before .args .step .now) (c .before .before .before .before .before .before .before .before .wide .result) (c .before .before .before .before .before .before .before .before .wide .ensures .0)) (c .before .before .before .before .before .before .put-moves .ensures))) (wrote-as newline-is (c .before .before .put-byte .ensures))
+    let put-byte = c .before .before in let out2 = put-byte .before .before .before in let put-moves = out2 .before in
+    let wide = put-moves .before .before in let slice-known2 = wide .before .before .before in
+    let put-decimal = slice-known2 .before .before in let shared-slice-known = put-decimal .before .before .before in
+    let entry = shared-slice-known .before in
+    wrote-then _ _ (entry .pre .1)
+    (wrote-then _ _ (fits-front _ _ (entry .pre .1)) (put-decimal .put-decimal .ensures)
+    (wrote-as (part-moves (entry .args .step .now) (wide .wide .result) (wide .wide .ensures .0)) (put-moves .put-moves .ensures)))
+    (wrote-as newline-is (put-byte .put-byte .ensures))
 
 pub put-step-spec : {M : Type 1} → statement M
 put-step-spec =

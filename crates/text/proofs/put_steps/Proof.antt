@@ -8,12 +8,15 @@ use Rattle.timetable.specs.Timetable.{stepMoves, stepsOf}
 use Rattle.timetable.proofs.ReadingLaws.{Stands, stands-first, stands-room}
 use Rattle.text.specs.Text.{stepLine, stepLines}
 use Rattle.field.proofs.WritingLaws.{Left, left-first}
-use Rattle.text.proofs.Loops.{next-fits, next-left, all-wrote, cut-ends, cut-length, lines-next, stands-after, lines-none}
+use Rattle.writers.proofs.Parts.{next-fits, next-left, all-wrote}
+use Rattle.text.proofs.Loops.{cut-ends, cut-length, lines-next, stands-after, lines-none}
 use Rattle.text.proofs.put_steps.Statement.{statement}
 use Rattle.text.proofs.put_steps.Tie as tie
 
 abbrev Inv-loop : tie.InvT-loop
-Inv-loop timetable steps out₀ at begin₀ next₀ i₀ out begin next i = (i ≤ steps) × Stands timetable i begin × Left out₀ at (stepLines 1 (stepsOf timetable)) out next (stepLines (i + 1) (drop i (stepsOf timetable)))
+Inv-loop timetable steps out₀ at begin₀ next₀ i₀ out begin next i =
+    (i ≤ steps) × Stands timetable i begin
+    × Left out₀ at (stepLines 1 (stepsOf timetable)) out next (stepLines (i + 1) (drop i (stepsOf timetable)))
 
 abbrev μ-loop : tie.MeasureT-loop
 μ-loop timetable steps out₀ at begin₀ next₀ i₀ out begin next i = steps - i
@@ -24,14 +27,20 @@ loop-holds c =
 
 shared-slice-read-step-length : tie.Need-shared-slice-read-step-length Inv-loop μ-loop
 shared-slice-read-step-length c =
-    stands-room (c .before .before .before .before .before .args .timetable .now) (c .before .before .loop .i) (c .before .before .loop .begin) (c .before .before .loop .inv .1) (omega arith) .begins
+    let round = c .before .before in let entry = round .before .before .before in
+    stands-room (entry .args .timetable .now) (round .loop .i) (round .loop .begin) (round .loop .inv .1) (omega arith) .begins
 
 step-length-requires : tie.Need-step-length-requires Inv-loop μ-loop
 step-length-requires c κs = search needs
 
 add-end : tie.Need-add-end Inv-loop μ-loop
 add-end c =
-    omega (arith, cut-ends (c .before .before .before .before .before .before .args .timetable .now) (c .before .before .before .loop .i) (c .before .before .before .loop .begin) (c .before .before .before .loop .inv .1) (omega arith) (c .step-length .result) (c .step-length .ensures .size-is))
+    let round = c .before .before .before in let entry = round .before .before .before in
+    omega (
+      arith,
+      cut-ends (entry .args .timetable .now) (round .loop .i) (round .loop .begin) (round .loop .inv .1) (omega arith)
+          (c .step-length .result) (c .step-length .ensures .size-is),
+    )
 
 add-put-step : tie.Need-add-put-step Inv-loop μ-loop
 add-put-step c = omega arith
@@ -44,11 +53,29 @@ part-put-step-start c = omega arith
 
 part-put-step-end : tie.Need-part-put-step-end Inv-loop μ-loop
 part-put-step-end c =
-    omega (arith, cut-ends (c .before .before .before .before .before .before .args .timetable .now) (c .before .before .before .loop .i) (c .before .before .before .loop .begin) (c .before .before .before .loop .inv .1) (omega arith) (c .step-length .result) (c .step-length .ensures .size-is))
+    let round = c .before .before .before in let entry = round .before .before .before in
+    omega (
+      arith,
+      cut-ends (entry .args .timetable .now) (round .loop .i) (round .loop .begin) (round .loop .inv .1) (omega arith)
+          (c .step-length .result) (c .step-length .ensures .size-is),
+    )
 
 put-step-requires : tie.Need-put-step-requires Inv-loop μ-loop
 put-step-requires c κs =
-    (cut-length (c .before .before .before .before .before .before .before .before .args .timetable .now) (c .before .before .before .before .before .loop .i) (c .before .before .before .before .before .loop .begin) (c .before .before .before .before .before .loop .inv .1) (omega arith) (c .before .before .step-length .result) (c .before .before .step-length .ensures .size-is), next-fits (stepLine (c .before .before .before .before .before .loop .i + 1) (stepMoves (take (c .before .before .before .before .before .loop .begin + c .before .before .step-length .result - c .before .before .before .before .before .loop .begin) (drop (c .before .before .before .before .before .loop .begin) (c .before .before .before .before .before .before .before .before .args .timetable .now))))) (stepLines (c .before .before .before .before .before .loop .i + 1 + 1) (drop (c .before .before .before .before .before .loop .i + 1) (stepsOf (c .before .before .before .before .before .before .before .before .args .timetable .now)))) (lines-next (c .before .before .before .before .before .before .before .before .args .timetable .now) (c .before .before .before .before .before .loop .i) (c .before .before .before .before .before .loop .begin) (c .before .before .before .before .before .loop .inv .1) (omega arith) (c .before .before .step-length .result) (c .before .before .step-length .ensures .size-is)) (c .before .before .before .before .before .before .before .before .pre .2) (c .before .before .before .before .before .loop .inv .2))
+    let step-length = c .before .before in let round = step-length .before .before .before in
+    let entry = round .before .before .before in (
+      cut-length (entry .args .timetable .now) (round .loop .i) (round .loop .begin) (round .loop .inv .1) (omega arith)
+          (step-length .step-length .result) (step-length .step-length .ensures .size-is),
+      next-fits
+          (stepLine (round .loop .i + 1)
+          (stepMoves
+          (take (round .loop .begin + step-length .step-length .result - round .loop .begin)
+          (drop (round .loop .begin) (entry .args .timetable .now)))))
+          (stepLines (round .loop .i + 1 + 1) (drop (round .loop .i + 1) (stepsOf (entry .args .timetable .now))))
+          (lines-next (entry .args .timetable .now) (round .loop .i) (round .loop .begin) (round .loop .inv .1) (omega arith)
+          (step-length .step-length .result) (step-length .step-length .ensures .size-is))
+          (entry .pre .2) (round .loop .inv .2),
+    )
 
 add-i : tie.Need-add-i Inv-loop μ-loop
 add-i c = omega arith
@@ -58,14 +85,29 @@ loop-less c = omega arith
 
 loop-again : tie.Need-loop-again Inv-loop μ-loop
 loop-again c =
-    (omega arith, stands-after (c .before .before .before .before .before .before .before .before .before .before .before .args .timetable .now) (c .before .before .before .before .before .before .before .before .loop .i) (c .before .before .before .before .before .before .before .before .loop .begin) (c .before .before .before .before .before .before .before .before .loop .inv .1) (omega arith) (c .before .before .before .before .before .step-length .result) (c .before .before .before .before .before .step-length .ensures .size-is), next-left (stepLine (c .before .before .before .before .before .before .before .before .loop .i + 1) (stepMoves (take (c .before .before .before .before .before .before .before .before .loop .begin + c .before .before .before .before .before .step-length .result - c .before .before .before .before .before .before .before .before .loop .begin) (drop (c .before .before .before .before .before .before .before .before .loop .begin) (c .before .before .before .before .before .before .before .before .before .before .before .args .timetable .now))))) (stepLines (c .before .before .before .before .before .before .before .before .loop .i + 1 + 1) (drop (c .before .before .before .before .before .before .before .before .loop .i + 1) (stepsOf (c .before .before .before .before .before .before .before .before .before .before .before .args .timetable .now)))) (lines-next (c .before .before .before .before .before .before .before .before .before .before .before .args .timetable .now) (c .before .before .before .before .before .before .before .before .loop .i) (c .before .before .before .before .before .before .before .before .loop .begin) (c .before .before .before .before .before .before .before .before .loop .inv .1) (omega arith) (c .before .before .before .before .before .step-length .result) (c .before .before .before .before .before .step-length .ensures .size-is)) (c .before .before .before .before .before .before .before .before .before .before .before .pre .2) (c .before .before .before .before .before .before .before .before .loop .inv .2) (c .before .before .put-step .ensures))
+    let put-step = c .before .before in let step-length = put-step .before .before .before in
+    let round = step-length .before .before .before in let entry = round .before .before .before in (
+      omega arith,
+      stands-after (entry .args .timetable .now) (round .loop .i) (round .loop .begin) (round .loop .inv .1) (omega arith)
+          (step-length .step-length .result) (step-length .step-length .ensures .size-is),
+      next-left
+          (stepLine (round .loop .i + 1)
+          (stepMoves
+          (take (round .loop .begin + step-length .step-length .result - round .loop .begin)
+          (drop (round .loop .begin) (entry .args .timetable .now)))))
+          (stepLines (round .loop .i + 1 + 1) (drop (round .loop .i + 1) (stepsOf (entry .args .timetable .now))))
+          (lines-next (entry .args .timetable .now) (round .loop .i) (round .loop .begin) (round .loop .inv .1) (omega arith)
+          (step-length .step-length .result) (step-length .step-length .ensures .size-is))
+          (entry .pre .2) (round .loop .inv .2) (put-step .put-step .ensures),
+    )
 
 same-length : tie.Need-same-length Inv-loop μ-loop
 same-length c = c .before .loop .inv .2 .length-same
 
 returns : tie.Need-returns Inv-loop μ-loop
 returns c =
-    all-wrote (lines-none (c .before .before .before .before .args .timetable .now) (c .before .loop .i) (omega arith)) (c .before .loop .inv .2)
+    let round = c .before in let entry = round .before .before .before in
+    all-wrote (lines-none (entry .args .timetable .now) (round .loop .i) (omega arith)) (round .loop .inv .2)
 
 pub put-steps-spec : {M : Type 1} → statement M
 put-steps-spec =

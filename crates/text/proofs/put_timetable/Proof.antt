@@ -19,17 +19,35 @@ enum-told c = search needs
 
 returns : tie.Need-returns
 returns c =
-    absurd (not-refused (c .before .before .before .before .before .args .timetable .now) (c .before .before .before .before .before .pre .0) _ _ (ap answerOfReading (sym (c .enum-told .given .1)) ∙ c .before .before .read .ensures))
+    let read = c .before .before in let entry = read .before .before .before in
+    absurd
+    (not-refused (entry .args .timetable .now) (entry .pre .0) _ _
+    (ap answerOfReading (sym (c .enum-told .given .1)) ∙ read .read .ensures))
 
 put-first-line-requires : tie.Need-put-first-line-requires
 unfolding timetableText
 put-first-line-requires c κs =
-    fits-as (line-is (c .before .before .before .before .before .before .before .args .timetable .now) (c .before .before .before .before .before .before .before .pre .0) (c .before .before .steps .given .0 .0) (c .before .before .steps .given .0 .1 .0) (ap answerOfReading (sym (c .before .before .steps .given .1)) ∙ c .before .before .before .before .read .ensures)) (fits-front _ _ (c .before .before .before .before .before .before .before .pre .1))
+    let steps = c .before .before in let read = steps .before .before in let entry = read .before .before .before in
+    fits-as
+    (line-is (entry .args .timetable .now) (entry .pre .0) (steps .steps .given .0 .0) (steps .steps .given .0 .1 .0)
+    (ap answerOfReading (sym (steps .steps .given .1)) ∙ read .read .ensures))
+    (fits-front _ _ (entry .pre .1))
 
 put-steps-requires : tie.Need-put-steps-requires
 unfolding timetableText
 put-steps-requires c κs =
-    (c .before .before .before .before .before .before .before .before .before .before .before .pre .0 .length-right, steps-are (c .before .before .before .before .before .before .before .before .before .before .before .args .timetable .now) (c .before .before .before .before .before .before .before .before .before .before .before .pre .0) (c .before .before .before .before .before .before .steps .given .0 .0) (c .before .before .before .before .before .before .steps .given .0 .1 .0) (ap answerOfReading (sym (c .before .before .before .before .before .before .steps .given .1)) ∙ c .before .before .before .before .before .before .before .before .read .ensures), fits-next _ _ (wrote-as (line-is (c .before .before .before .before .before .before .before .before .before .before .before .args .timetable .now) (c .before .before .before .before .before .before .before .before .before .before .before .pre .0) (c .before .before .before .before .before .before .steps .given .0 .0) (c .before .before .before .before .before .before .steps .given .0 .1 .0) (ap answerOfReading (sym (c .before .before .before .before .before .before .steps .given .1)) ∙ c .before .before .before .before .before .before .before .before .read .ensures)) (c .before .before .before .put-first-line .ensures)) (c .before .before .before .before .before .before .before .before .before .before .before .pre .1))
+    let put-first-line = c .before .before .before in let steps = put-first-line .before .before .before in
+    let read = steps .before .before in let entry = read .before .before .before in (
+      entry .pre .0 .length-right,
+      steps-are (entry .args .timetable .now) (entry .pre .0) (steps .steps .given .0 .0) (steps .steps .given .0 .1 .0)
+          (ap answerOfReading (sym (steps .steps .given .1)) ∙ read .read .ensures),
+      fits-next _ _
+          (wrote-as
+          (line-is (entry .args .timetable .now) (entry .pre .0) (steps .steps .given .0 .0) (steps .steps .given .0 .1 .0)
+          (ap answerOfReading (sym (steps .steps .given .1)) ∙ read .read .ensures))
+          (put-first-line .put-first-line .ensures))
+          (entry .pre .1),
+    )
 
 same-length : tie.Need-same-length
 same-length c = search needs
@@ -37,7 +55,15 @@ same-length c = search needs
 returns-2 : tie.Need-returns-2
 unfolding timetableText
 returns-2 c =
-    wrote-then _ _ (c .before .before .before .before .before .before .before .before .before .before .before .before .before .before .pre .1) (wrote-as (line-is (c .before .before .before .before .before .before .before .before .before .before .before .before .before .before .args .timetable .now) (c .before .before .before .before .before .before .before .before .before .before .before .before .before .before .pre .0) (c .before .before .before .before .before .before .before .before .before .steps .given .0 .0) (c .before .before .before .before .before .before .before .before .before .steps .given .0 .1 .0) (ap answerOfReading (sym (c .before .before .before .before .before .before .before .before .before .steps .given .1)) ∙ c .before .before .before .before .before .before .before .before .before .before .before .read .ensures)) (c .before .before .before .before .before .before .put-first-line .ensures)) (c .before .before .put-steps .ensures)
+    let put-steps = c .before .before in let out = put-steps .before .before .before in
+    let put-first-line = out .before in let steps = put-first-line .before .before .before in
+    let read = steps .before .before in let entry = read .before .before .before in
+    wrote-then _ _ (entry .pre .1)
+    (wrote-as
+    (line-is (entry .args .timetable .now) (entry .pre .0) (steps .steps .given .0 .0) (steps .steps .given .0 .1 .0)
+    (ap answerOfReading (sym (steps .steps .given .1)) ∙ read .read .ensures))
+    (put-first-line .put-first-line .ensures))
+    (put-steps .put-steps .ensures)
 
 pub put-timetable-spec : {M : Type 1} → statement M
 put-timetable-spec =

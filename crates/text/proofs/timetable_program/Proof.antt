@@ -1,12 +1,9 @@
 -- `text::timetable_program` meets its contract: what the maker answers and leaves is what is printed. Assumes nothing.
-use Prim.Native.Nat.{ℕ, _≤_}
 use native.Mathlib.Omega.{arith}
-use mathlib.Core.Path.{ap, sym, subst, _∙_}
-use lib.ListN.{length, replicate, length-replicate}
+use mathlib.Core.Path.{sym}
 use lib.Seq.{length-take-le}
 use Rattle.field.proofs.WritingLaws.{wrote-as}
-use Rattle.scheduling.specs.Maker.{answerOf}
-use Rattle.text.proofs.Program.{end-within, order-is, plan-is, refused-text, end-fits, made-packed, made-fits, made-text}
+use Rattle.text.proofs.Program.{end-within, refusal-text, part-within, part-packed, part-fits, part-text}
 use borrow.Author.Needs.{needs}
 use Rattle.text.proofs.timetable_program.Statement.{statement}
 use Rattle.text.proofs.timetable_program.Tie as tie
@@ -16,7 +13,9 @@ order-end-requires c κs = search needs
 
 slice-aggregate-make : tie.Need-slice-aggregate-make
 slice-aggregate-make c =
-    sym (length-take-le (c .before .order-end .result) (c .before .before .before .args .input .now) (end-within (c .before .before .before .args .input .now) (c .before .order-end .result) (c .before .order-end .ensures)))
+    sym
+    (length-take-le (c .before .order-end .result) (c .before .before .before .args .input .now)
+    (end-within (c .before .before .before .args .input .now) (c .before .order-end .result) (c .before .order-end .ensures)))
 
 sub-make : tie.Need-sub-make
 sub-make c =
@@ -52,23 +51,48 @@ record-length-requires c κs = search needs
 
 array-share-prefix-buffer : tie.Need-array-share-prefix-buffer
 array-share-prefix-buffer c =
-    subst (λ (n : ℕ). n ≤ length (c .before .before .before .before .before .make .last .1 .1 .0)) (sym (c .record-length .ensures)) (end-fits (c .before .before .before .before .before .before .before .before .before .before .before .args .input .now) _ _ _ (order-is (c .before .before .before .before .before .before .before .before .before .before .before .args .input .now) (c .before .before .before .before .before .before .before .before .before .order-end .result) (c .before .before .before .before .before .before .before .before .before .order-end .ensures)) (plan-is (c .before .before .before .before .before .before .before .before .before .before .before .args .input .now) (c .before .before .before .before .before .before .before .before .before .order-end .result) (c .before .before .before .before .before .before .before .before .before .order-end .ensures)) (length-replicate {A = ℕ} 65536 0) _ (ap answerOf (sym (c .before .before .enum-told .given .1)) ∙ c .before .before .before .before .before .make .ensures .0) (c .before .before .before .before .before .make .last .1 .1 .0) (c .before .before .before .before .before .make .ensures .1))
+    let enum-told = c .before .before in let make = enum-told .before .before .before in let buffer = make .before in
+    let order-end = buffer .before .before .before in let entry = order-end .before .before in
+    part-within (entry .args .input .now) (order-end .order-end .ensures) (make .make .ensures .0) (enum-told .enum-told .given .1)
+    (make .make .ensures .1) (c .record-length .ensures)
 
 slice-aggregate-put-timetable : tie.Need-slice-aggregate-put-timetable
 slice-aggregate-put-timetable c =
-    sym (length-take-le (c .before .record-length .result) (c .before .before .before .before .before .before .make .last .1 .1 .0) (subst (λ (n : ℕ). n ≤ length (c .before .before .before .before .before .before .make .last .1 .1 .0)) (sym (c .before .record-length .ensures)) (end-fits (c .before .before .before .before .before .before .before .before .before .before .before .before .args .input .now) _ _ _ (order-is (c .before .before .before .before .before .before .before .before .before .before .before .before .args .input .now) (c .before .before .before .before .before .before .before .before .before .before .order-end .result) (c .before .before .before .before .before .before .before .before .before .before .order-end .ensures)) (plan-is (c .before .before .before .before .before .before .before .before .before .before .before .before .args .input .now) (c .before .before .before .before .before .before .before .before .before .before .order-end .result) (c .before .before .before .before .before .before .before .before .before .before .order-end .ensures)) (length-replicate {A = ℕ} 65536 0) _ (ap answerOf (sym (c .before .before .before .enum-told .given .1)) ∙ c .before .before .before .before .before .before .make .ensures .0) (c .before .before .before .before .before .before .make .last .1 .1 .0) (c .before .before .before .before .before .before .make .ensures .1))))
+    let enum-told = c .before .before .before in let make = enum-told .before .before .before in
+    let buffer = make .before in let order-end = buffer .before .before .before in
+    let entry = order-end .before .before in
+    sym
+    (length-take-le _ _
+    (part-within (entry .args .input .now) (order-end .order-end .ensures) (make .make .ensures .0) (enum-told .enum-told .given .1)
+    (make .make .ensures .1) (c .before .record-length .ensures)))
 
 put-timetable-requires : tie.Need-put-timetable-requires
 put-timetable-requires c κs =
-    (made-packed (c .before .before .before .before .before .before .before .before .before .before .before .before .before .args .input .now) _ _ _ (order-is (c .before .before .before .before .before .before .before .before .before .before .before .before .before .args .input .now) (c .before .before .before .before .before .before .before .before .before .before .before .order-end .result) (c .before .before .before .before .before .before .before .before .before .before .before .order-end .ensures)) (plan-is (c .before .before .before .before .before .before .before .before .before .before .before .before .before .args .input .now) (c .before .before .before .before .before .before .before .before .before .before .before .order-end .result) (c .before .before .before .before .before .before .before .before .before .before .before .order-end .ensures)) (length-replicate {A = ℕ} 65536 0) _ (ap answerOf (sym (c .before .before .before .before .enum-told .given .1)) ∙ c .before .before .before .before .before .before .before .make .ensures .0) (c .before .before .before .before .before .before .before .make .last .1 .1 .0) (c .before .before .before .before .before .before .before .make .ensures .1) (c .before .before .record-length .result) (c .before .before .record-length .ensures), made-fits (c .before .before .before .before .before .before .before .before .before .before .before .before .before .args .input .now) _ _ _ (order-is (c .before .before .before .before .before .before .before .before .before .before .before .before .before .args .input .now) (c .before .before .before .before .before .before .before .before .before .before .before .order-end .result) (c .before .before .before .before .before .before .before .before .before .before .before .order-end .ensures)) (plan-is (c .before .before .before .before .before .before .before .before .before .before .before .before .before .args .input .now) (c .before .before .before .before .before .before .before .before .before .before .before .order-end .result) (c .before .before .before .before .before .before .before .before .before .before .before .order-end .ensures)) (length-replicate {A = ℕ} 65536 0) _ (ap answerOf (sym (c .before .before .before .before .enum-told .given .1)) ∙ c .before .before .before .before .before .before .before .make .ensures .0) (c .before .before .before .before .before .before .before .make .last .1 .1 .0) (c .before .before .before .before .before .before .before .make .ensures .1) (c .before .before .record-length .result) (c .before .before .record-length .ensures) (c .before .before .before .before .before .before .before .before .before .before .before .before .before .args .out .now) (omega arith))
+    let record-length = c .before .before in let enum-told = record-length .before .before in
+    let make = enum-told .before .before .before in let buffer = make .before in
+    let order-end = buffer .before .before .before in let entry = order-end .before .before in (
+      part-packed (entry .args .input .now) (order-end .order-end .ensures) (make .make .ensures .0) (enum-told .enum-told .given .1)
+          (make .make .ensures .1) (record-length .record-length .ensures),
+      part-fits (entry .args .input .now) (order-end .order-end .ensures) (make .make .ensures .0) (enum-told .enum-told .given .1)
+          (make .make .ensures .1) (record-length .record-length .ensures) (entry .args .out .now) (omega arith),
+    )
 
 returns : tie.Need-returns
 returns c =
-    wrote-as (refused-text (c .before .before .before .before .before .before .before .before .before .before .before .before .args .input .now) _ _ (replicate 65536 0) (order-is (c .before .before .before .before .before .before .before .before .before .before .before .before .args .input .now) (c .before .before .before .before .before .before .before .before .before .before .order-end .result) (c .before .before .before .before .before .before .before .before .before .before .order-end .ensures)) (plan-is (c .before .before .before .before .before .before .before .before .before .before .before .before .args .input .now) (c .before .before .before .before .before .before .before .before .before .before .order-end .result) (c .before .before .before .before .before .before .before .before .before .before .order-end .ensures)) (length-replicate {A = ℕ} 65536 0) _ _ (ap answerOf (sym (c .before .before .before .fault .given .1)) ∙ c .before .before .before .before .before .before .make .ensures .0)) (c .print-refusal .ensures)
+    let fault = c .before .before .before in let make = fault .before .before .before in let buffer = make .before in
+    let order-end = buffer .before .before .before in let entry = order-end .before .before in
+    wrote-as (refusal-text (entry .args .input .now) (order-end .order-end .ensures) (make .make .ensures .0) (fault .fault .given .1))
+    (c .print-refusal .ensures)
 
 returns-2 : tie.Need-returns-2
 returns-2 c =
-    wrote-as (made-text (c .before .before .before .before .before .before .before .before .before .before .before .before .before .before .args .input .now) _ _ _ (order-is (c .before .before .before .before .before .before .before .before .before .before .before .before .before .before .args .input .now) (c .before .before .before .before .before .before .before .before .before .before .before .before .order-end .result) (c .before .before .before .before .before .before .before .before .before .before .before .before .order-end .ensures)) (plan-is (c .before .before .before .before .before .before .before .before .before .before .before .before .before .before .args .input .now) (c .before .before .before .before .before .before .before .before .before .before .before .before .order-end .result) (c .before .before .before .before .before .before .before .before .before .before .before .before .order-end .ensures)) (length-replicate {A = ℕ} 65536 0) _ (ap answerOf (sym (c .before .before .before .before .before .enum-told .given .1)) ∙ c .before .before .before .before .before .before .before .before .make .ensures .0) (c .before .before .before .before .before .before .before .before .make .last .1 .1 .0) (c .before .before .before .before .before .before .before .before .make .ensures .1) (c .before .before .before .record-length .result) (c .before .before .before .record-length .ensures)) (c .put-timetable .ensures)
+    let record-length = c .before .before .before in let enum-told = record-length .before .before in
+    let make = enum-told .before .before .before in let buffer = make .before in
+    let order-end = buffer .before .before .before in let entry = order-end .before .before in
+    wrote-as
+    (part-text (entry .args .input .now) (order-end .order-end .ensures) (make .make .ensures .0) (enum-told .enum-told .given .1)
+    (make .make .ensures .1) (record-length .record-length .ensures))
+    (c .put-timetable .ensures)
 
 pub timetable-program-spec : {M : Type 1} → statement M
 timetable-program-spec =

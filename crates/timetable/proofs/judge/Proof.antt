@@ -1,6 +1,6 @@
 -- `timetable::judge` meets its contract: `Judging` has the answer at each return. Assumes nothing.
 use mathlib.Core.List.{[], _∷_}
-use Rattle.timetable.proofs.Judging.{illegal, misplaced, settled}
+use Rattle.timetable.proofs.Judging.{stopped, misplaced, settled}
 use borrow.Author.Needs.{needs}
 use Rattle.timetable.proofs.judge.Statement.{statement}
 use Rattle.timetable.proofs.judge.Tie as tie
@@ -17,12 +17,22 @@ place-racks-requires c κs = search needs
 replay-requires : tie.Need-replay-requires
 replay-requires c κs = search needs
 
-cast-t19 : tie.Need-cast-t19
-cast-t19 c = search needs
+enum-known-replayed : tie.Need-enum-known-replayed
+enum-known-replayed c = search needs
 
 returns : tie.Need-returns
 returns c =
-    illegal (c .before .before .before .before .before .before .before .before .before .before .args .order .now) (c .before .before .before .before .before .before .before .before .before .before .args .e) (c .before .before .before .before .before .before .before .before .before .before .args .m) (c .before .before .before .before .before .before .before .before .before .before .args .timetable .now) (c .before .before .before .before .before .before .before .before .before .before .args .steps ∷ c .before .before .before .before .before .before .before .before .before .before .args .moves ∷ []) (c .before .before .before .before .before .before .before .before .before .before .args .steps) _ _ (c .before .before .before .before .before .before .mark-edges .ensures) (c .before .before .before .before .place-racks .ensures) (c .before .replay .result) _ (c .before .replay .ensures) (c .if1 .taken)
+    let ran = c .before .before .before in
+    let placed = ran .before .before .before in
+    let marked = placed .before .before in
+    let read = marked .before .before in
+    let entry = read .before .before .args in
+    stopped (entry .order .now) (entry .e) (entry .m) (entry .timetable .now) (entry .steps ∷ entry .moves ∷ []) _ _
+    (marked .mark-edges .ensures) (placed .place-racks .ensures) (ran .replay .result) _ (ran .replay .ensures) _ _
+    (c .before .replayed .given .1)
+
+enum-told : tie.Need-enum-told
+enum-told c = search needs
 
 mul-misplaced : tie.Need-mul-misplaced
 mul-misplaced c = search needs
@@ -38,11 +48,27 @@ cast-t23 c = search needs
 
 returns-2 : tie.Need-returns-2
 returns-2 c =
-    misplaced (c .before .before .before .before .before .before .before .before .before .before .before .before .before .args .order .now) (c .before .before .before .before .before .before .before .before .before .before .before .before .before .args .e) (c .before .before .before .before .before .before .before .before .before .before .before .before .before .args .m) (c .before .before .before .before .before .before .before .before .before .before .before .before .before .args .timetable .now) (c .before .before .before .before .before .before .before .before .before .before .before .before .before .args .steps ∷ c .before .before .before .before .before .before .before .before .before .before .before .before .before .args .moves ∷ []) (c .before .before .before .before .before .before .before .before .before .before .before .before .before .args .steps) _ _ (c .before .before .before .before .before .before .before .before .before .mark-edges .ensures) (c .before .before .before .before .before .before .before .place-racks .ensures) (c .before .before .before .before .replay .result) _ (c .before .before .before .before .replay .ensures) (c .before .before .before .if1 .left) (c .before .misplaced .result) (c .before .misplaced .ensures) (c .if2 .taken)
+    let told = c .before .before .before in
+    let ran = told .before .before in
+    let placed = ran .before .before .before in
+    let marked = placed .before .before in
+    let read = marked .before .before in
+    let entry = read .before .before .args in
+    misplaced (entry .order .now) (entry .e) (entry .m) (entry .timetable .now) (entry .steps ∷ entry .moves ∷ []) _ _
+    (marked .mark-edges .ensures) (placed .place-racks .ensures) (ran .replay .result) _ (ran .replay .ensures) (told .enum-told .given .1)
+    (c .before .misplaced .result) (c .before .misplaced .ensures) (c .if1 .taken)
 
 returns-3 : tie.Need-returns-3
 returns-3 c =
-    settled (c .before .before .before .before .before .before .before .before .before .before .before .before .before .args .order .now) (c .before .before .before .before .before .before .before .before .before .before .before .before .before .args .e) (c .before .before .before .before .before .before .before .before .before .before .before .before .before .args .m) (c .before .before .before .before .before .before .before .before .before .before .before .before .before .args .timetable .now) (c .before .before .before .before .before .before .before .before .before .before .before .before .before .args .steps ∷ c .before .before .before .before .before .before .before .before .before .before .before .before .before .args .moves ∷ []) (c .before .before .before .before .before .before .before .before .before .before .before .before .before .args .steps) _ _ (c .before .before .before .before .before .before .before .before .before .mark-edges .ensures) (c .before .before .before .before .before .before .before .place-racks .ensures) (c .before .before .before .before .replay .result) _ (c .before .before .before .before .replay .ensures) (c .before .before .before .if1 .left) (c .before .misplaced .result) (c .before .misplaced .ensures) (c .if2 .left)
+    let told = c .before .before .before in
+    let ran = told .before .before in
+    let placed = ran .before .before .before in
+    let marked = placed .before .before in
+    let read = marked .before .before in
+    let entry = read .before .before .args in
+    settled (entry .order .now) (entry .e) (entry .m) (entry .timetable .now) (entry .steps ∷ entry .moves ∷ []) _ _
+    (marked .mark-edges .ensures) (placed .place-racks .ensures) (ran .replay .result) _ (ran .replay .ensures) (told .enum-told .given .1)
+    (c .before .misplaced .result) (c .before .misplaced .ensures) (c .if1 .left)
 
 pub judge-spec : {M : Type 1} → statement M
 judge-spec =
@@ -52,8 +78,9 @@ judge-spec =
     mul-place-racks
     place-racks-requires
     replay-requires
-    cast-t19
+    enum-known-replayed
     returns
+    enum-told
     mul-misplaced
     add-misplaced
     misplaced-requires

@@ -22,6 +22,9 @@ shared-slice-read-wide c = omega (arith, stepLength-some (getD (c .before .befor
 wide-requires : tie.Need-wide-requires
 wide-requires c κs = search needs
 
+mul-pad-after : tie.Need-mul-pad-after
+mul-pad-after c = search needs
+
 pad-after-requires : tie.Need-pad-after-requires
 pad-after-requires c κs =
     pad-room (c .before .before .before .before .args .step .now) (c .before .before .before .before .pre) (c .wide .result) (c .wide .ensures .0)
@@ -43,6 +46,7 @@ pad-set-spec =
     part-pad-after-end
     shared-slice-read-wide
     wide-requires
+    mul-pad-after
     pad-after-requires
     returns
     returns-2)

@@ -2,8 +2,7 @@
 use mathlib.Core.Path.{ap, _∙_}
 use mathlib.Core.List.{List}
 use Prim.Native.Nat.{ℕ}
-use Rattle.trains.specs.StepOn.{putDown, stepOn}
-use Rattle.trains.specs.Chains.{entries}
+use Rattle.trains.specs.StepOn.{entries, putDown, stepOn}
 use borrow.Author.Needs.{needs}
 use Rattle.trains.proofs.make_step.Statement.{statement}
 use Rattle.trains.proofs.make_step.Tie as tie
@@ -17,8 +16,10 @@ put-down-requires c κs = search needs
 returns : tie.Need-returns
 unfolding stepOn
 returns c =
-    let s = c .before .before .before .before .before .before in
-    c .put-down .ensures ∙ ap (λ (h : List ℕ). putDown (s .args .racks .now) h (entries (s .args .step .now) 0 (s .args .c))) (c .before .before .before .take-up .ensures)
+    let taking = c .before .before .before in
+    let a = taking .before .before .before .args in
+    let moves = entries (a .step .now) 0 (a .c) in
+    c .put-down .ensures ∙ ap (λ (h : List ℕ). putDown (a .racks .now) h moves) (taking .take-up .ensures)
 
 pub make-step-spec : {M : Type 1} → statement M
 make-step-spec = tie.close (tie.spec take-up-requires put-down-requires returns)

@@ -1,32 +1,51 @@
 -- `trains::note_moves` meets its contract. The loop's invariant: what is left to judge and to note decides. Assumes nothing.
 use Prim.Native.Nat.{_≤_, _-_}
 use native.Mathlib.Omega.{arith}
+use Rattle.trains.proofs.Moves.{entries-at}
 use Rattle.trains.proofs.Noting.{Noting, noting-first, not-ascending, no-edge, no-rack, entered-twice, noting-next, noting-last}
 use Rattle.trains.proofs.note_moves.Statement.{statement}
 use Rattle.trains.proofs.note_moves.Tie as tie
 
 abbrev Inv-loop : tie.InvT-loop
-Inv-loop moves c matrix racks target₀ step₀ entered₀ lowest₀ j₀ target step entered lowest j = (j ≤ c) × (lowest ≤ 64) × Noting matrix racks moves c target₀ lowest entered target step j
+Inv-loop step c matrix racks target₀ entered₀ lowest₀ j₀ target entered lowest j =
+    (j ≤ c) × (lowest ≤ 64) × Noting matrix racks step c target₀ lowest entered target j
 
 abbrev μ-loop : tie.MeasureT-loop
-μ-loop moves c matrix racks target₀ step₀ entered₀ lowest₀ j₀ target step entered lowest j = c - j
+μ-loop step c matrix racks target₀ entered₀ lowest₀ j₀ target entered lowest j = c - j
 
 loop-holds : tie.Need-loop-holds Inv-loop μ-loop
 loop-holds c =
-    let s = c .before in
-    let a = s .args in
-    (omega arith, omega arith, noting-first (a .matrix .now) (a .racks .now) (a .moves .now) (a .c) (a .target .now) (a .step .now) (s .pre .1))
+    let a = c .args in
+    (omega arith, omega arith, noting-first (a .matrix .now) (a .racks .now) (a .step .now) (a .c) (a .target .now))
 
-pair-at-requires : tie.Need-pair-at-requires Inv-loop μ-loop
-pair-at-requires c κs = omega arith
+mul-first-of : tie.Need-mul-first-of Inv-loop μ-loop
+mul-first-of c = omega arith
+
+element-copy-out-first-of : tie.Need-element-copy-out-first-of Inv-loop μ-loop
+element-copy-out-first-of c = omega arith
+
+first-of-requires : tie.Need-first-of-requires Inv-loop μ-loop
+first-of-requires c κs = tt
+
+mul-second-of : tie.Need-mul-second-of Inv-loop μ-loop
+mul-second-of c = omega arith
+
+element-copy-out-second-of : tie.Need-element-copy-out-second-of Inv-loop μ-loop
+element-copy-out-second-of c = omega arith
+
+second-of-requires : tie.Need-second-of-requires Inv-loop μ-loop
+second-of-requires c κs = tt
 
 returns : tie.Need-returns Inv-loop μ-loop
 returns c =
-    let a = c .before .before .before .before .before .args in
-    let l = c .before .before .before .loop in
-    let p = c .before .pair-at in
-    not-ascending (a .matrix .now) (a .racks .now) (a .moves .now) (a .c) (a .target .now) (l .lowest) (l .entered) (l .target) (l .step) (l .j) (p .result .first) (p .result .second)
-    (l .inv .2) (omega arith) (p .ensures .first-is) (p .ensures .second-is) (omega arith)
+    let second = c .before in
+    let first = second .before .before in
+    let turn = first .before .before .before in
+    let l = turn .loop in
+    let a = turn .before .args in
+    not-ascending (a .matrix .now) (a .racks .now) (a .step .now) (a .c) (a .target .now) (l .lowest) (l .entered) (l .target) (l .j) _ _
+    (l .inv .2) (entries-at (a .step .now) (a .c) (l .j) _ _ (omega arith) (first .first-of .ensures) (second .second-of .ensures))
+    (omega arith)
 
 mul-if2 : tie.Need-mul-if2 Inv-loop μ-loop
 mul-if2 c = omega arith
@@ -39,33 +58,48 @@ element-copy-out-if2 c = omega arith
 
 returns-2 : tie.Need-returns-2 Inv-loop μ-loop
 returns-2 c =
-    let a = c .before .before .before .before .before .before .before .args in
-    let l = c .before .before .before .before .before .loop in
-    let p = c .before .before .before .pair-at in
-    no-edge (a .matrix .now) (a .racks .now) (a .moves .now) (a .c) (a .target .now) (l .lowest) (l .entered) (l .target) (l .step) (l .j) (p .result .first) (p .result .second)
-    (l .inv .2) (omega arith) (p .ensures .first-is) (p .ensures .second-is) (c .if2 .taken)
+    let up = c .before .before in
+    let second = up .before in
+    let first = second .before .before in
+    let turn = first .before .before .before in
+    let l = turn .loop in
+    let a = turn .before .args in
+    no-edge (a .matrix .now) (a .racks .now) (a .step .now) (a .c) (a .target .now) (l .lowest) (l .entered) (l .target) (l .j) _ _
+    (l .inv .2) (entries-at (a .step .now) (a .c) (l .j) _ _ (omega arith) (first .first-of .ensures) (second .second-of .ensures))
+    (c .if2 .taken)
 
 element-copy-out-if3 : tie.Need-element-copy-out-if3 Inv-loop μ-loop
 element-copy-out-if3 c = omega arith
 
 returns-3 : tie.Need-returns-3 Inv-loop μ-loop
 returns-3 c =
-    let a = c .before .before .before .before .before .before .before .before .before .args in
-    let l = c .before .before .before .before .before .before .before .loop in
-    let p = c .before .before .before .before .before .pair-at in
-    no-rack (a .matrix .now) (a .racks .now) (a .moves .now) (a .c) (a .target .now) (l .lowest) (l .entered) (l .target) (l .step) (l .j) (p .result .first) (p .result .second)
-    (l .inv .2) (omega arith) (p .ensures .first-is) (p .ensures .second-is) (c .if3 .taken)
+    let joined = c .before .before in
+    let up = joined .before .before in
+    let second = up .before in
+    let first = second .before .before in
+    let turn = first .before .before .before in
+    let l = turn .loop in
+    let a = turn .before .args in
+    no-rack (a .matrix .now) (a .racks .now) (a .step .now) (a .c) (a .target .now) (l .lowest) (l .entered) (l .target) (l .j) _ _
+    (l .inv .2) (entries-at (a .step .now) (a .c) (l .j) _ _ (omega arith) (first .first-of .ensures) (second .second-of .ensures))
+    (c .if3 .taken)
 
 array-read-if4 : tie.Need-array-read-if4 Inv-loop μ-loop
 array-read-if4 c = omega arith
 
 returns-4 : tie.Need-returns-4 Inv-loop μ-loop
 returns-4 c =
-    let a = c .before .before .before .before .before .before .before .before .before .before .args in
-    let l = c .before .before .before .before .before .before .before .before .loop in
-    let p = c .before .before .before .before .before .before .pair-at in
-    entered-twice (a .matrix .now) (a .racks .now) (a .moves .now) (a .c) (a .target .now) (l .lowest) (l .entered) (l .target) (l .step) (l .j) (p .result .first) (p .result .second)
-    (l .inv .2) (omega arith) (p .ensures .first-is) (p .ensures .second-is) (c .if4 .taken)
+    let held = c .before in
+    let joined = held .before .before in
+    let up = joined .before .before in
+    let second = up .before in
+    let first = second .before .before in
+    let turn = first .before .before .before in
+    let l = turn .loop in
+    let a = turn .before .args in
+    entered-twice (a .matrix .now) (a .racks .now) (a .step .now) (a .c) (a .target .now) (l .lowest) (l .entered) (l .target) (l .j) _ _
+    (l .inv .2) (entries-at (a .step .now) (a .c) (l .j) _ _ (omega arith) (first .first-of .ensures) (second .second-of .ensures))
+    (c .if4 .taken)
 
 array-write-entered : tie.Need-array-write-entered Inv-loop μ-loop
 array-write-entered c = omega arith
@@ -79,21 +113,6 @@ cast-target c = omega arith
 element-write-target : tie.Need-element-write-target Inv-loop μ-loop
 element-write-target c = omega arith
 
-mul-step : tie.Need-mul-step Inv-loop μ-loop
-mul-step c = omega arith
-
-add-step : tie.Need-add-step Inv-loop μ-loop
-add-step c = omega arith
-
-cast-step : tie.Need-cast-step Inv-loop μ-loop
-cast-step c = omega arith
-
-mul-step-2 : tie.Need-mul-step-2 Inv-loop μ-loop
-mul-step-2 c = let low = c .before .before .before .before .before .before .before .before .loop .inv .2 .low in omega arith
-
-element-write-step : tie.Need-element-write-step Inv-loop μ-loop
-element-write-step c = let low = c .before .before .before .before .before .before .before .before .loop .inv .2 .low in omega arith
-
 add-lowest : tie.Need-add-lowest Inv-loop μ-loop
 add-lowest c = omega arith
 
@@ -105,20 +124,26 @@ loop-less c = omega arith
 
 loop-again : tie.Need-loop-again Inv-loop μ-loop
 loop-again c =
-    let a = c .before .before .before .before .before .before .before .before .before .before .args in
-    let l = c .before .before .before .before .before .before .before .before .loop in
-    let p = c .before .before .before .before .before .before .pair-at in (
-      omega arith,
-      omega arith,
-      noting-next (a .matrix .now) (a .racks .now) (a .moves .now) (a .c) (a .target .now) (l .lowest) (l .entered) (l .target) (l .step) (l .j) (p .result .first) (p .result .second)
-          (l .inv .2) (omega arith) (p .ensures .first-is) (p .ensures .second-is) (omega arith) (omega arith) (c .before .before .before .if2 .left) (c .before .if3 .left) (c .if4 .left),
-    )
+    let held = c .before in
+    let joined = held .before .before in
+    let up = joined .before .before in
+    let second = up .before in
+    let first = second .before .before in
+    let turn = first .before .before .before in
+    let l = turn .loop in
+    let a = turn .before .args in
+    let next = noting-next (a .matrix .now) (a .racks .now) (a .step .now) (a .c) (a .target .now) (l .lowest) (l .entered) (l .target)
+    (l .j) _ _ (l .inv .2)
+    (entries-at (a .step .now) (a .c) (l .j) _ _ (omega arith) (first .first-of .ensures) (second .second-of .ensures)) (omega arith)
+    (joined .if2 .left) (held .if3 .left) (c .if4 .left) in
+    (omega arith, omega arith, next)
 
 returns-5 : tie.Need-returns-5 Inv-loop μ-loop
 returns-5 c =
-    let a = c .before .before .before .args in
     let l = c .before .loop in
-    noting-last (a .matrix .now) (a .racks .now) (a .moves .now) (a .c) (a .target .now) (l .lowest) (l .entered) (l .target) (l .step) (l .j) (l .inv .2) (omega arith) (l .inv .0) (l .inv .1)
+    let a = c .before .before .args in
+    noting-last (a .matrix .now) (a .racks .now) (a .step .now) (a .c) (a .target .now) (l .lowest) (l .entered) (l .target) (l .j)
+    (l .inv .2) (omega arith)
 
 pub note-moves-spec : {M : Type 1} → statement M
 note-moves-spec =
@@ -127,7 +152,12 @@ note-moves-spec =
     Inv-loop
     μ-loop
     loop-holds
-    pair-at-requires
+    mul-first-of
+    element-copy-out-first-of
+    first-of-requires
+    mul-second-of
+    element-copy-out-second-of
+    second-of-requires
     returns
     mul-if2
     add-if2
@@ -141,11 +171,6 @@ note-moves-spec =
     add-target
     cast-target
     element-write-target
-    mul-step
-    add-step
-    cast-step
-    mul-step-2
-    element-write-step
     add-lowest
     add-j
     loop-less

@@ -2,8 +2,7 @@
 use Prim.Native.Nat.{_≤_, _-_}
 use mathlib.Core.Path.{refl}
 use native.Mathlib.Omega.{arith}
-use Rattle.trains.specs.StepOn.{putDown}
-use Rattle.trains.specs.Chains.{entries}
+use Rattle.trains.specs.StepOn.{entries, putDown}
 use Rattle.trains.proofs.Moves.{Left, left-first, left-next, left-last, entriesFrom, entries-first, entries-at, entries-last}
 use Rattle.trains.proofs.put_down.Statement.{statement}
 use Rattle.trains.proofs.put_down.Tie as tie
@@ -15,7 +14,11 @@ abbrev μ-loop : tie.MeasureT-loop
 μ-loop step c before racks₀ j₀ racks j = c - j
 
 loop-holds : tie.Need-loop-holds Inv-loop μ-loop
-loop-holds c = let a = c .args in (omega arith, left-first (putDown (a .before .now)) (entriesFrom (a .step .now) (a .c)) (entries (a .step .now) 0 (a .c)) (a .racks .now) (entries-first (a .step .now) (a .c)))
+loop-holds c =
+    let a = c .args in
+    let all = entries (a .step .now) 0 (a .c) in
+    let first = entries-first (a .step .now) (a .c) in
+    (omega arith, left-first (putDown (a .before .now)) (entriesFrom (a .step .now) (a .c)) all (a .racks .now) first)
 
 mul-first-of : tie.Need-mul-first-of Inv-loop μ-loop
 mul-first-of c = omega arith
@@ -50,16 +53,24 @@ loop-less c = omega arith
 loop-again : tie.Need-loop-again Inv-loop μ-loop
 unfolding putDown
 loop-again c =
-    let a = c .before .before .before .before .before .before .before .args in
-    let l = c .before .before .before .before .before .before .loop in
-    (omega arith, left-next (putDown (a .before .now)) (entriesFrom (a .step .now) (a .c)) (entries (a .step .now) 0 (a .c)) (a .racks .now) (l .racks) (l .j) _ _ (l .inv .1) (entries-at (a .step .now) (a .c) (l .j) _ _ (omega arith) (c .before .before .before .first-of .ensures) (c .before .second-of .ensures)) _ (λ ms. refl))
+    let second = c .before in
+    let first = second .before .before in
+    let turn = first .before .before .before in
+    let a = turn .before .args in
+    let l = turn .loop in
+    let all = entries (a .step .now) 0 (a .c) in
+    let at = entries-at (a .step .now) (a .c) (l .j) _ _ (omega arith) (first .first-of .ensures) (second .second-of .ensures) in
+    let next = left-next (putDown (a .before .now)) (entriesFrom (a .step .now) (a .c)) all (a .racks .now) (l .racks) (l .j) _ _
+    (l .inv .1) at _ (λ ms. refl) in
+    (omega arith, next)
 
 returns : tie.Need-returns Inv-loop μ-loop
 unfolding putDown
 returns c =
     let a = c .before .before .args in
     let l = c .before .loop in
-    left-last (putDown (a .before .now)) (entriesFrom (a .step .now) (a .c)) (entries (a .step .now) 0 (a .c)) (a .racks .now) (l .racks) (l .j) (l .inv .1) (entries-last (a .step .now) (a .c) (l .j) (omega arith))
+    left-last (putDown (a .before .now)) (entriesFrom (a .step .now) (a .c)) (entries (a .step .now) 0 (a .c)) (a .racks .now) (l .racks)
+    (l .j) (l .inv .1) (entries-last (a .step .now) (a .c) (l .j) (omega arith))
 
 pub put-down-spec : {M : Type 1} → statement M
 put-down-spec =

@@ -2,8 +2,7 @@
 use Prim.Native.Nat.{_≤_, _-_}
 use mathlib.Core.Path.{refl}
 use native.Mathlib.Omega.{arith}
-use Rattle.trains.specs.StepOn.{takenUp}
-use Rattle.trains.specs.Chains.{entries}
+use Rattle.trains.specs.StepOn.{entries, takenUp}
 use Rattle.trains.proofs.Moves.{Left, left-first, left-next, left-last, entriesFrom, entries-first, entries-at, entries-last}
 use Rattle.trains.proofs.take_up.Statement.{statement}
 use Rattle.trains.proofs.take_up.Tie as tie
@@ -15,7 +14,10 @@ abbrev μ-loop : tie.MeasureT-loop
 μ-loop step c racks₀ j₀ racks j = c - j
 
 loop-holds : tie.Need-loop-holds Inv-loop μ-loop
-loop-holds c = let a = c .args in (omega arith, left-first takenUp (entriesFrom (a .step .now) (a .c)) (entries (a .step .now) 0 (a .c)) (a .racks .now) (entries-first (a .step .now) (a .c)))
+loop-holds c =
+    let a = c .args in
+    let all = entries (a .step .now) 0 (a .c) in
+    (omega arith, left-first takenUp (entriesFrom (a .step .now) (a .c)) all (a .racks .now) (entries-first (a .step .now) (a .c)))
 
 mul-first-of : tie.Need-mul-first-of Inv-loop μ-loop
 mul-first-of c = omega arith
@@ -38,16 +40,21 @@ loop-less c = omega arith
 loop-again : tie.Need-loop-again Inv-loop μ-loop
 unfolding takenUp
 loop-again c =
-    let a = c .before .before .before .before .args in
-    let l = c .before .before .before .loop in
-    (omega arith, left-next takenUp (entriesFrom (a .step .now) (a .c)) (entries (a .step .now) 0 (a .c)) (a .racks .now) (l .racks) (l .j) _ _ (l .inv .1) (entries-at (a .step .now) (a .c) (l .j) _ _ (omega arith) (c .first-of .ensures) refl) _ (λ ms. refl))
+    let turn = c .before .before .before in
+    let a = turn .before .args in
+    let l = turn .loop in
+    let at = entries-at (a .step .now) (a .c) (l .j) _ _ (omega arith) (c .first-of .ensures) refl in
+    let next = left-next takenUp (entriesFrom (a .step .now) (a .c)) (entries (a .step .now) 0 (a .c)) (a .racks .now) (l .racks) (l .j) _ _
+    (l .inv .1) at _ (λ ms. refl) in
+    (omega arith, next)
 
 returns : tie.Need-returns Inv-loop μ-loop
 unfolding takenUp
 returns c =
     let a = c .before .before .args in
     let l = c .before .loop in
-    left-last takenUp (entriesFrom (a .step .now) (a .c)) (entries (a .step .now) 0 (a .c)) (a .racks .now) (l .racks) (l .j) (l .inv .1) (entries-last (a .step .now) (a .c) (l .j) (omega arith))
+    left-last takenUp (entriesFrom (a .step .now) (a .c)) (entries (a .step .now) 0 (a .c)) (a .racks .now) (l .racks) (l .j) (l .inv .1)
+    (entries-last (a .step .now) (a .c) (l .j) (omega arith))
 
 pub take-up-spec : {M : Type 1} → statement M
 take-up-spec =

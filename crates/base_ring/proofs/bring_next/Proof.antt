@@ -1,0 +1,210 @@
+-- `base_ring::bring_next` meets its contract.
+-- Assumes nothing.
+use Prim.Native.Nat.{_-_}
+use native.Mathlib.Omega.{arith}
+use borrow.Author.Needs.{needs}
+use Rattle.shunting.proofs.JourneyLaws.{journey-append, fits-less, fits-then}
+use Rattle.shunting.proofs.TableLaws.{table-went}
+use Rattle.base_ring.proofs.RingLaws.{circle-below, held-same, ring-below, ring-robust}
+use Rattle.base_ring.proofs.RingLaws.{ring-reaches-without, ring-reaches-last}
+use Rattle.base_ring.proofs.ExchangeLaws.{next-bringable, next-outside, next-held-still, next-outside-still, next-done}
+use Rattle.base_ring.proofs.bring_next.Statement.{statement}
+use Rattle.base_ring.proofs.bring_next.Tie as tie
+
+-- The places behind each call, and the entry.
+abbrev entry : tie.After-part → tie.Start
+entry c = let known = c .before .before .before in known .before
+
+abbrev parted : tie.After-where-is → tie.After-part
+parted c = c .before .before .before
+
+abbrev found : tie.After-bring → tie.After-where-is
+found c = c .before .before .before
+
+abbrev brought : tie.After-without → tie.After-bring
+brought c = c .before .before .before
+
+abbrev held : tie.After-clear → tie.After-without
+held c = c .before .before .before
+
+abbrev cleared : tie.After-without2 → tie.After-clear
+cleared c = c .before .before .before
+
+array-read-x : tie.Need-array-read-x
+array-read-x c = search needs
+
+cast-x : tie.Need-cast-x
+cast-x c = search needs
+
+array-read-next : tie.Need-array-read-next
+array-read-next c = search needs
+
+cast-next : tie.Need-cast-next
+cast-next c = search needs
+
+sub-last : tie.Need-sub-last
+sub-last c = search needs
+
+array-read-last : tie.Need-array-read-last
+array-read-last c = search needs
+
+cast-last : tie.Need-cast-last
+cast-last c = search needs
+
+part-requires : tie.Need-part-requires
+part-requires c κs =
+    let start = c .before .before .before in
+    let small = start .pre .0 .small in
+    let less = start .pre .1 .0 .less in
+    record { most = omega arith; below = λ i l. let x = start .pre .1 .0 .below i l in omega arith }
+
+where-is-requires : tie.Need-where-is-requires
+where-is-requires c κs =
+    let p = entry (c .before .before) .pre in
+    let on = p .1 .1 .1 .1 .0 in
+    (p .0 .small, (on .at, record { inside = circle-below (p .1 .0) (on .at) (on .on); there = on .there }))
+
+bring-requires : tie.Need-bring-requires
+bring-requires c κs =
+    let at = c .before .before in
+    let part = parted at .part in
+    let p = entry (parted at) .pre in
+    let rows = p .0 in
+    let circle = p .1 .0 in
+    let rack = p .1 .1 .1 .1 in (
+      rows,
+      (
+        ring-below rows circle _ (part .ensures),
+        (
+          ring-robust rows circle _ (part .ensures),
+          (
+            next-bringable rows circle _ _ (rack .0) (part .ensures) (at .where-is .ensures) (p .1 .1 .0) (p .1 .1 .1 .0),
+            fits-less _ (omega arith) (rack .1),
+          ),
+        ),
+      ),
+    )
+
+without-requires : tie.Need-without-requires
+without-requires c κs =
+    let p = entry (parted (found (c .before .before))) .pre in
+    let small = p .0 .small in
+    let three = p .1 .0 .three in
+    let x = p .1 .0 .below 1 (omega arith) in
+    omega arith
+
+clear-requires : tie.Need-clear-requires
+clear-requires c κs =
+    let without = c .before .before in
+    let bring = brought without in
+    let at = found bring in
+    let part = parted at .part in
+    let p = entry (parted at) .pre in
+    let rows = p .0 in
+    let circle = p .1 .0 in
+    let three = circle .three in
+    let rack = p .1 .1 .1 .1 in
+    let m = bring .bring .ensures in
+    let has = without .without .ensures in
+    let table = table-went (rows .inside) (m .0 .trip .went) (p .1 .1 .0) in
+    let outside = next-outside rows circle _ _ (rack .0) (part .ensures) (at .where-is .ensures) (m .1) in
+    let filled = held-same (entry (parted at) .args .circle) outside (p .1 .1 .1 .0) in (
+      rows,
+      (
+        circle .below 0 (omega arith),
+        (
+          λ q h. ring-below rows circle _ (part .ensures) q (has q .0 h .0),
+          (
+            ring-reaches-without rows circle _ (part .ensures) table filled 1 0 (omega arith) (omega arith) (omega arith) _ has,
+            fits-less _ (omega arith) (fits-then (rack .1) (m .0)),
+          ),
+        ),
+      ),
+    )
+
+without-requires-2 : tie.Need-without-requires-2
+without-requires-2 c κs =
+    let without = held (c .before .before) in
+    let p = entry (parted (found (brought without))) .pre in
+    let small = p .0 .small in
+    let three = p .1 .0 .three in
+    let x = p .1 .0 .below 0 (omega arith) in
+    omega arith
+
+clear-requires-2 : tie.Need-clear-requires-2
+clear-requires-2 c κs =
+    let more = c .before .before in
+    let clear = cleared more in
+    let without = held clear in
+    let bring = brought without in
+    let at = found bring in
+    let part = parted at .part in
+    let p = entry (parted at) .pre in
+    let rows = p .0 in
+    let circle = p .1 .0 in
+    let ring = entry (parted at) .args .circle in
+    let three = circle .three in
+    let rack = p .1 .1 .1 .1 in
+    let m = bring .bring .ensures in
+    let o = clear .clear .ensures in
+    let has = without .without .ensures in
+    let has-more = more .without2 .ensures in
+    let one = table-went (rows .inside) (m .0 .trip .went) (p .1 .1 .0) in
+    let two = table-went (rows .inside) (o .0 .journey .trip .went) one in
+    let outside = next-outside-still rows circle _ _ (rack .0) (part .ensures) (at .where-is .ensures) (m .1) _ has (o .1) in
+    let there = next-held-still rows circle _ _ (rack .0) (part .ensures) (at .where-is .ensures) (m .1) _ has (o .1) in (
+      rows,
+      (
+        circle .below (ring .size - 1) (omega arith),
+        (
+          λ q h. ring-below rows circle _ (part .ensures) q (has q .0 (has-more q .0 h .0) .0),
+          (
+            ring-reaches-last rows circle _ (part .ensures) two (held-same ring outside (p .1 .1 .1 .0)) there _ _ has has-more,
+            fits-then (fits-then (rack .1) (m .0)) (o .0 .journey),
+          ),
+        ),
+      ),
+    )
+
+same-length : tie.Need-same-length
+same-length c = search needs
+
+returns : tie.Need-returns
+returns c =
+    let last = c .before .before in
+    let more = last .before .before .before in
+    let clear = cleared more in
+    let without = held clear in
+    let bring = brought without in
+    let at = found bring in
+    let part = parted at .part in
+    let p = entry (parted at) .pre in
+    let rack = p .1 .1 .1 .1 in
+    let m = bring .bring .ensures in
+    let o = clear .clear .ensures in
+    let u = last .clear2 .ensures in (
+      journey-append (m .0) (journey-append (o .0 .journey) (u .0 .journey)),
+      next-done (p .0) (p .1 .0) _ _ (rack .0) (part .ensures) (at .where-is .ensures) (m .1) _ (without .without .ensures) (o .1) _
+          (more .without2 .ensures) (u .1),
+    )
+
+pub bring-next-spec : {M : Type 1} → statement M
+bring-next-spec =
+    tie.close
+    (tie.spec
+    array-read-x
+    cast-x
+    array-read-next
+    cast-next
+    sub-last
+    array-read-last
+    cast-last
+    part-requires
+    where-is-requires
+    bring-requires
+    without-requires
+    clear-requires
+    without-requires-2
+    clear-requires-2
+    same-length
+    returns)

@@ -1,0 +1,4 @@
+pub mod Circle
+pub mod From
+pub mod Moves
+pub mod Swap

@@ -1,4 +1,0 @@
-pub mod Went
-pub mod Journey
-pub mod Turned
-pub mod Cleared

@@ -1,0 +1,129 @@
+-- Moves on which the definitions are seen to hold, by computation: what the contracts and the laws assume can be met. Three positions in a
+-- line, racks 1 and 2 at its first two: rack 2 moves to the end, and rack 1 after it.
+--
+--     line, line-rows      the rows of the line
+--     table x y z          the table with racks x, y and z on the line
+--     moves, past          the two moves, in order and the last of them first
+--     went                 they lead from table to table
+--     went-stand-in        the same where rack 2 is a stand-in: the other rack's move is written
+--     taken-back           taken back they lead back
+--     logged               the log that has them
+--     state, entries, undoing, undo-space    what `shunting::undo` asks for
+--     away                 they avoid position 3
+--     exchanged            racks 1 and 2 exchanged meanwhile: they lead to the first table with those two exchanged
+--     carried-away         rack 2 carried to position 3 meanwhile: its own move is skipped
+-- Assumes nothing.
+use Prim.Native.Nat.{ℕ, zero, suc}
+use mathlib.Core.Path.{_≡_, refl}
+use mathlib.Core.List.{List, [], _∷_}
+use mathlib.Core.Logic.{_≢_}
+use native.Mathlib.Omega.{arith}
+use lib.ListN.{replicate, length-replicate}
+use Rattle.sets.specs.Sets.{bit}
+use Rattle.graph.specs.Rows.{Edge, Rows}
+use Rattle.graph.proofs.Examples.{rows-tested}
+use Rattle.shunting.specs.Went.{Move, Went, Within, Back}
+use Rattle.shunting.specs.Went.Went.{stay, real, stand-in}
+use Rattle.shunting.specs.Went.Back.{done}
+use Rattle.shunting.proofs.WentLaws.{same-refl}
+use Rattle.shunting.specs.declared.State.{State}
+use Rattle.shunting.specs.Journey.{row, onto, Space}
+use Rattle.shunting.specs.Journey.Trail.{start, entry}
+use Rattle.shunting.specs.Undone.{carried, Entries, Undoing}
+use Rattle.shunting.proofs.BackLaws.{Avoids, back-went, back-renamed, back-carried}
+
+unfoldable pub line : List ℕ
+line = 2 ∷ 5 ∷ 2 ∷ []
+
+pub line-rows : Rows 3 line
+unfolding line bit
+line-rows = rows-tested 3 line tt
+
+abbrev pub table : ℕ → ℕ → ℕ → List ℕ
+table x y z = x ∷ y ∷ z ∷ replicate 61 0
+
+abbrev pub moves : List (ℕ × ℕ)
+moves = (1, 2) ∷ (0, 1) ∷ []
+
+abbrev pub past : List (ℕ × ℕ)
+past = (0, 1) ∷ (1, 2) ∷ []
+
+clear : {x : ℕ} → suc x ≡ 0 → ⊥
+clear e = omega arith
+
+first : Move (Edge line) (row (table 1 2 0)) 1 2 (row (table 1 0 2))
+unfolding line bit
+first = record { edge = refl; held = clear; vacant = refl; entered = refl; left = refl; others = others }
+  where
+    others : (p : ℕ) → p ≢ 1 → p ≢ 2 → row (table 1 0 2) p ≡ row (table 1 2 0) p
+    others zero x y = refl
+    others (suc zero) x y = absurd (x refl)
+    others (suc (suc zero)) x y = absurd (y refl)
+    others (suc (suc (suc p))) x y = refl
+
+second : Move (Edge line) (row (table 1 0 2)) 0 1 (row (table 0 1 2))
+unfolding line bit
+second = record { edge = refl; held = clear; vacant = refl; entered = refl; left = refl; others = others }
+  where
+    others : (p : ℕ) → p ≢ 0 → p ≢ 1 → row (table 0 1 2) p ≡ row (table 1 0 2) p
+    others zero x y = absurd (x refl)
+    others (suc zero) x y = absurd (y refl)
+    others (suc (suc p)) x y = refl
+
+pub went : Went (Edge line) 2 (row (table 1 2 0)) moves moves (row (table 0 1 2))
+went = real first (omega arith) (real second (omega arith) (stay (same-refl (row (table 0 1 2)))))
+
+pub went-stand-in : Went (Edge line) 1 (row (table 1 2 0)) moves ((0, 1) ∷ []) (row (table 0 1 2))
+went-stand-in = stand-in first (omega arith) (real second (omega arith) (stay (same-refl (row (table 0 1 2)))))
+
+pub taken-back : Back (Edge line) (row (table 0 1 2)) past (row (table 1 2 0))
+unfolding onto
+taken-back = back-went (line-rows .symmetric) went (done (same-refl (row (table 1 2 0))))
+
+abbrev pub logged : List ℕ
+logged = 66 ∷ 1 ∷ replicate 8254 0
+
+pub undoing : Undoing line (table 0 1 2) logged 0 2 past (row (table 1 2 0))
+undoing =
+    record {
+      trail = entry {a = 0} {b = 1} refl (omega arith) (omega arith) (entry {a = 1} {b = 2} refl (omega arith) (omega arith) start);
+      back = taken-back;
+    }
+
+abbrev pub state : State
+state = record { racks = table 0 1 2; real = 2; written = 2; logged = 2 }
+
+pub entries : Entries 0 2
+entries = record { ordered = omega arith; within = omega arith }
+
+pub undo-space : Space state (replicate 6 0) 2
+undo-space =
+    let n = length-replicate {A = ℕ} 61 0 in
+    let r = length-replicate {A = ℕ} 6 0 in
+    record { racks = omega arith; room = omega arith }
+
+-- racks 1 and 2 exchanged
+abbrev swap : ℕ → ℕ
+swap zero = 0
+swap (suc zero) = 2
+swap (suc (suc zero)) = 1
+swap (suc (suc (suc r))) = suc (suc (suc r))
+
+swap-some : (r : ℕ) → r ≢ 0 → swap r ≢ 0
+swap-some zero n = n
+swap-some (suc zero) n = clear
+swap-some (suc (suc zero)) n = clear
+swap-some (suc (suc (suc r))) n = clear
+
+pub exchanged : Back (Edge line) (λ p. swap (row (table 0 1 2) p)) past (λ p. swap (row (table 1 2 0) p))
+unfolding onto
+exchanged = back-renamed (line-rows .symmetric) swap refl swap-some went (done (λ p. refl))
+
+pub away : Avoids 3 moves
+away =
+    Within.more {a = 1} {b = 2} (λ e. omega arith) (λ e. omega arith)
+    (Within.more {a = 0} {b = 1} (λ e. omega arith) (λ e. omega arith) Within.none)
+
+pub carried-away : Back (Edge line) (carried 2 3 (row (table 0 1 2))) past (carried 2 3 (row (table 1 2 0)))
+unfolding onto
+carried-away = back-carried (line-rows .symmetric) 2 3 away went (done (λ p. refl))

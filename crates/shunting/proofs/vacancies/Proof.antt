@@ -1,0 +1,38 @@
+-- `shunting::vacancies` meets its contract.
+-- Assumes nothing.
+use Prim.Native.Nat.{_-_, _≤_}
+use native.Mathlib.Omega.{arith}
+use Rattle.shunting.specs.Journey.{row}
+use Rattle.shunting.specs.Cleared.{VacantBelow}
+use Rattle.shunting.proofs.ClearLaws.{vacant-none, vacant-all}
+use Rattle.shunting.proofs.vacancies.Statement.{statement}
+use Rattle.shunting.proofs.vacancies.Tie as tie
+
+abbrev Inv-loop : tie.InvT-loop
+Inv-loop racks n vacant₀ p₀ vacant p = (p ≤ n) × VacantBelow p (row racks) vacant
+
+abbrev μ-loop : tie.MeasureT-loop
+μ-loop racks n vacant₀ p₀ vacant p = n - p
+
+loop-holds : tie.Need-loop-holds Inv-loop μ-loop
+loop-holds c = (omega arith, vacant-none _)
+
+with-vacancy-requires : tie.Need-with-vacancy-requires Inv-loop μ-loop
+with-vacancy-requires c κs = (omega arith, c .before .loop .inv .1)
+
+add-p : tie.Need-add-p Inv-loop μ-loop
+add-p c = omega arith
+
+loop-less : tie.Need-loop-less Inv-loop μ-loop
+loop-less c = omega arith
+
+loop-again : tie.Need-loop-again Inv-loop μ-loop
+loop-again c = (omega arith, c .with-vacancy .ensures)
+
+returns : tie.Need-returns Inv-loop μ-loop
+returns c = let l = c .before .loop in vacant-all _ (l .p) _ _ (omega arith) (l .inv .1)
+
+pub vacancies-spec : {M : Type 1} → statement M
+vacancies-spec =
+    tie.close
+    (tie.spec Inv-loop μ-loop loop-holds with-vacancy-requires add-p loop-less loop-again returns)

@@ -1,0 +1,6 @@
+pub mod Went
+pub mod Journey
+pub mod Turned
+pub mod Undone
+pub mod Cleared
+pub mod Table

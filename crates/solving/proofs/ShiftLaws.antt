@@ -1,0 +1,80 @@
+-- Laws of the shifted goal.
+--
+--     reaches-first, reaches-second    a walk to a vacancy, from x and then from y with x held
+--     none-written     where no rack is real no move is written
+--     tail-kept        and the plan's bytes stay as they are
+--     shifted          both clearings make the shift
+-- Assumes nothing.
+use Prim.Native.Nat.{ℕ, suc, _+_, _-_, _*_, _≤_, _<_}
+use mathlib.Core.Path.{_≡_, refl, sym, ap, _∙_}
+use mathlib.Core.List.{List, [], _∷_, _++_}
+use mathlib.Core.Logic.{_↔_, _≢_}
+use native.Mathlib.Omega.{arith}
+use lib.ListN.{length}
+use Rattle.sets.specs.Sets.{Has}
+use Rattle.graph.proofs.WalkLaws.{walk-inside}
+use Rattle.graph.specs.Connected.{BiConnected}
+use Rattle.graph.specs.Rows.{Edge, Rows}
+use Rattle.shunting.specs.Went.{Went}
+use Rattle.shunting.specs.Went.Went.{stay, real, stand-in}
+use Rattle.shunting.specs.declared.State.{State}
+use Rattle.shunting.specs.Journey.{row, packedOn, onto, Trip, Journey}
+use Rattle.shunting.specs.Journey.Trail.{start}
+use Rattle.shunting.proofs.JourneyLaws.{journey-append}
+use Rattle.shunting.specs.Cleared.{Reaches, Cleared}
+use Rattle.shunting.specs.Table.{Table}
+use Rattle.shunting.proofs.TableLaws.{table-went, table-other}
+use Rattle.solving.specs.Shift.{aimed, TwoPositions, Shift}
+
+module _ {n : ℕ} (g : List ℕ) (bi : BiConnected n (Edge g)) {x y : ℕ} (two : TwoPositions n x y) (all : ℕ)
+    (has : (p : ℕ) → Has all p ↔ (p < n)) where
+  pub reaches-first : {h : ℕ → ℕ} → Table n h → Reaches (Edge g) (Has all) h x
+  reaches-first t =
+      let way = bi .connected x (t .first) (two .first) (t .first-inside) in
+      record { to = t .first; size = way .size; walk = walk-inside (λ p l. has p .1 l) (way .walk); vacant = t .first-vacant }
+
+  pub reaches-second : {h : ℕ → ℕ} (free : ℕ) → ((p : ℕ) → Has free p ↔ (Has all p × (p ≢ x))) → Table n h
+      → Reaches (Edge g) (Has free) h y
+  reaches-second free less t =
+      let z = table-other t x in
+      let way = bi .without x (two .first) y (z .0)
+      (record { there = two .second; other = λ e. two .differ (sym e) }) (record { there = z .1; other = z .2 }) in
+      record {
+        to = z .0;
+        size = way .size;
+        walk = walk-inside (λ p q. less p .1 (has p .1 (q .there), q .other)) (way .walk);
+        vacant = z .3;
+      }
+
+pub none-written : {E : ℕ → ℕ → Type 0} {h k : ℕ → ℕ} {ms ws : List (ℕ × ℕ)} → Went E 0 h ms ws k → ws ≡ []
+none-written (stay s) = refl
+none-written (real {h = h} {a = a} m low w) = absurd (m .held (zero (h a) low))
+  where
+    zero : (r : ℕ) → r ≤ 0 → r ≡ 0
+    zero r l = omega arith
+none-written (stand-in m low w) = none-written w
+
+pub tail-kept : {g : List ℕ} {c : ℕ} (k : List ℕ) {s : State} {t t′ : List ℕ} → Trip g c (aimed k) t s t′ → t′ ≡ t
+unfolding packedOn
+tail-kept k {t = t} a = a .bytes ∙ ap (packedOn t 0) (none-written (a .went))
+
+module _ {n : ℕ} {g : List ℕ} (rows : Rows n g) (x y all free : ℕ) (less : (p : ℕ) → Has free p ↔ (Has all p × (p ≢ x))) (k : List ℕ)
+    (table : Table n (row k)) where
+  pub shifted : {s₁ s₂ : State} {l t l₁ t₁ l₂ t₂ : List ℕ} → length l ≡ 8256 → Journey g (n - 1) (aimed k) l t s₁ l₁ t₁
+      → Cleared (Has all) x (row k) (row (s₁ .racks)) → Journey g (n - 1) s₁ l₁ t₁ s₂ l₂ t₂
+      → Cleared (Has free) y (row (s₁ .racks)) (row (s₂ .racks)) → Shift n g x y k s₂ l₂ × (t₂ ≡ t)
+  shifted long a c₁ b c₂ =
+      let both = journey-append a b in (
+        record {
+          moves = both .trip .moves;
+          written = both .trip .written;
+          went = both .trip .went;
+          few = (let f = both .trip .few in let e = both .logged in omega arith);
+          trail = both .trail 0 [] (omega arith) start;
+          long = both .log ∙ long;
+          table = table-went (rows .inside) (both .trip .went) table;
+          first = c₂ .outside x (λ f. less x .0 f .1 refl) ∙ c₁ .vacant;
+          second = c₂ .vacant;
+        },
+        tail-kept k (both .trip),
+      )
