@@ -22,7 +22,8 @@ use Rattle.field.proofs.BitLaws.{field-lt}
 use Rattle.field.proofs.RecordLaws.{length-positions, length-pairs}
 use Rattle.field.proofs.UnitLaws.{or-right}
 use Rattle.order.specs.Floor.{Floor}
-use Rattle.order.specs.Order.{positionCount, edgeCount, rackCount, floorOf, startsOf, goalsOf, orderOf, wrongLength, wrongPositions, paddingSet, wrongEdges, wrongRacks, orderAnswer}
+use Rattle.order.specs.Order.{positionCount, edgeCount, rackCount, floorOf, startsOf, goalsOf, orderOf, wrongLength, wrongPositions}
+use Rattle.order.specs.Order.{paddingSet, wrongEdges, wrongRacks, orderAnswer}
 use Rattle.motion.specs.Arrangement.{Arrangement}
 use Rattle.motion.specs.Move.{legalMove, moveFault, after, afterMove}
 use Rattle.motion.proofs.MoveLaws.{moveFault-none, moveFault-small}
@@ -107,7 +108,8 @@ moves-stopping F A ms f j e =
 steps-stopping : (F : Floor) (A : Arrangement) (steps : List (List (ℕ × ℕ))) (f j : ℕ) → replaySteps (legalStep? F) A steps ≡ stopped f j
     → Stopping (length steps) f j
 steps-stopping F A steps f j e =
-    stopped-small (stepFault (legalStep? F)) (legalStep F) after (stepFault-none F) (stepFault-small F) (replaySteps-stopped F A steps f j .0 e)
+    stopped-small (stepFault (legalStep? F)) (legalStep F) after (stepFault-none F) (stepFault-small F)
+    (replaySteps-stopped F A steps f j .0 e)
 
 module _ {Fits : List ℕ → Type 0} where
   pub refuse-sized : (t : Bool) (number place : ℕ) (a : Answer) → T (ltb 0 number) → T (ltb number 256) → place < 2 ^ 32
@@ -188,9 +190,8 @@ timetable-sized o s b =
     passUp-sized (orderAnswer o) _ (order-sized o)
     (λ v e. refuse-sized (wrongTimetableLength s) 40 0 _ tt tt (lit< tt)
     (λ _. refuse-sized (timetablePaddingSet s) 41 0 _ tt tt (lit< tt)
-    (λ _. judged-sized 43 (goalsOf o) _ (replaySteps (legalStep? (floorOf o)) (startsOf o) (stepsOf s)) (length (stepsOf s)) tt tt (goals-few o)
-    (steps-stopping (floorOf o) (startsOf o) (stepsOf s))
-    (omega (arith, steps-listed s, count-small s))
+    (λ _. judged-sized 43 (goalsOf o) _ (replaySteps (legalStep? (floorOf o)) (startsOf o) (stepsOf s)) (length (stepsOf s)) tt tt
+    (goals-few o) (steps-stopping (floorOf o) (startsOf o) (stepsOf s)) (omega (arith, steps-listed s, count-small s))
     (steps-moves (count-small s) (total-small s b)))))
 
 pub maker-sized : (o p : List ℕ) (n : ℕ) → Sized OneCount (makerAnswer o p n)

@@ -21,7 +21,8 @@ ghost use Rattle.scheduling.specs.Maker.{makerAnswer, bufferAfter};
 ghost use Rattle.timetable.specs.Timetable.{timetableAnswer, stepAnswer};
 ghost use Rattle.timetable.specs.RecordLength.{wholeTimetableLength};
 ghost use Rattle.controller.specs.Packed.{packed, nothing, oneCount, stepsAndMoves, lengthAndOffset};
-ghost use Rattle.controller.specs.Unpacked.{Tells, uncounted, nothingOf, planMovesOf, madeStepsOf, stepsAndMovesOf, offsetAndLengthOf};
+ghost use Rattle.controller.specs.Unpacked.{Tells, uncounted, nothingOf, planMovesOf, madeStepsOf, stepsAndMovesOf};
+ghost use Rattle.controller.specs.Unpacked.{offsetAndLengthOf};
 
 // A refusal as one number.
 fn refusal(fault: Fault, place: u32) -> u64
@@ -55,7 +56,8 @@ pub extern "C" fn wichteab_floor_check(order: &[u8]) -> u64
 // Makes a plan for an order and writes it to the front of the buffer, judged by 10 to 14 and 20 to 23. Accepted, it gives the plan's moves.
 #[no_mangle]
 pub extern "C" fn wichteab_plan_make(order: &[u8], buffer: &mut [u8]) -> u64
-    ensures { λ r. ⌜ ((a : Answer) × Tells oneCount planMovesOf a r × PlanMade (now (order .entry)) (now (buffer .entry)) a (now (buffer .exit))) ⌝ }
+    ensures { λ r. ⌜ ((a : Answer) × Tells oneCount planMovesOf a r
+        × PlanMade (now (order .entry)) (now (buffer .entry)) a (now (buffer .exit))) ⌝ }
 {
     match planner::make(order, buffer) {
         PlannerVerdict::Planned(moves) => (moves as u64) * 256,
@@ -86,8 +88,8 @@ pub extern "C" fn wichteab_timetable_check(order: &[u8], timetable: &[u8]) -> u6
     }
 }
 
-// Makes the timetable of a plan for an order and writes it to the front of the buffer, judged by 10 to 14, 30 to 33 and 44. Accepted, it gives
-// the timetable's steps.
+// Makes the timetable of a plan for an order and writes it to the front of the buffer, judged by 10 to 14, 30 to 33 and 44. Accepted, it
+// gives the timetable's steps.
 #[no_mangle]
 pub extern "C" fn wichteab_timetable_make(order: &[u8], plan: &[u8], buffer: &mut [u8]) -> u64
     ensures { λ r. ⌜ Tells oneCount madeStepsOf (makerAnswer (now (order .entry)) (now (plan .entry)) (length (now (buffer .entry)))) r ⌝ }

@@ -37,7 +37,8 @@ use Rattle.floor.proofs.FloorLaws.{plannable-is}
 use Rattle.planner.specs.Moves.{Solves}
 use Rattle.planner.specs.Planner.{refusals, PlanMade, turned-down, made}
 use Rattle.planner.proofs.PlannerLaws.{unrefused, packed, plan-accepted}
-use Rattle.delivery.specs.Delivery.{Call, answered, Answers, planLength, planAlone, timetableAlone, Called, unplanned, untimed, checked, Timed, Delivered, Delivers}
+use Rattle.delivery.specs.Delivery.{Call, answered, Answers, planLength, planAlone, timetableAlone, Called, unplanned, untimed}
+use Rattle.delivery.specs.Delivery.{checked, Timed, Delivered, Delivers}
 
 -- how long a plan buffer 23 asks for
 abbrev pub planRoom : List ℕ → ℕ
@@ -161,10 +162,14 @@ delivered o P T (checked {s = s} {c = c} {T′ = T′} (made ms e solves) a left
     (λ h. timely o p k (right o P can room ms solves) (count o P can room ms solves) T h T′ after s c own ec)
 
 -- and what moves that solve the order let the three calls answer: the making rule's steps of them, and the same with their number
-pub callable : (o P : List ℕ) → Plannable o → planRoom o ≤ length P
-    → (ms : List (ℕ × ℕ)) → Solves o (positionCount o) ms → (T : List ℕ) → 3 * length ms + 3 ≤ length T
-    → (s : ℕ) → greatest (timed (startsOf o) [] ms) ≡ s
-    → Called o P T (record { planner = accepted (length ms ∷ []); maker = answered (accepted (s ∷ [])); checker = answered (accepted (s ∷ length ms ∷ [])) })
+pub callable : (o P : List ℕ) → Plannable o → planRoom o ≤ length P → (ms : List (ℕ × ℕ)) → Solves o (positionCount o) ms → (T : List ℕ)
+    → 3 * length ms + 3 ≤ length T → (s : ℕ) → greatest (timed (startsOf o) [] ms) ≡ s
+    → Called o P T
+    (record {
+      planner = accepted (length ms ∷ []);
+      maker = answered (accepted (s ∷ []));
+      checker = answered (accepted (s ∷ length ms ∷ []));
+    })
     (written P 0 (planRecord ms)) (bufferAfter o (planRecord ms) T)
 callable o P can room ms solves T enough s e =
     let p = planRecord ms in

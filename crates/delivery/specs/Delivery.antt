@@ -8,7 +8,8 @@
 --     planAlone k P             the plan of k moves at the front of the buffer P, alone
 --     timetableAlone T          the timetable at the front of the buffer T, alone
 --     Called o P T a P′ T′      on the order o and the buffers P and T the three calls may answer a and leave P′ and T′ behind
---     Timed o p k T m c T′      of the plan p of k moves the making rule's timetable is made, and accepted with the maker's steps and k moves
+--     Timed o p k T m c T′      of the plan p of k moves the making rule's timetable is made, and accepted with the
+--                               maker's steps and k moves
 --     Delivered o P T a P′ T′   the plan just written is accepted, and so is the timetable made of it
 --     Delivers o P T a P′ T′    demand 3: every order that can be planned is delivered, given such a buffer
 --     callOfMaker, callOfCheck, answersOf    what the code answers, as these

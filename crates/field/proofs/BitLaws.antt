@@ -23,7 +23,8 @@ use Prim.Native.Nat.{ℕ, zero, suc, _+_, _*_, _/_, _%_, _^_, _≤_, _<_}
 use mathlib.Core.Path.{_≡_, refl, sym, ap, ap₂, _∙_, subst}
 use mathlib.Core.List.{List, [], _∷_, _++_}
 use native.Mathlib.Omega.{arith}
-use native.Mathlib.Nat.{mod-lt, mod-one, suc-add, zero-add, add-comm, add-assoc, mul-assoc, add-mul, lt-of-lt-of-le, min-le-left, mod-eq-of-lt, div-one}
+use native.Mathlib.Nat.{mod-lt, mod-one, suc-add, zero-add, add-comm, add-assoc, mul-assoc, add-mul, lt-of-lt-of-le, min-le-left}
+use native.Mathlib.Nat.{mod-eq-of-lt, div-one}
 use lib.ListN.{length, getD, take, drop, length-append, length-take, length-drop}
 use lib.Seq.{take-add, drop-drop, drop-nil, drop-cons, length-take-le, take-append-le, drop-append-le, take-at, drop-at}
 use lib.Arith.{digits-lt}
@@ -109,7 +110,9 @@ pub field-in-byte : (s : List ℕ) (k r w t : ℕ) → k < length s → r + (w +
 unfolding field bitsOf
 field-in-byte s k r w t h e =
     field-drop s k r w
-    ∙ rw (drop-cons s k 0 h) (ap number (inside (getD s k 0) (drop (suc k) s)) ∙ ap (λ (n : ℕ). number (take w (drop r (bits n (getD s k 0))))) (sym e) ∙ bits-within r w t (getD s k 0))
+    ∙ rw (drop-cons s k 0 h)
+    (ap number (inside (getD s k 0) (drop (suc k) s)) ∙ ap (λ (n : ℕ). number (take w (drop r (bits n (getD s k 0))))) (sym e)
+    ∙ bits-within r w t (getD s k 0))
   where
     inside : (b : ℕ) (rest : List ℕ) → take w (drop r (bits 8 b ++ bitsOf rest)) ≡ take w (drop r (bits 8 b))
     inside b rest =
@@ -130,7 +133,8 @@ pub number-lt : {l : List ℕ} → Bits l → number l < 2 ^ length l
 unfolding number
 number-lt none = omega arith
 number-lt (more {x = b} {l = l} h p) =
-    subst (λ (n : ℕ). b * 2 ^ length l + number l < n) (sym (pow-add 2 1 (length l)) ∙ ap (λ (k : ℕ). 2 ^ k) (omega arith)) (digits-lt h (number-lt p))
+    subst (λ (n : ℕ). b * 2 ^ length l + number l < n) (sym (pow-add 2 1 (length l)) ∙ ap (λ (k : ℕ). 2 ^ k) (omega arith))
+    (digits-lt h (number-lt p))
 
 pub field-lt : (s : List ℕ) (i w : ℕ) → field s i w < 2 ^ w
 unfolding field
@@ -147,7 +151,8 @@ unfolding field
 field-split s i v w h =
     rw (take-add v w (drop i (bitsOf s)), drop-drop v i (bitsOf s))
     (number-append (take v (drop i (bitsOf s))) (take w (drop (i + v) (bitsOf s)))
-    ∙ ap (λ (n : ℕ). number (take v (drop i (bitsOf s))) * 2 ^ n + number (take w (drop (i + v) (bitsOf s)))) (length-part s (i + v) w (omega arith)))
+    ∙ ap (λ (n : ℕ). number (take v (drop i (bitsOf s))) * 2 ^ n + number (take w (drop (i + v) (bitsOf s))))
+    (length-part s (i + v) w (omega arith)))
 
 -- the bits of x go by x mod 2 ^ w alone
 pub bits-mod : (w j x : ℕ) → bits w (x % 2 ^ (j + w)) ≡ bits w x
@@ -155,7 +160,9 @@ unfolding bits
 bits-mod zero j x = refl
 bits-mod (suc w) j x =
     let e : j + suc w ≡ (j + 1) + w = omega arith in
-    rw e (ap₂ (λ (h : ℕ) (l : List ℕ). h ∷ l) (ap (λ (n : ℕ). n % 2) (pow-field x (j + 1) w) ∙ mod-mod-pow (x / 2 ^ w) j 1) (bits-mod w (j + 1) x))
+    rw e
+    (ap₂ (λ (h : ℕ) (l : List ℕ). h ∷ l) (ap (λ (n : ℕ). n % 2) (pow-field x (j + 1) w) ∙ mod-mod-pow (x / 2 ^ w) j 1)
+    (bits-mod w (j + 1) x))
 
 pub bits-number : {l : List ℕ} → Bits l → bits (length l) (number l) ≡ l
 unfolding bits number

@@ -70,7 +70,8 @@ pub front-written : (B h x : List ℕ) → length h ≡ 3 → 3 + length x ≤ l
 unfolding written
 front-written B h x e room =
     let front : length (take 3 B) ≡ 3 = length-take-le 3 B (omega arith) in
-    let tail : drop 3 (take 3 B ++ (x ++ drop (3 + length x) B)) ≡ x ++ drop (3 + length x) B = drop-at (take 3 B) (x ++ drop (3 + length x) B) 3 front in
+    let tail : drop 3 (take 3 B ++ (x ++ drop (3 + length x) B)) ≡ x ++ drop (3 + length x) B =
+    drop-at (take 3 B) (x ++ drop (3 + length x) B) 3 front in
     let three : 0 + length h ≡ 3 = omega arith in
     let all : length (h ++ x) ≡ 3 + length x = length-append h x ∙ ap (λ (n : ℕ). n + length x) e in
     let none : 0 + (3 + length x) ≡ 3 + length x = omega arith in

@@ -45,7 +45,8 @@ bits-append zero w x y h =
 bits-append (suc v) w x y h =
     rw (suc-add v w)
     (ap₂ (λ (b : ℕ) (l : List ℕ). b ∷ l)
-    (ap (λ (n : ℕ). n % 2) (ap (λ (k : ℕ). (x * 2 ^ w + y) / 2 ^ k) (add-comm v w) ∙ sym (shr-shr (x * 2 ^ w + y) w v) ∙ ap (λ (n : ℕ). n / 2 ^ v) (high x w h)))
+    (ap (λ (n : ℕ). n % 2)
+    (ap (λ (k : ℕ). (x * 2 ^ w + y) / 2 ^ k) (add-comm v w) ∙ sym (shr-shr (x * 2 ^ w + y) w v) ∙ ap (λ (n : ℕ). n / 2 ^ v) (high x w h)))
     (bits-append v w x y h))
 
 -- a number in two runs of bits

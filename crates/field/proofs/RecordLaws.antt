@@ -32,7 +32,8 @@ use lib.Seq.{take-add, drop-drop, length-take-le, take-all, take-at, drop-at}
 use Rattle.field.specs.Bits.{PositionAt, PairAt}
 use Rattle.field.specs.Bits.{bits, number, bitsOf, field, positions, pairs, positionBits, pairBits, pad, padded, bytes, toBytes}
 use Rattle.field.specs.Bytes.{Below, none, more, Bytes, BelowPairs, more₂, none₂}
-use Rattle.field.proofs.BitLaws.{Bits, below-append, below-take, below-drop, length-bits, bits-are, number-bits, number-lt, bits-number, length-bitsOf, field-drop, field-lt, bits-field, field-at}
+use Rattle.field.proofs.BitLaws.{Bits, below-append, below-take, below-drop, length-bits, bits-are, number-bits, number-lt}
+use Rattle.field.proofs.BitLaws.{bits-number, length-bitsOf, field-drop, field-lt, bits-field, field-at}
 
 pub length-positions : (s : List ℕ) (i k : ℕ) → length (positions s i k) ≡ k
 unfolding positions
@@ -73,25 +74,34 @@ bits-pairs s i (suc k) h =
     rw (bits-field s i 6 (omega arith), bits-field s (i + 6) 6 (omega arith), bits-pairs s (i + 12) k (omega arith), e)
     (ap (λ (l : List ℕ). l ++ take (12 * k) (drop (i + 12) (bitsOf s))) (part-add s i 6 6) ∙ part-add s i 12 (12 * k))
 
-pub positions-at : (s p l q : List ℕ) (i : ℕ) → bitsOf s ≡ p ++ (positionBits l ++ q) → length p ≡ i → Below 64 l → positions s i (length l) ≡ l
+pub positions-at : (s p l q : List ℕ) (i : ℕ) → bitsOf s ≡ p ++ (positionBits l ++ q) → length p ≡ i → Below 64 l
+    → positions s i (length l) ≡ l
 unfolding positions positionBits
 positions-at s p [] q i e n b = refl
 positions-at s p (x ∷ l) q i e n (more h b) =
-    let first : bitsOf s ≡ p ++ (bits 6 x ++ (positionBits l ++ q)) = e ∙ ap (λ (m : List ℕ). p ++ m) (append-assoc (bits 6 x) (positionBits l) q) in
+    let first : bitsOf s ≡ p ++ (bits 6 x ++ (positionBits l ++ q)) =
+    e ∙ ap (λ (m : List ℕ). p ++ m) (append-assoc (bits 6 x) (positionBits l) q) in
     ap₂ (λ (y : ℕ) (m : List ℕ). y ∷ m) (field-at s p (positionBits l ++ q) i 6 x first n h)
-    (positions-at s (p ++ bits 6 x) l q (i + 6) (first ∙ sym (append-assoc p (bits 6 x) (positionBits l ++ q))) (length-append p (bits 6 x) ∙ ap₂ _+_ n (length-bits 6 x)) b)
+    (positions-at s (p ++ bits 6 x) l q (i + 6) (first ∙ sym (append-assoc p (bits 6 x) (positionBits l ++ q)))
+    (length-append p (bits 6 x) ∙ ap₂ _+_ n (length-bits 6 x)) b)
 
-pub pairs-at : (s p : List ℕ) (l : List (ℕ × ℕ)) (q : List ℕ) (i : ℕ) → bitsOf s ≡ p ++ (pairBits l ++ q) → length p ≡ i → BelowPairs 64 l → pairs s i (length l) ≡ l
+pub pairs-at : (s p : List ℕ) (l : List (ℕ × ℕ)) (q : List ℕ) (i : ℕ) → bitsOf s ≡ p ++ (pairBits l ++ q) → length p ≡ i
+    → BelowPairs 64 l → pairs s i (length l) ≡ l
 unfolding pairs pairBits
 pairs-at s p [] q i e n b = refl
 pairs-at s p (x ∷ l) q i e n (more₂ h₀ h₁ b) =
     let first : bitsOf s ≡ p ++ (bits 6 (x .0) ++ (bits 6 (x .1) ++ (pairBits l ++ q))) = e ∙ simp append-assoc in
     let second : bitsOf s ≡ (p ++ bits 6 (x .0)) ++ (bits 6 (x .1) ++ (pairBits l ++ q)) = first ∙ sym (append-assoc p (bits 6 (x .0)) _) in
-    let third : bitsOf s ≡ ((p ++ bits 6 (x .0)) ++ bits 6 (x .1)) ++ (pairBits l ++ q) = second ∙ sym (append-assoc (p ++ bits 6 (x .0)) (bits 6 (x .1)) _) in
+    let third : bitsOf s ≡ ((p ++ bits 6 (x .0)) ++ bits 6 (x .1)) ++ (pairBits l ++ q) =
+    second ∙ sym (append-assoc (p ++ bits 6 (x .0)) (bits 6 (x .1)) _) in
     let n₁ : length (p ++ bits 6 (x .0)) ≡ i + 6 = length-append p (bits 6 (x .0)) ∙ ap₂ _+_ n (length-bits 6 (x .0)) in
-    let n₂ : length ((p ++ bits 6 (x .0)) ++ bits 6 (x .1)) ≡ i + 12 = length-append (p ++ bits 6 (x .0)) (bits 6 (x .1)) ∙ ap₂ _+_ n₁ (length-bits 6 (x .1)) ∙ add-assoc i 6 6 in
+    let n₂ : length ((p ++ bits 6 (x .0)) ++ bits 6 (x .1)) ≡ i + 12 =
+    length-append (p ++ bits 6 (x .0)) (bits 6 (x .1)) ∙ ap₂ _+_ n₁ (length-bits 6 (x .1)) ∙ add-assoc i 6 6 in
     ap₂ (λ (y : ℕ × ℕ) (m : List (ℕ × ℕ)). y ∷ m)
-    (λ j. (field-at s p (bits 6 (x .1) ++ (pairBits l ++ q)) i 6 (x .0) first n h₀ j, field-at s (p ++ bits 6 (x .0)) (pairBits l ++ q) (i + 6) 6 (x .1) second n₁ h₁ j))
+    (λ j. (
+      field-at s p (bits 6 (x .1) ++ (pairBits l ++ q)) i 6 (x .0) first n h₀ j,
+      field-at s (p ++ bits 6 (x .0)) (pairBits l ++ q) (i + 6) 6 (x .1) second n₁ h₁ j,
+    ))
     (pairs-at s ((p ++ bits 6 (x .0)) ++ bits 6 (x .1)) l q (i + 12) third n₂ b)
 
 pub positions-drop : (s : List ℕ) (b i k : ℕ) → positions s (8 * b + i) k ≡ positions (drop b s) i k
@@ -113,14 +123,20 @@ bits-bytes zero [] b e = refl
 bits-bytes zero (x ∷ l) b e = absurd (omega arith)
 bits-bytes (suc n) l b e =
     let eight : length (take 8 l) ≡ 8 = length-take-le 8 l (omega arith) in
-    let byte : bits 8 (number (take 8 l)) ≡ take 8 l = ap (λ (k : ℕ). bits k (number (take 8 l))) (sym eight) ∙ bits-number (below-take 8 b) in
+    let byte : bits 8 (number (take 8 l)) ≡ take 8 l =
+    ap (λ (k : ℕ). bits k (number (take 8 l))) (sym eight) ∙ bits-number (below-take 8 b) in
     rw (byte, bits-bytes n (drop 8 l) (below-drop 8 b) (length-drop 8 l ∙ omega arith)) (take-append-drop 8 l)
 
 pub bytes-bits : {s : List ℕ} → Bytes s → bytes (length s) (bitsOf s) ≡ s
 unfolding bitsOf bytes
 bytes-bits none = refl
-bytes-bits (more {x = x} {l = l} h b) =
-    rw (take-at (bits 8 x) (bitsOf l) 8 (length-bits 8 x), drop-at (bits 8 x) (bitsOf l) 8 (length-bits 8 x), number-bits 8 x, mod-eq-of-lt h, bytes-bits b)
+bytes-bits (more {x = x} {l = l} h b) = rw (
+  take-at (bits 8 x) (bitsOf l) 8 (length-bits 8 x),
+  drop-at (bits 8 x) (bitsOf l) 8 (length-bits 8 x),
+  number-bits 8 x,
+  mod-eq-of-lt h,
+  bytes-bits b,
+)
 
 -- k bits and their pad are as many whole bytes as k bits, rounded up
 pub up-to-byte : (k : ℕ) → k + pad k ≡ 8 * ((k + 7) / 8)
@@ -157,7 +173,9 @@ bytes-are : (n : ℕ) {l : List ℕ} → Bits l → Bytes (bytes n l)
 unfolding bytes
 bytes-are zero b = none
 bytes-are (suc n) {l} b =
-    more (lt-of-lt-of-le (number-lt (below-take 8 b)) (pow-mono (subst (λ (k : ℕ). k ≤ 8) (sym (length-take 8 l)) (min-le-left 8 (length l))))) (bytes-are n (below-drop 8 b))
+    more
+    (lt-of-lt-of-le (number-lt (below-take 8 b)) (pow-mono (subst (λ (k : ℕ). k ≤ 8) (sym (length-take 8 l)) (min-le-left 8 (length l)))))
+    (bytes-are n (below-drop 8 b))
 
 pub toBytes-are : {l : List ℕ} → Bits l → Bytes (toBytes l)
 unfolding toBytes

@@ -35,7 +35,8 @@ module _ (s : List ℕ) (i k : ℕ) where
     sextet-6 e = ap (λ (m : ℕ). field s m 6) e ∙ across 6 2 4 4 refl refl ∙ omega arith
 
 module _ (s : List ℕ) (h : 3 ≤ length s) where
-  pub head-count : getD s 0 0 < 256 → getD s 1 0 < 256 → getD s 2 0 < 256 → field s 0 22 ≡ getD s 0 0 * 16384 + getD s 1 0 * 64 + getD s 2 0 / 4
+  pub head-count : getD s 0 0 < 256 → getD s 1 0 < 256 → getD s 2 0 < 256
+      → field s 0 22 ≡ getD s 0 0 * 16384 + getD s 1 0 * 64 + getD s 2 0 / 4
   head-count a b c =
       field-split s 0 8 14 (omega arith)
       ∙ ap₂ (λ (x y : ℕ). x * 2 ^ 14 + y) (field-in-byte s 0 0 8 0 (omega arith) refl) (field-across s 1 0 8 6 2 (omega arith) refl refl)

@@ -34,7 +34,8 @@ pad-after-whole n k =
 pub padded-append : (a b : List ℕ) (n : ℕ) → length a ≡ 8 * n → padded (a ++ b) ≡ a ++ padded b
 unfolding padded
 padded-append a b n e =
-    let same : pad (length (a ++ b)) ≡ pad (length b) = ap pad (length-append a b ∙ ap (λ (k : ℕ). k + length b) e) ∙ pad-after-whole n (length b) in
+    let same : pad (length (a ++ b)) ≡ pad (length b) =
+    ap pad (length-append a b ∙ ap (λ (k : ℕ). k + length b) e) ∙ pad-after-whole n (length b) in
     rw same (append-assoc a b (replicate (pad (length b)) 0))
 
 pub padded-whole : (l : List ℕ) (n : ℕ) → length l ≡ 8 * n → padded l ≡ l

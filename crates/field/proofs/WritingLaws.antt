@@ -89,7 +89,8 @@ module _ {s : List ℕ} {at : ℕ} (l m : List ℕ) where
 
   pub wrote-then : {t u : List ℕ} {r q : ℕ} → Fits s at (l ++ m) → Wrote s at l t r → Wrote t r m u q → Wrote s at (l ++ m) u q
   wrote-then {t} {u} {r} {q} f w v = record {
-    bytes-are = v .bytes-are ∙ ap₂ (λ (x : List ℕ) (n : ℕ). written x n m) (w .bytes-are) (w .next-is) ∙ written-append s at l (fits-front f) m;
+    bytes-are = v .bytes-are ∙ ap₂ (λ (x : List ℕ) (n : ℕ). written x n m) (w .bytes-are) (w .next-is)
+        ∙ written-append s at l (fits-front f) m;
     next-is = omega (arith, v .next-is, w .next-is, length-append l m);
   }
 

@@ -116,8 +116,9 @@ edge-raised g x y long l h z =
     upper : (a b : ℕ) → b < a → a ≡ x → b ≡ y → ⊥
     upper a b lb e f = omega arith
 
-pub joined-count : (n : ℕ) (g : List ℕ) (l : List (ℕ × ℕ)) → length g ≡ 64 → BelowPairs 64 l → some (badEdge n) l ≡ false → ascending l ≡ true
-    → ((f : ℕ × ℕ) → among f l ≡ true → bit (getD g (f .1) 0) (f .0) ≡ 0) → edgeCount (joinedRows g l) n ≡ edgeCount g n + length l
+pub joined-count : (n : ℕ) (g : List ℕ) (l : List (ℕ × ℕ)) → length g ≡ 64 → BelowPairs 64 l → some (badEdge n) l ≡ false
+    → ascending l ≡ true → ((f : ℕ × ℕ) → among f l ≡ true → bit (getD g (f .1) 0) (f .0) ≡ 0)
+    → edgeCount (joinedRows g l) n ≡ edgeCount g n + length l
 unfolding joinedRows among some
 joined-count n g [] long small good asc clear = omega arith
 joined-count n g (e ∷ l) long (more₂ h₀ h₁ small) good asc clear =
@@ -159,11 +160,14 @@ module _ (F : Floor) (small : BelowPairs 64 (F .edges)) (right : wrongEdges F �
   edges-counted =
       let good = or-left (some (badEdge (F .positions)) (F .edges)) (not (ascending (F .edges))) right in
       let asc = not-false (ascending (F .edges)) (or-right (some (badEdge (F .positions)) (F .edges)) (not (ascending (F .edges))) right) in
-      let all = joined-count (F .positions) (replicate 64 0) (F .edges) (length-replicate {A = ℕ} 64 0) small good asc (λ f m. none-at (f .1) (f .0)) in
+      let all =
+      joined-count (F .positions) (replicate 64 0) (F .edges) (length-replicate {A = ℕ} 64 0) small good asc
+      (λ f m. none-at (f .1) (f .0)) in
       let none = none-yet (F .positions) in
       omega arith
 
-  pub ring-rows : Ring (F .positions) (Edge (rowsOf F)) (edgeCount (rowsOf F) (F .positions)) ↔ Ring (F .positions) (Joins F) (length (F .edges))
+  pub ring-rows : Ring (F .positions) (Edge (rowsOf F)) (edgeCount (rowsOf F) (F .positions))
+      ↔ Ring (F .positions) (Joins F) (length (F .edges))
   ring-rows =
       let same = biConnected-rows F small in (
         λ r. record { biConnected = same .0 (r .biConnected); count = sym edges-counted ∙ r .count },

@@ -78,14 +78,19 @@ plannable o v e =
     record {
       right = well-formed o (low .0) (low .1);
       vacancies = ltb-false (positionCount o) (rackCount o + 2) (refuse-not (ltb (positionCount o) (rackCount o + 2)) 20 0 a₁ v e₀);
-      biConnected = holds-true (biConnected? (floorOf o)) (not-false (holds (biConnected? (floorOf o))) (refuse-not (not (holds (biConnected? (floorOf o)))) 21 0 a₂ v e₁));
+      biConnected = holds-true (biConnected? (floorOf o))
+          (not-false (holds (biConnected? (floorOf o))) (refuse-not (not (holds (biConnected? (floorOf o)))) 21 0 a₂ v e₁));
       noRing = holds-false (ring? (floorOf o)) (refuse-not (holds (ring? (floorOf o))) 22 0 (accepted []) v e₂);
     }
 
 pub plannable-is : (o : List ℕ) → Plannable o → floorAnswer o ≡ accepted []
 plannable-is o p =
     floor-over o (counts o) (accepted-is o (p .right))
-    ∙ rw (le-ltb (positionCount o) (rackCount o + 2) (p .vacancies), holds-yes (biConnected? (floorOf o)) (p .biConnected), holds-no (ring? (floorOf o)) (p .noRing)) refl
+    ∙ rw (
+      le-ltb (positionCount o) (rackCount o + 2) (p .vacancies),
+      holds-yes (biConnected? (floorOf o)) (p .biConnected),
+      holds-no (ring? (floorOf o)) (p .noRing),
+    ) refl
 
 -- no more positions below k are joined to a than there are
 row-most : (g : List ℕ) (a k : ℕ) → rowSum g a k ≤ k

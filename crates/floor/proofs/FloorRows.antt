@@ -62,7 +62,8 @@ joining-edge g x y room a b = ⊎-elim here there (equal? a x)
     here : a ≡ x → Edge (joining g x y) a b ↔ (Edge g a b ⊎ ((a ≡ x) × (b ≡ y)))
     here e =
         let row : getD (joining g x y) a 0 ≡ bitOr (getD g a 0) (2 ^ y) =
-        ap (λ (p : ℕ). getD (joining g x y) p 0) e ∙ getD-set-same g x (bitOr (getD g x 0) (2 ^ y)) 0 room ∙ ap (λ (p : ℕ). bitOr (getD g p 0) (2 ^ y)) (sym e) in
+        ap (λ (p : ℕ). getD (joining g x y) p 0) e ∙ getD-set-same g x (bitOr (getD g x 0) (2 ^ y)) 0 room
+        ∙ ap (λ (p : ℕ). bitOr (getD g p 0) (2 ^ y)) (sym e) in
         let o = has-or (getD g a 0) (2 ^ y) b in
         let v = has-only y b in
         rw row (λ h. ⊎-elim (λ i. inl i) (λ i. inr (e, v .0 i)) (o .0 h), λ h. o .1 (⊎-elim (λ i. inl i) (λ i. inr (v .1 (i .1))) h))
@@ -138,10 +139,10 @@ module _ (F : Floor) (small : BelowPairs 64 (F .edges)) where
     pub joined-other : (a : ℕ) → T (joined F a a) → ⊥
     unfolding joined wrongEdges
     joined-other a t =
-        let good : some (badEdge (F .positions)) (F .edges) ≡ false = or-left (some (badEdge (F .positions)) (F .edges)) (not (ascending (F .edges))) right in
-        let loop : T (among (a, a) (F .edges)) → ⊥ = λ u.
-        let v = good-among (F .positions) (a, a) (F .edges) good (passed (among (a, a) (F .edges)) u) in
-        omega arith in
+        let good : some (badEdge (F .positions)) (F .edges) ≡ false =
+        or-left (some (badEdge (F .positions)) (F .edges)) (not (ascending (F .edges))) right in
+        let loop : T (among (a, a) (F .edges)) → ⊥ =
+        λ u. let v = good-among (F .positions) (a, a) (F .edges) good (passed (among (a, a) (F .edges)) u) in omega arith in
         ⊎-elim loop loop (or-parts (among (a, a) (F .edges)) (among (a, a) (F .edges)) .0 t)
 
     pub floor-rows : Rows (F .positions) (rowsOf F)

@@ -38,7 +38,8 @@ positions-are : (o : List ℕ) → floorOf o .positions ≡ positionCount o
 unfolding floorOf
 positions-are o = refl
 
-pub order-refused : (o : List ℕ) (below r : Answer) (number place : ℕ) → below ≡ orderAnswer o → below ≡ refused number place → r ≡ passUp below (accepted []) → r ≡ floorAnswer o
+pub order-refused : (o : List ℕ) (below r : Answer) (number place : ℕ) → below ≡ orderAnswer o → below ≡ refused number place
+    → r ≡ passUp below (accepted []) → r ≡ floorAnswer o
 unfolding floorAnswer
 order-refused o below r number place is f e =
     e
@@ -111,8 +112,15 @@ module _ (o : List ℕ) (n e m : ℕ) (a : accepted (n ∷ e ∷ m ∷ []) ≡ o
 
       pub ring : r ≡ true → e ≡ n → refused 22 0 ≡ floorAnswer o
       ring y s =
-          sym (over ∙ rw (vacant, found y, holds-yes (ring? (floorOf o)) (record { biConnected = same .0 (t .0 y); count = count-is ∙ s ∙ gave .positions-are })) refl)
+          sym
+          (over
+          ∙ rw (
+            vacant,
+            found y,
+            holds-yes (ring? (floorOf o)) (record { biConnected = same .0 (t .0 y); count = count-is ∙ s ∙ gave .positions-are }),
+          ) refl)
 
       pub plain : r ≡ true → (e ≡ n → ⊥) → accepted [] ≡ floorAnswer o
       plain y d =
-          sym (over ∙ rw (vacant, found y, holds-no (ring? (floorOf o)) (λ x. d (sym count-is ∙ x .count ∙ sym (gave .positions-are)))) refl)
+          sym
+          (over ∙ rw (vacant, found y, holds-no (ring? (floorOf o)) (λ x. d (sym count-is ∙ x .count ∙ sym (gave .positions-are)))) refl)

@@ -6,8 +6,8 @@
 --     ring? F            the floor F is a ring or not
 --     holds d            the decision d says yes
 --     floorAnswer o      the answer for the order o: the order reader's refusal, else the first of 20 to 22 that applies, else accepted
--- What a decision decides is its type: `BiConnected` and `Ring` are defined by walks (crates/graph, Connected). How it does so (WayDecision) is no
--- part of what is promised.
+-- What a decision decides is its type: `BiConnected` and `Ring` are defined by walks (crates/graph, Connected). How it does so
+-- (WayDecision) is no part of what is promised.
 -- Assumes nothing.
 use Prim.Native.Nat.{ℕ, _+_}
 use mathlib.Core.Bool.{Bool, true, false, not}

@@ -1,5 +1,5 @@
--- What demand 3 supposes of an order: "every well-formed order on a bi-connected floor … that is not a single ring and has at least two vacant
--- positions".
+-- What demand 3 supposes of an order: "every well-formed order on a bi-connected floor … that is not a single ring and has at least two
+-- vacant positions".
 --
 --     Plannable o              the order o is well formed and none of 20 to 22 applies to it
 -- Assumes nothing.

@@ -1,7 +1,8 @@
--- Whether a way leads from one position to another, decided on a finite floor: Warshall's recursion over the highest inner position. Nothing
--- here is part of a promise: a decision is believed by its type.
+-- Whether a way leads from one position to another, decided on a finite floor: Warshall's recursion over the highest inner position.
+-- Nothing here is part of a promise: a decision is believed by its type.
 --
---     alike?, either?, both?, implies?, every?   decisions put together: what holds with another, one of two, both, one if the other, all numbers below n
+--     alike?, either?, both?, implies?, every?   decisions put together: what holds with another, one of two, both, one if the
+--                                                other, all numbers below n
 --     Through E P k a b       a is b, or an edge or a way leads from a to b whose inner positions are allowed by P and below k
 --     through-way             from one allowed position to another it is a way
 --     through-on              two of them that meet at an allowed position below k are one
@@ -75,7 +76,8 @@ module _ (E : ℕ → ℕ → Type 0) (P : ℕ → Type 0) where
   from-top k b (inl t) = t
   from-top k b (inr t) = t .1 .1
 
-  on-below : (k a c b : ℕ) → ((x y : ℕ) → Through k x c → Through k c y → Through k x y) → Through (suc k) a c → Through (suc k) c b → Through (suc k) a b
+  on-below : (k a c b : ℕ) → ((x y : ℕ) → Through k x c → Through k c y → Through k x y) → Through (suc k) a c → Through (suc k) c b
+      → Through (suc k) a b
   on-below k a c b on (inl s) (inl t) = inl (on a b s t)
   on-below k a c b on (inl s) (inr t) = inr (t .0, (on a k s (t .1 .0), t .1 .1))
   on-below k a c b on (inr s) (inl t) = inr (s .0, (s .1 .0, on k b (s .1 .1) t))
@@ -85,7 +87,8 @@ module _ (E : ℕ → ℕ → Type 0) (P : ℕ → Type 0) where
   through-on zero a c b l pc s t = absurd (not-suc-le-zero l)
   through-on (suc k) a c b l pc s t =
       by-cases (ℕ-discrete c k)
-      (λ e. inr (subst P e pc, (to-top k a (subst (λ (x : ℕ). Through (suc k) a x) e s), from-top k b (subst (λ (x : ℕ). Through (suc k) x b) e t))))
+      (λ e. inr
+      (subst P e pc, (to-top k a (subst (λ (x : ℕ). Through (suc k) a x) e s), from-top k b (subst (λ (x : ℕ). Through (suc k) x b) e t))))
       (λ d. on-below k a c b (λ x y u v. through-on k x c y (omega arith) pc u v) s t)
 
   through-more : (k a b : ℕ) → Through zero a b → Through k a b

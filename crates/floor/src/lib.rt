@@ -1,5 +1,5 @@
-// The planner's judgement of an order as far as 22: whether its floor can be planned at all. specs/FloorAnswer.antt says what each number means;
-// `judge` is the entry point: it decodes the order and hands on what it knows. `check` is the verdict alone.
+// The planner's judgement of an order as far as 22: whether its floor can be planned at all. specs/FloorAnswer.antt says what each number
+// means; `judge` is the entry point: it decodes the order and hands on what it knows. `check` is the verdict alone.
 use answers::Fault;
 use order::Counts;
 use order::OrderVerdict;
@@ -29,8 +29,9 @@ fn passed_up(order: OrderVerdict) -> FloorVerdict
     }
 }
 
-// 10 to 14 and 20 to 22: the verdict on any byte string as an order that is to be planned. 20 needs no search of the floor. A ring is bi-connected,
-// so behind 21 the number of edges tells one. An acceptance hands on the order's counts; the tables are what decoding the order leaves.
+// 10 to 14 and 20 to 22: the verdict on any byte string as an order that is to be planned. 20 needs no search of the floor. A ring is
+// bi-connected, so behind 21 the number of edges tells one. An acceptance hands on the order's counts; the tables are what
+// decoding the order leaves.
 pub fn judge(
     order: &[u8],
     rows: &mut [u64; 64],

@@ -38,8 +38,10 @@ occupied-rack A p = (occupied-to A p, λ r. rw (← r .2) (occupied-from A (r .0
 
 pub vacant-racks : (A : Arrangement) (p : ℕ) → T (vacant A p) ↔ ((i : ℕ) → i < length A → getD A i 0 ≢ p)
 unfolding vacant
-vacant-racks A p =
-    (λ t i h e. not-parts (occupied A p) .0 t (occupied-rack A p .1 (i, h, e)), λ f. not-parts (occupied A p) .1 (λ t. let r = occupied-to A p t in f (r .0) (r .1) (r .2)))
+vacant-racks A p = (
+  λ t i h e. not-parts (occupied A p) .0 t (occupied-rack A p .1 (i, h, e)),
+  λ f. not-parts (occupied A p) .1 (λ t. let r = occupied-to A p t in f (r .0) (r .1) (r .2)),
+)
 
 pub occupied-vacant : (A : Arrangement) (p : ℕ) → T (occupied A p) → T (vacant A p) → ⊥
 unfolding vacant

@@ -38,10 +38,11 @@ moved-one n (p ∷ A) m sound held apart =
     ⊎-elim
     (λ (e : p ≡ m .0).
     let rest : moved A (afterMove A m) ≡ [] = ap (moved A) (moved-unheld A m (rw e at alone)) ∙ moved-none A in
-    rw (eq-eqb p (m .0) e, ne-eqb p (m .1) (λ c. apart (sym e ∙ c)))
-    (ap₂ (λ (q : ℕ) (l : List (ℕ × ℕ)). (q, m .1) ∷ l) e rest))
+    rw (eq-eqb p (m .0) e, ne-eqb p (m .1) (λ c. apart (sym e ∙ c))) (ap₂ (λ (q : ℕ) (l : List (ℕ × ℕ)). (q, m .1) ∷ l) e rest))
     (λ (d : p ≢ m .0).
-    let later = ⊎-elim (λ (t : T (eqb p (m .0))). absurd (d (eqb-parts p (m .0) .0 t))) (λ t. t) (or-parts (eqb p (m .0)) (occupied A (m .0)) .0 held) in
+    let later =
+    ⊎-elim (λ (t : T (eqb p (m .0))). absurd (d (eqb-parts p (m .0) .0 t))) (λ t. t)
+    (or-parts (eqb p (m .0)) (occupied A (m .0)) .0 held) in
     rw (ne-eqb p (m .0) d, eq-eqb p p refl) (moved-one n A m (here .1) later apart))
     (equal? p (m .0))
 

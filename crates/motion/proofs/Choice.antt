@@ -55,7 +55,8 @@ unfoldable pub movesOf : Arrangement → List (ℕ × ℕ) → List (ℕ × ℕ)
 movesOf R [] = []
 movesOf R (m ∷ ms) = let rest = movesOf (afterMove R m) ms in cond (occupied R (m .0)) (m ∷ rest) rest
 
-pub movesOf-own : (R : Arrangement) (m : ℕ × ℕ) (ms : List (ℕ × ℕ)) → T (occupied R (m .0)) → movesOf R (m ∷ ms) ≡ m ∷ movesOf (afterMove R m) ms
+pub movesOf-own : (R : Arrangement) (m : ℕ × ℕ) (ms : List (ℕ × ℕ)) → T (occupied R (m .0))
+    → movesOf R (m ∷ ms) ≡ m ∷ movesOf (afterMove R m) ms
 unfolding movesOf
 movesOf-own R m ms t = cond-true (occupied R (m .0)) _ _ t
 
@@ -70,14 +71,16 @@ movesOf-length R (m ∷ ms) =
     let h = movesOf-length (afterMove R m) ms in
     cond-either (λ (l : List (ℕ × ℕ)). length l ≤ suc (length ms)) (occupied R (m .0)) (omega arith) (omega arith)
 
-pub movesOf-append : (F : Floor) (R R′ : Arrangement) (ms ns : List (ℕ × ℕ)) → Leads F R (movesOf R ms) R′ → movesOf R (ms ++ ns) ≡ movesOf R ms ++ movesOf R′ ns
+pub movesOf-append : (F : Floor) (R R′ : Arrangement) (ms ns : List (ℕ × ℕ)) → Leads F R (movesOf R ms) R′
+    → movesOf R (ms ++ ns) ≡ movesOf R ms ++ movesOf R′ ns
 unfolding movesOf
 movesOf-append F R R′ [] ns p = let e : R ≡ R′ = lawful-none p in rw e
 movesOf-append F R R′ (m ∷ ms) ns p =
     ⊎-elim
     (λ (o : T (occupied R (m .0))).
     let q : Leads F R (m ∷ movesOf (afterMove R m) ms) R′ = rw (movesOf-own R m ms o) at p in
-    rw (movesOf-own R m ms o, movesOf-own R m (ms ++ ns) o) (ap (λ (xs : List (ℕ × ℕ)). m ∷ xs) (movesOf-append F (afterMove R m) R′ ms ns (lawful-first q .1))))
+    rw (movesOf-own R m ms o, movesOf-own R m (ms ++ ns) o)
+    (ap (λ (xs : List (ℕ × ℕ)). m ∷ xs) (movesOf-append F (afterMove R m) R′ ms ns (lawful-first q .1))))
     (λ (v : T (vacant R (m .0))).
     let q : Leads F R (movesOf R ms) R′ = rw (movesOf-other R m ms v) at p in
     rw (movesOf-other R m ms v, movesOf-other R m (ms ++ ns) v) (movesOf-append F R R′ ms ns q))
@@ -94,7 +97,8 @@ module _ (idx : List ℕ) where
 
   pub pick-vacant : (A : Arrangement) (p : ℕ) → Within idx (length A) → T (vacant A p) → T (vacant (pick idx A) p)
   pick-vacant A p w v =
-      vacant-racks (pick idx A) p .1 (λ k h. let h′ : k < length idx = rw pick-length at h in rw (pick-at A k h′) (vacant-racks A p .0 v (getD idx k 0) (w .below k h′)))
+      vacant-racks (pick idx A) p .1
+      (λ k h. let h′ : k < length idx = rw pick-length at h in rw (pick-at A k h′) (vacant-racks A p .0 v (getD idx k 0) (w .below k h′)))
 
   pub pick-occupied : (A : Arrangement) (p : ℕ) → Names idx (length A) → T (occupied A p) → T (occupied (pick idx A) p)
   pick-occupied A p n o =
@@ -104,20 +108,20 @@ module _ (idx : List ℕ) where
 
   pub pick-after : (A : Arrangement) (ms : List (ℕ × ℕ)) → Within idx (length A) → after (pick idx A) ms ≡ pick idx (after A ms)
   pick-after A ms w =
-      ext-getD 0 (after (pick idx A) ms) (pick idx (after A ms)) (after-length (pick idx A) ms ∙ pick-length A ∙ sym (pick-length (after A ms)))
+      ext-getD 0 (after (pick idx A) ms) (pick idx (after A ms))
+      (after-length (pick idx A) ms ∙ pick-length A ∙ sym (pick-length (after A ms)))
       (λ k h.
       let h′ : k < length (pick idx A) = rw after-length at h in
       let h″ : k < length idx = rw pick-length at h′ in
-      after-at (pick idx A) ms k h′
-      ∙ ap (goesTo ms) (pick-at A k h″)
-      ∙ sym (after-at A ms (getD idx k 0) (w .below k h″))
+      after-at (pick idx A) ms k h′ ∙ ap (goesTo ms) (pick-at A k h″) ∙ sym (after-at A ms (getD idx k 0) (w .below k h″))
       ∙ sym (pick-at (after A ms) k h″))
 
   pub pick-move : (A : Arrangement) (m : ℕ × ℕ) → Within idx (length A) → afterMove (pick idx A) m ≡ pick idx (afterMove A m)
   unfolding afterMove
   pick-move A m w = pick-after A (m ∷ []) w
 
-  pub leads-pick : (F : Floor) {A B : Arrangement} {ms : List (ℕ × ℕ)} → Within idx (length A) → Leads F A ms B → Leads F (pick idx A) (movesOf (pick idx A) ms) (pick idx B)
+  pub leads-pick : (F : Floor) {A B : Arrangement} {ms : List (ℕ × ℕ)} → Within idx (length A) → Leads F A ms B
+      → Leads F (pick idx A) (movesOf (pick idx A) ms) (pick idx B)
   unfolding movesOf
   leads-pick F w still = still
   leads-pick F {B = B} w (_then_ {A = A} {x = m} {xs = ms} l p) =
@@ -126,7 +130,8 @@ module _ (idx : List ℕ) where
       let w′ : Within idx (length (afterMove A m)) = rw move-length w in
       let q : Leads F (afterMove (pick idx A) m) (movesOf (afterMove (pick idx A) m) ms) (pick idx B) = rw e (leads-pick F w′ p) in
       ⊎-elim
-      (λ (o : T (occupied (pick idx A) (m .0))). rw (movesOf-own (pick idx A) m ms o) (legal-parts F (pick idx A) m .1 (t .0, o, pick-vacant A (m .1) w (t .2)) then q))
+      (λ (o : T (occupied (pick idx A) (m .0))). rw (movesOf-own (pick idx A) m ms o)
+      (legal-parts F (pick idx A) m .1 (t .0, o, pick-vacant A (m .1) w (t .2)) then q))
       (λ (v : T (vacant (pick idx A) (m .0))). rw (movesOf-other (pick idx A) m ms v) (rw (moved-unheld (pick idx A) m v) at q))
       (occupied-or-vacant (pick idx A) (m .0))
 
@@ -139,7 +144,8 @@ module _ (idx : List ℕ) where
       movesOf-own (pick idx A) m ms (pick-occupied A (m .0) n (legal-parts F A m .0 l .1))
       ∙ ap (λ (xs : List (ℕ × ℕ)). m ∷ xs) (rw (pick-move A m (n .within)) (movesOf-pick F n′ p))
 
-  pub leads-renamed : (F : Floor) {A B : Arrangement} {ms : List (ℕ × ℕ)} → Names idx (length A) → Leads F A ms B → Leads F (pick idx A) ms (pick idx B)
+  pub leads-renamed : (F : Floor) {A B : Arrangement} {ms : List (ℕ × ℕ)} → Names idx (length A) → Leads F A ms B
+      → Leads F (pick idx A) ms (pick idx B)
   leads-renamed F n p = rw (movesOf-pick F n p) at (leads-pick F (n .within) p)
 
 countFrom : ℕ → ℕ → List ℕ
@@ -177,8 +183,11 @@ pick-front R D n e =
     let h″ : k < n = rw upTo-length at h′ in
     pick-at (upTo n) (R ++ D) k h′ ∙ ap (λ (i : ℕ). getD (R ++ D) i 0) (upTo-at n k h″) ∙ List·getD-append R D 0 k (omega arith))
 
-pub leads-dropped : (F : Floor) (R D R′ D′ : Arrangement) {ms : List (ℕ × ℕ)} → length R′ ≡ length R → Leads F (R ++ D) ms (R′ ++ D′) → Leads F R (movesOf R ms) R′
+pub leads-dropped : (F : Floor) (R D R′ D′ : Arrangement) {ms : List (ℕ × ℕ)} → length R′ ≡ length R → Leads F (R ++ D) ms (R′ ++ D′)
+    → Leads F R (movesOf R ms) R′
 leads-dropped F R D R′ D′ {ms} e p =
-    let w : Within (upTo (length R)) (length (R ++ D)) = record { below = λ k h. let h′ : k < length R = rw upTo-length at h in omega (arith, upTo-at (length R) k h′, length-append R D) } in
-    let q : Leads F (pick (upTo (length R)) (R ++ D)) (movesOf (pick (upTo (length R)) (R ++ D)) ms) (pick (upTo (length R)) (R′ ++ D′)) = leads-pick (upTo (length R)) F w p in
+    let w : Within (upTo (length R)) (length (R ++ D)) =
+    record { below = λ k h. let h′ : k < length R = rw upTo-length at h in omega (arith, upTo-at (length R) k h′, length-append R D) } in
+    let q : Leads F (pick (upTo (length R)) (R ++ D)) (movesOf (pick (upTo (length R)) (R ++ D)) ms) (pick (upTo (length R)) (R′ ++ D′)) =
+    leads-pick (upTo (length R)) F w p in
     rw (pick-front R D (length R) refl, pick-front R′ D′ (length R) e) at q

@@ -64,12 +64,14 @@ module _ (A : Arrangement) (r y : ℕ) where
 
   module _ (h : r < length A) where
     set-vacant : (p : ℕ) → T (vacant A p) → y ≢ p → T (vacant (set A r y) p)
-    set-vacant p v d = vacant-racks (set A r y) p .1 (λ k q. set-cases (λ (z : ℕ). z ≢ p) h k (λ _. d) (λ _. vacant-racks A p .0 v k (rw length-set at q)))
+    set-vacant p v d =
+        vacant-racks (set A r y) p .1 (λ k q. set-cases (λ (z : ℕ). z ≢ p) h k (λ _. d) (λ _. vacant-racks A p .0 v k (rw length-set at q)))
 
     set-occupied : (p : ℕ) → T (occupied A p) → getD A r 0 ≢ p → T (occupied (set A r y) p)
     set-occupied p o d =
         let t = occupied-rack A p .0 o in
-        occupied-rack (set A r y) p .1 (t .0, rw length-set (t .1), getD-set-other A r (t .0) y 0 (λ c. d (ap (λ (i : ℕ). getD A i 0) (sym c) ∙ t .2)) ∙ t .2)
+        occupied-rack (set A r y) p .1
+        (t .0, rw length-set (t .1), getD-set-other A r (t .0) y 0 (λ c. d (ap (λ (i : ℕ). getD A i 0) (sym c) ∙ t .2)) ∙ t .2)
 
 map-set : (f : ℕ → ℕ) (A : List ℕ) (r y : ℕ) → map f (set A r y) ≡ set (map f A) r (f y)
 map-set f [] r y = refl
@@ -84,14 +86,17 @@ set-move A r y m d =
     map-set (goesTo (m ∷ [])) A r y ∙ ap (set (map (goesTo (m ∷ [])) A) r) stays
 
 -- rack r's own move is nothing with rack r set down at y
-set-own-move : (n : ℕ) (A : Arrangement) (r y : ℕ) (m : ℕ × ℕ) → Sound n A → r < length A → getD A r 0 ≡ m .0 → set (afterMove A m) r y ≡ set A r y
+set-own-move : (n : ℕ) (A : Arrangement) (r y : ℕ) (m : ℕ × ℕ) → Sound n A → r < length A → getD A r 0 ≡ m .0
+    → set (afterMove A m) r y ≡ set A r y
 set-own-move n A r y m s h e = ap (λ (C : Arrangement). set C r y) (move-set n A m r s h e) ∙ set-set A r (m .1) y
 
-pub othersMoves-own : (r : ℕ) (A : Arrangement) (m : ℕ × ℕ) (ms : List (ℕ × ℕ)) → getD A r 0 ≡ m .0 → othersMoves r A (m ∷ ms) ≡ othersMoves r (afterMove A m) ms
+pub othersMoves-own : (r : ℕ) (A : Arrangement) (m : ℕ × ℕ) (ms : List (ℕ × ℕ)) → getD A r 0 ≡ m .0
+    → othersMoves r A (m ∷ ms) ≡ othersMoves r (afterMove A m) ms
 unfolding othersMoves
 othersMoves-own r A m ms e = rw (eq-eqb (getD A r 0) (m .0) e)
 
-pub othersMoves-other : (r : ℕ) (A : Arrangement) (m : ℕ × ℕ) (ms : List (ℕ × ℕ)) → getD A r 0 ≢ m .0 → othersMoves r A (m ∷ ms) ≡ m ∷ othersMoves r (afterMove A m) ms
+pub othersMoves-other : (r : ℕ) (A : Arrangement) (m : ℕ × ℕ) (ms : List (ℕ × ℕ)) → getD A r 0 ≢ m .0
+    → othersMoves r A (m ∷ ms) ≡ m ∷ othersMoves r (afterMove A m) ms
 unfolding othersMoves
 othersMoves-other r A m ms e = rw (ne-eqb (getD A r 0) (m .0) e)
 
@@ -105,11 +110,11 @@ module _ (F : Floor) (r y : ℕ) where
       let e = enters-first m ms y u in
       let q : Leads F (set (afterMove A m) r y) (othersMoves r (afterMove A m) ms) (set B r y) =
       leads-without (move-sound F A m l s) (rw move-length h) (vacant-move A m y v (e .0)) (e .1) p in
-      ⊎-elim
-      (λ (c : getD A r 0 ≡ m .0). rw (othersMoves-own r A m ms c) (rw (set-own-move (F .positions) A r y m s h c) at q))
+      ⊎-elim (λ (c : getD A r 0 ≡ m .0). rw (othersMoves-own r A m ms c) (rw (set-own-move (F .positions) A r y m s h c) at q))
       (λ (c : getD A r 0 ≢ m .0).
       let y≢ : y ≢ m .0 = λ d. occupied-vacant A y (rw d (t .1)) v in
-      let legal : T (legalMove F (set A r y) m) = legal-parts F (set A r y) m .1 (t .0, set-occupied A r y h (m .0) (t .1) c, set-vacant A r y h (m .1) (t .2) (λ d. e .0 (sym d))) in
+      let legal : T (legalMove F (set A r y) m) =
+      legal-parts F (set A r y) m .1 (t .0, set-occupied A r y h (m .0) (t .1) c, set-vacant A r y h (m .1) (t .2) (λ d. e .0 (sym d))) in
       let q′ : Leads F (afterMove (set A r y) m) (othersMoves r (afterMove A m) ms) (set B r y) = rw (set-move A r y m y≢) q in
       rw (othersMoves-other r A m ms c) (legal then q′))
       (equal? (getD A r 0) (m .0))
@@ -130,7 +135,7 @@ module _ (F : Floor) (r y : ℕ) where
       rw (move-set (F .positions) B (getD B r 0, y) r sB hB refl) (leads-undo F (leads-without s h v u p)) in
       legal then q
 
-  pub conjugate-carry : {A B : Arrangement} {σ : List (ℕ × ℕ)} → Sound (F .positions) A → r < length A → T (vacant A y) → T (not (enters σ y))
-      → Leads F A σ B → y < F .positions → T (joined F (getD B r 0) y)
+  pub conjugate-carry : {A B : Arrangement} {σ : List (ℕ × ℕ)} → Sound (F .positions) A → r < length A → T (vacant A y)
+      → T (not (enters σ y)) → Leads F A σ B → y < F .positions → T (joined F (getD B r 0) y)
       → Leads F A (σ ++ (getD B r 0, y) ∷ undo (othersMoves r A σ)) (set A r y)
   conjugate-carry s h v u p y< j = lawful-append p (carry-away s h v u p y< j)

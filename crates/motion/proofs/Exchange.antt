@@ -92,21 +92,23 @@ module _ (i j : ℕ) where
     swapped-at k q = exchange-at (upTo n) (rw upTo-length h) (rw upTo-length h′) k ∙ upTo-at n (swap i j k) (swap-below n h h′ k q)
 
     pub exchange-names : Names (exchange i j (upTo n)) n
-    exchange-names =
-        record {
-          within = record { below = λ k q. let q′ : k < n = rw swapped-length at q in rw (swapped-at k q′) (swap-below n h h′ k q′) };
-          each = λ k q. (swap i j k, rw swapped-length (swap-below n h h′ k q), swapped-at (swap i j k) (swap-below n h h′ k q) ∙ swap-swap k);
-        }
+    exchange-names = record {
+      within = record { below = λ k q. let q′ : k < n = rw swapped-length at q in rw (swapped-at k q′) (swap-below n h h′ k q′) };
+      each =
+          λ k q. (swap i j k, rw swapped-length (swap-below n h h′ k q), swapped-at (swap i j k) (swap-below n h h′ k q) ∙ swap-swap k);
+    }
 
   pub exchange-pick : (n : ℕ) → i < n → j < n → (A : Arrangement) → length A ≡ n → exchange i j A ≡ pick (exchange i j (upTo n)) A
   exchange-pick n h h′ A e =
-      ext-getD 0 (exchange i j A) (pick (exchange i j (upTo n)) A) (exchange-length i j A ∙ e ∙ sym (pick-length (exchange i j (upTo n)) A ∙ swapped-length n h h′))
+      ext-getD 0 (exchange i j A) (pick (exchange i j (upTo n)) A)
+      (exchange-length i j A ∙ e ∙ sym (pick-length (exchange i j (upTo n)) A ∙ swapped-length n h h′))
       (λ k q.
       let q′ : k < n = rw (exchange-length i j A, e) at q in
-      exchange-at A (rw e h) (rw e h′) k
-      ∙ sym (ap (λ (s : ℕ). getD A s 0) (swapped-at n h h′ k q′))
+      exchange-at A (rw e h) (rw e h′) k ∙ sym (ap (λ (s : ℕ). getD A s 0) (swapped-at n h h′ k q′))
       ∙ sym (pick-at (exchange i j (upTo n)) A k (rw (swapped-length n h h′) q′)))
 
-  pub leads-exchanged : (F : Floor) {A B : Arrangement} {ms : List (ℕ × ℕ)} → i < length A → j < length A → Leads F A ms B → Leads F (exchange i j A) ms (exchange i j B)
+  pub leads-exchanged : (F : Floor) {A B : Arrangement} {ms : List (ℕ × ℕ)} → i < length A → j < length A → Leads F A ms B
+      → Leads F (exchange i j A) ms (exchange i j B)
   leads-exchanged F {A} {B} {ms} h h′ p =
-      rw (exchange-pick (length A) h h′ A refl, exchange-pick (length A) h h′ B (leads-length F p)) (leads-renamed (exchange i j (upTo (length A))) F (exchange-names (length A) h h′) p)
+      rw (exchange-pick (length A) h h′ A refl, exchange-pick (length A) h h′ B (leads-length F p))
+      (leads-renamed (exchange i j (upTo (length A))) F (exchange-names (length A) h h′) p)

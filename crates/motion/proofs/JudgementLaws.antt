@@ -46,8 +46,10 @@ module _ (off : ℕ) (G counts v : List ℕ) where
   judged-to (stopped f j) l e = absurd (let z : _≡_ {A = ℕ} 0 1 = cc in omega arith)
   judged-to (ended A) l e =
       let lowest = misplaced 1 A G in
-      let none : not (eqb lowest 0) ≡ false = refuse-not (not (eqb lowest 0)) off lowest (accepted counts) v e in
-      (ap ended (misplaced-none 0 A G (l A refl) (eqb-true lowest 0 (not-false (eqb lowest 0) none))), accepted-counts counts v (refuse-else (not (eqb lowest 0)) off lowest (accepted counts) v e))
+      let none : not (eqb lowest 0) ≡ false = refuse-not (not (eqb lowest 0)) off lowest (accepted counts) v e in (
+        ap ended (misplaced-none 0 A G (l A refl) (eqb-true lowest 0 (not-false (eqb lowest 0) none))),
+        accepted-counts counts v (refuse-else (not (eqb lowest 0)) off lowest (accepted counts) v e),
+      )
 
   judged-from : (x : Replayed) → (x ≡ ended G) × (counts ≡ v) → judged off G counts x ≡ accepted v
   unfolding judged

@@ -42,7 +42,8 @@ use Rattle.motion.specs.Replay.{Replayed, ended, stopped, replayFrom, re
 use Rattle.motion.proofs.StepDecision.{legalStep?, stepFault-is}
 
 infixr 5 _then_
-pub data Lawful {X : Type 0} (legal : Arrangement → X → Bool) (next : Arrangement → X → Arrangement) : Arrangement → List X → Arrangement → Type 0 where
+pub data Lawful {X : Type 0} (legal : Arrangement → X → Bool) (next : Arrangement → X → Arrangement) : Arrangement → List X →
+    Arrangement → Type 0 where
   still : {A : Arrangement} → Lawful legal next A [] A
   _then_ : {A B : Arrangement} {x : X} {xs : List X} → T (legal A x) → Lawful legal next (next A x) xs B → Lawful legal next A (x ∷ xs) B
 
@@ -75,14 +76,17 @@ module _ {X : Type 0} {legal : Arrangement → X → Bool} {next : Arrangement �
   pub lawful-none : {A B : Arrangement} → Lawful legal next A [] B → A ≡ B
   lawful-none still = refl
 
-  pub lawful-first : {A B : Arrangement} {x : X} {xs : List X} → Lawful legal next A (x ∷ xs) B → T (legal A x) × Lawful legal next (next A x) xs B
+  pub lawful-first : {A B : Arrangement} {x : X} {xs : List X} → Lawful legal next A (x ∷ xs) B
+      → T (legal A x) × Lawful legal next (next A x) xs B
   lawful-first (l then p) = (l, p)
 
-  pub lawful-append : {A B C : Arrangement} {xs ys : List X} → Lawful legal next A xs B → Lawful legal next B ys C → Lawful legal next A (xs ++ ys) C
+  pub lawful-append : {A B C : Arrangement} {xs ys : List X} → Lawful legal next A xs B → Lawful legal next B ys C
+      → Lawful legal next A (xs ++ ys) C
   lawful-append still q = q
   lawful-append (l then p) q = l then lawful-append p q
 
-  pub lawful-apart : (xs : List X) {ys : List X} {A C : Arrangement} → Lawful legal next A (xs ++ ys) C → (B : Arrangement) × Lawful legal next A xs B × Lawful legal next B ys C
+  pub lawful-apart : (xs : List X) {ys : List X} {A C : Arrangement} → Lawful legal next A (xs ++ ys) C
+      → (B : Arrangement) × Lawful legal next A xs B × Lawful legal next B ys C
   lawful-apart [] {A = A} p = (A, still, p)
   lawful-apart (x ∷ xs) (l then p) = let t = lawful-apart xs p in (t .0, (l then t .1), t .2)
 
@@ -204,7 +208,8 @@ pub stepFault-small : (F : Floor) (A : Arrangement) (ms : List (ℕ × ℕ)) →
 stepFault-small F A ms = rw (stepFault-is F A ms)
     (cond-either (λ (f : ℕ). f ≤ 255) (legalStep F A ms) (lit≤ tt) (lit≤ tt))
 
-pub replayMoves-ended : (F : Floor) (A : Arrangement) (ms : List (ℕ × ℕ)) (B : Arrangement) → (replayMoves F A ms ≡ ended B) ↔ Leads F A ms B
+pub replayMoves-ended : (F : Floor) (A : Arrangement) (ms : List (ℕ × ℕ)) (B : Arrangement)
+    → (replayMoves F A ms ≡ ended B) ↔ Leads F A ms B
 unfolding replayMoves
 replayMoves-ended F A ms B = replay-ended (moveFault F) (legalMove F) afterMove (moveFault-none F) 1 A ms B
 

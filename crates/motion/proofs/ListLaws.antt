@@ -14,7 +14,8 @@ use Prim.Native.Nat.{ℕ, zero, suc, _≤_, _<_}
 use mathlib.Core.Path.{_≡_, refl, sym, _∙_, ap}
 use mathlib.Core.Logic.{∥∥₁-elim, ∥∥₁-map}
 use mathlib.Core.HLevel.{¬-prop}
-use mathlib.Core.List.{List, [], _∷_, map, Memᴰ·of-map, List·Memᴰ, List·Memᴰ·head, List·Memᴰ·tail, List·Memᴰ·not-nil, Pairwise, Pairwise·nil, Pairwise·cons, Pairwise·of-cons, rel-of-pairwise-cons, List·Nodup}
+use mathlib.Core.List.{List, [], _∷_, map, Memᴰ·of-map, List·Memᴰ, List·Memᴰ·head, List·Memᴰ·tail, List·Memᴰ·not-nil, Pairwise}
+use mathlib.Core.List.{Pairwise·nil, Pairwise·cons, Pairwise·of-cons, rel-of-pairwise-cons, List·Nodup}
 use mathlib.Core.List as M
 use native.Mathlib.Omega.{arith}
 use native.Mathlib.Bridge.{fromℕ, from-le}

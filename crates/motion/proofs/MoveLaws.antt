@@ -56,11 +56,16 @@ onFloor-parts F m = (to, from)
     from : (m .0 < F .positions) × (m .1 < F .positions) × T (joined F (m .0) (m .1)) → T (low && high && joined F (m .0) (m .1))
     from t = and-parts (low && high) (joined F (m .0) (m .1)) .1 (and-parts low high .1 (lt→ltb _ _ (t .0), lt→ltb _ _ (t .1)), t .2)
 
-pub legal-parts : (F : Floor) (A : Arrangement) (m : ℕ × ℕ) → T (legalMove F A m) ↔ (T (onFloor F m) × T (occupied A (m .0)) × T (vacant A (m .1)))
+pub legal-parts : (F : Floor) (A : Arrangement) (m : ℕ × ℕ)
+    → T (legalMove F A m) ↔ (T (onFloor F m) × T (occupied A (m .0)) × T (vacant A (m .1)))
 unfolding legalMove
 legal-parts F A m = (
-  (λ t. let u = and-parts (onFloor F m && occupied A (m .0)) (vacant A (m .1)) .0 t in let v = and-parts (onFloor F m) (occupied A (m .0)) .0 (u .0) in (v .0, v .1, u .1)),
-  (λ t. and-parts (onFloor F m && occupied A (m .0)) (vacant A (m .1)) .1 (and-parts (onFloor F m) (occupied A (m .0)) .1 (t .0, t .1), t .2)),
+  (λ t.
+      let u = and-parts (onFloor F m && occupied A (m .0)) (vacant A (m .1)) .0 t in
+      let v = and-parts (onFloor F m) (occupied A (m .0)) .0 (u .0) in
+      (v .0, v .1, u .1)),
+  (λ t. and-parts (onFloor F m && occupied A (m .0)) (vacant A (m .1)) .1
+      (and-parts (onFloor F m) (occupied A (m .0)) .1 (t .0, t .1), t .2)),
 )
 
 faultBy-none : (a b c : Bool) → eqb (faultBy a b c) 0 ≡ a && b && c
@@ -112,7 +117,8 @@ moved-other A m i h e = after-at A (m ∷ []) i h ∙ rw (ne-eqb (getD A i 0) (m
 
 pub moved-unheld : (A : Arrangement) (m : ℕ × ℕ) → T (vacant A (m .0)) → afterMove A m ≡ A
 moved-unheld A m v =
-    ext-getD 0 (afterMove A m) A (move-length A m) (λ i h. let h′ : i < length A = rw move-length at h in moved-other A m i h′ (vacant-racks A (m .0) .0 v i h′))
+    ext-getD 0 (afterMove A m) A (move-length A m)
+    (λ i h. let h′ : i < length A = rw move-length at h in moved-other A m i h′ (vacant-racks A (m .0) .0 v i h′))
 
 pub legal-apart : (F : Floor) (A : Arrangement) (m : ℕ × ℕ) → T (legalMove F A m) → m .0 ≢ m .1
 legal-apart F A m l e = let t = legal-parts F A m .0 l in occupied-vacant A (m .0) (t .1) (rw e (t .2))
@@ -122,7 +128,9 @@ turned m = (m .1, m .0)
 
 module _ (F : Floor) (A : Arrangement) (m : ℕ × ℕ) (l : T (legalMove F A m)) where
   turned-onFloor : T (onFloor F (m .1, m .0))
-  turned-onFloor = let t = onFloor-parts F m .0 (legal-parts F A m .0 l .0) in onFloor-parts F (m .1, m .0) .1 (t .1, t .0, rw joined-sym (t .2))
+  turned-onFloor =
+      let t = onFloor-parts F m .0 (legal-parts F A m .0 l .0) in
+      onFloor-parts F (m .1, m .0) .1 (t .1, t .0, rw joined-sym (t .2))
 
   entered-occupied : T (occupied (afterMove A m) (m .1))
   entered-occupied =

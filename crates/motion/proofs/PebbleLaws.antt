@@ -37,10 +37,10 @@ to-sound F m A u =
     let n : length A ≡ m = u .racks in
     record {
       below = λ i h. rw stands-index at (u .within (suc i) (omega arith));
-      apart = λ i j h k e.
-          ⊎-elim
-          (λ (s : i ≡ j). s)
-          (λ (s : i ≢ j). absurd (u .apart (suc i) (suc j) (omega arith) (omega arith) (λ c. s (omega arith)) (stands-index A i ∙ e ∙ sym (stands-index A j))))
+      apart =
+          λ i j h k e. ⊎-elim (λ (s : i ≡ j). s)
+          (λ (s : i ≢ j). absurd
+          (u .apart (suc i) (suc j) (omega arith) (omega arith) (λ c. s (omega arith)) (stands-index A i ∙ e ∙ sym (stands-index A j))))
           (equal? i j);
     }
 
@@ -79,9 +79,9 @@ module _ (F : Floor) (m : ℕ) (A : Arrangement) (n : length A ≡ m) (s : Sound
       let i : p - 1 < length A = omega arith in
       let j : q - 1 < length A = omega arith in
       ⊎-elim
-      (λ (e : getD A (p - 1) 0 ≡ mv .0). rw (moved-rack A mv (p - 1) i e) (vacant-racks A (mv .1) .0 (legal-parts F A mv .0 l .2) (q - 1) j))
-      (λ (e : getD A (p - 1) 0 ≢ mv .0). absurd (d (sym (moved-other A mv (p - 1) i e))))
-      (equal? (getD A (p - 1) 0) (mv .0))
+      (λ (e : getD A (p - 1) 0 ≡ mv .0). rw (moved-rack A mv (p - 1) i e)
+      (vacant-racks A (mv .1) .0 (legal-parts F A mv .0 l .2) (q - 1) j))
+      (λ (e : getD A (p - 1) 0 ≢ mv .0). absurd (d (sym (moved-other A mv (p - 1) i e)))) (equal? (getD A (p - 1) 0) (mv .0))
 
   one-at : (i : ℕ) → i < length A → getD A i 0 ≡ mv .0 → OneMoves m A (afterMove A mv)
   unfolding stands
@@ -109,11 +109,15 @@ pub record OnlyMove (F : Floor) (A B : Arrangement) : Type 0 where
   pub only : (mv : ℕ × ℕ) → afterMove A mv ≡ B → mv ≡ move
 
 -- of two arrangements that meet the points, where p is the rack that moves
-module _ (F : Floor) (m : ℕ) (A B : Arrangement) (a : UniquelyInvertible F m A) (b : UniquelyInvertible F m B) (along : AlongEdges F m A B) (into : IntoUnoccupied m A B) (p : ℕ) (h : IsRack m p) (d : stands A p ≢ stands B p) (rest : (q : ℕ) → IsRack m q → q ≢ p → stands A q ≡ stands B q) where
+module _ (F : Floor) (m : ℕ) (A B : Arrangement) (a : UniquelyInvertible F m A) (b : UniquelyInvertible F m B)
+    (along : AlongEdges F m A B) (into : IntoUnoccupied m A B) (p : ℕ) (h : IsRack m p) (d : stands A p ≢ stands B p)
+    (rest : (q : ℕ) → IsRack m q → q ≢ p → stands A q ≡ stands B q) where
   the-onFloor : T (onFloor F (stands A p, stands B p))
-  the-onFloor =
-      onFloor-parts F (stands A p, stands B p) .1
-      (a .within p h, b .within p h, ⊎-elim (λ (e : stands A p ≡ stands B p). absurd (d e)) (λ (e : T (joined F (stands A p) (stands B p))). e) (along p h))
+  the-onFloor = onFloor-parts F (stands A p, stands B p) .1 (
+    a .within p h,
+    b .within p h,
+    ⊎-elim (λ (e : stands A p ≡ stands B p). absurd (d e)) (λ (e : T (joined F (stands A p) (stands B p))). e) (along p h),
+  )
 
   the-left : T (occupied A (stands A p))
   unfolding stands
@@ -137,12 +141,10 @@ module _ (F : Floor) (m : ℕ) (A B : Arrangement) (a : UniquelyInvertible F m A
       (λ i h′.
       let k : i < length A = rw move-length at h′ in
       ⊎-elim
-      (λ (e : suc i ≡ p). moved-rack A (stands A p, stands B p) i k (sym (stands-index A i) ∙ ap (stands A) e) ∙ ap (stands B) (sym e) ∙ stands-index B i)
-      (λ (e : suc i ≢ p).
-      moved-other A (stands A p, stands B p) i k (λ c. a .apart (suc i) p (omega arith) h e (stands-index A i ∙ c))
-      ∙ sym (stands-index A i)
-      ∙ rest (suc i) (omega arith) e
+      (λ (e : suc i ≡ p). moved-rack A (stands A p, stands B p) i k (sym (stands-index A i) ∙ ap (stands A) e) ∙ ap (stands B) (sym e)
       ∙ stands-index B i)
+      (λ (e : suc i ≢ p). moved-other A (stands A p, stands B p) i k (λ c. a .apart (suc i) p (omega arith) h e (stands-index A i ∙ c))
+      ∙ sym (stands-index A i) ∙ rest (suc i) (omega arith) e ∙ stands-index B i)
       (equal? (suc i) p))
 
   the-only : (mv : ℕ × ℕ) → afterMove A mv ≡ B → mv ≡ (stands A p, stands B p)
@@ -157,9 +159,15 @@ module _ (F : Floor) (m : ℕ) (A B : Arrangement) (a : UniquelyInvertible F m A
       (equal? (getD A (p - 1) 0) (mv .0))
 
   the-move : OnlyMove F A B
-  the-move = record { move = (stands A p, stands B p); legal = legal-parts F A (stands A p, stands B p) .1 (the-onFloor, the-left, the-entered); makes = the-makes; only = the-only }
+  the-move = record {
+    move = (stands A p, stands B p);
+    legal = legal-parts F A (stands A p, stands B p) .1 (the-onFloor, the-left, the-entered);
+    makes = the-makes;
+    only = the-only;
+  }
 
-pub pebble-move : (F : Floor) (m : ℕ) (A B : Arrangement) → UniquelyInvertible F m A → UniquelyInvertible F m B → PebbleStep F m A B → OnlyMove F A B
+pub pebble-move : (F : Floor) (m : ℕ) (A B : Arrangement) → UniquelyInvertible F m A → UniquelyInvertible F m B → PebbleStep F m A B
+    → OnlyMove F A B
 pebble-move F m A B a b t = let o = t .one in the-move F m A B a b (t .along) (t .into) (o .0) (o .1) (o .2) (o .3)
 
 -- exactly one list of moves has the trace S from S⁰, and its replay ends at S⁺
@@ -172,7 +180,8 @@ pub record OnlyMoves (F : Floor) (S⁰ S⁺ : Arrangement) (ξ : ℕ) (S : List 
 
 trace-one : (A B : Arrangement) (ms : List (ℕ × ℕ)) → trace afterMove A ms ≡ B ∷ [] → ms ≡ []
 trace-one A B [] e = refl
-trace-one A B (mv ∷ ms) e = absurd (let n : length (trace afterMove A (mv ∷ ms)) ≡ 1 = ap length e in omega (arith, trace-length afterMove A (mv ∷ ms)))
+trace-one A B (mv ∷ ms) e =
+    absurd (let n : length (trace afterMove A (mv ∷ ms)) ≡ 1 = ap length e in omega (arith, trace-length afterMove A (mv ∷ ms)))
 
 module _ (F : Floor) (m : ℕ) where
   abbrev Good : Arrangement → Type 0
@@ -181,13 +190,15 @@ module _ (F : Floor) (m : ℕ) where
   good-next : (A : Arrangement) (mv : ℕ × ℕ) → T (legalMove F A mv) → Good A → Good (afterMove A mv)
   good-next A mv l g = (move-length A mv ∙ g .0, move-sound F A mv l (g .1))
 
-  good-step : {A B : Arrangement} {ms : List (ℕ × ℕ)} → Leads F A ms B → Good A → (k : ℕ) → k < length ms → PebbleStep F m (getD (trace afterMove A ms) k []) (getD (trace afterMove A ms) (suc k) [])
+  good-step : {A B : Arrangement} {ms : List (ℕ × ℕ)} → Leads F A ms B → Good A → (k : ℕ) → k < length ms
+      → PebbleStep F m (getD (trace afterMove A ms) k []) (getD (trace afterMove A ms) (suc k) [])
   good-step p g k h =
       let t = trace-turn p k h in
       let u = trace-keeps Good good-next p g k (omega arith) in
       rw (t .2) (move-pebble F m _ (u .0) (u .1) (t .0) (t .1))
 
-  pub replay-solution : (S⁰ S⁺ : Arrangement) → UniquelyInvertible F m S⁰ → (ms : List (ℕ × ℕ)) → replayMoves F S⁰ ms ≡ ended S⁺ → Solution F m S⁰ S⁺ (length ms) (trace afterMove S⁰ ms)
+  pub replay-solution : (S⁰ S⁺ : Arrangement) → UniquelyInvertible F m S⁰ → (ms : List (ℕ × ℕ)) → replayMoves F S⁰ ms ≡ ended S⁺
+      → Solution F m S⁰ S⁺ (length ms) (trace afterMove S⁰ ms)
   unfolding arrangementAt
   replay-solution S⁰ S⁺ u ms e =
       let p : Leads F S⁰ ms S⁺ = replayMoves-ended F S⁰ ms S⁺ .0 e in
@@ -202,7 +213,8 @@ module _ (F : Floor) (m : ℕ) where
         one = λ k h. good-step p g k h .one;
       }
 
-  solution-tail : (S⁰ S⁺ A B : Arrangement) (S : List Arrangement) (ξ : ℕ) → Solution F m S⁰ S⁺ (suc ξ) (A ∷ B ∷ S) → Solution F m B S⁺ ξ (B ∷ S)
+  solution-tail : (S⁰ S⁺ A B : Arrangement) (S : List Arrangement) (ξ : ℕ) → Solution F m S⁰ S⁺ (suc ξ) (A ∷ B ∷ S)
+      → Solution F m B S⁺ ξ (B ∷ S)
   unfolding arrangementAt
   solution-tail S⁰ S⁺ A B S ξ s =
       record {
@@ -236,7 +248,8 @@ module _ (F : Floor) (m : ℕ) where
       }
   only-none S⁰ S⁺ A (suc ξ) s = absurd (let n : 1 ≡ suc (suc ξ) = s .sequence in omega arith)
 
-  only-first : (A S⁺ B : Arrangement) (S : List Arrangement) (ξ : ℕ) → OnlyMove F A B → OnlyMoves F B S⁺ ξ (B ∷ S) → OnlyMoves F A S⁺ (suc ξ) (A ∷ B ∷ S)
+  only-first : (A S⁺ B : Arrangement) (S : List Arrangement) (ξ : ℕ) → OnlyMove F A B → OnlyMoves F B S⁺ ξ (B ∷ S)
+      → OnlyMoves F A S⁺ (suc ξ) (A ∷ B ∷ S)
   unfolding trace
   only-first A S⁺ B S ξ v w =
       let on : Leads F (afterMove A (v .move)) (w .moves) S⁺ = rw (v .makes) (replayMoves-ended F B (w .moves) S⁺ .0 (w .accepted)) in
@@ -252,7 +265,8 @@ module _ (F : Floor) (m : ℕ) where
       only [] e = absurd (let n : 1 ≡ suc (suc (length S)) = ap length e in omega arith)
       only (mv ∷ ms) e =
           let rest : trace afterMove (afterMove A mv) ms ≡ B ∷ S = tail-eq-of-cons-eq e in
-          let makes : afterMove A mv ≡ B = sym (trace-first afterMove (afterMove A mv) ms) ∙ ap (λ (R : List Arrangement). getD R 0 []) rest in
+          let makes : afterMove A mv ≡ B =
+          sym (trace-first afterMove (afterMove A mv) ms) ∙ ap (λ (R : List Arrangement). getD R 0 []) rest in
           ap₂ {C = List (ℕ × ℕ)} (λ x xs. x ∷ xs) (v .only mv makes) (w .only ms (rw makes at rest))
 
   pub solution-replay : (S⁰ S⁺ : Arrangement) (ξ : ℕ) (S : List Arrangement) → Solution F m S⁰ S⁺ ξ S → OnlyMoves F S⁰ S⁺ ξ S
@@ -265,7 +279,8 @@ module _ (F : Floor) (m : ℕ) where
       rw (← first) (only-first A S⁺ B S ξ (solution-move S⁰ S⁺ A B S ξ s) (solution-replay B S⁺ ξ (B ∷ S) (solution-tail S⁰ S⁺ A B S ξ s)))
 
   -- what has a solution as its trace is accepted: it is the one list that has this trace
-  solution-accepted : (S⁰ S⁺ : Arrangement) (ms : List (ℕ × ℕ)) → Solution F m S⁰ S⁺ (length ms) (trace afterMove S⁰ ms) → replayMoves F S⁰ ms ≡ ended S⁺
+  solution-accepted : (S⁰ S⁺ : Arrangement) (ms : List (ℕ × ℕ)) → Solution F m S⁰ S⁺ (length ms) (trace afterMove S⁰ ms)
+      → replayMoves F S⁰ ms ≡ ended S⁺
   solution-accepted S⁰ S⁺ ms s = let w = solution-replay S⁰ S⁺ (length ms) (trace afterMove S⁰ ms) s in rw (w .only ms refl) (w .accepted)
 
 -- For every instance: (a) replay accepts moves exactly if their trace is a solution with as many steps as there are moves; (b) each

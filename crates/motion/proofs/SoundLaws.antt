@@ -48,7 +48,10 @@ vacancies n A = count (vacant A) n
 
 module _ (F : Floor) (A : Arrangement) (m : ℕ × ℕ) (l : T (legalMove F A m)) where
   pub move-sound : Sound (F .positions) A → Sound (F .positions) (afterMove A m)
-  move-sound s = record { below = λ i h. below i (rw move-length at h); apart = λ i j h k. apart i j (rw move-length at h) (rw move-length at k) }
+  move-sound s = record {
+    below = λ i h. below i (rw move-length at h);
+    apart = λ i j h k. apart i j (rw move-length at h) (rw move-length at k);
+  }
     where
       entered : (i : ℕ) → i < length A → getD A i 0 ≢ m .1
       entered = vacant-racks A (m .1) .0 (legal-parts F A m .0 l .2)
@@ -81,9 +84,9 @@ move-set n A m r s h e =
     (λ k q.
     let k< : k < length A = rw move-length at q in
     ⊎-elim
-    (λ (c : k ≡ r). moved-rack A m k k< (ap (λ (i : ℕ). getD A i 0) c ∙ e) ∙ sym (ap (λ (i : ℕ). getD (set A r (m .1)) i 0) c ∙ getD-set-same A r (m .1) 0 h))
-    (λ (c : k ≢ r). moved-other A m k k< (λ d. c (s .apart k r k< h (d ∙ sym e))) ∙ sym (getD-set-other A r k (m .1) 0 c))
-    (equal? k r))
+    (λ (c : k ≡ r). moved-rack A m k k< (ap (λ (i : ℕ). getD A i 0) c ∙ e)
+    ∙ sym (ap (λ (i : ℕ). getD (set A r (m .1)) i 0) c ∙ getD-set-same A r (m .1) 0 h))
+    (λ (c : k ≢ r). moved-other A m k k< (λ d. c (s .apart k r k< h (d ∙ sym e))) ∙ sym (getD-set-other A r k (m .1) 0 c)) (equal? k r))
 
 pub leads-sound : (F : Floor) {A B : Arrangement} {ms : List (ℕ × ℕ)} → Sound (F .positions) A → Leads F A ms B → Sound (F .positions) B
 leads-sound F s still = s
@@ -176,9 +179,10 @@ isSound-to n (q ∷ A) t =
 isSound-from : (n : ℕ) (A : Arrangement) → Sound n A → T (isSound n A)
 unfolding isSound
 isSound-from n [] s = tt
-isSound-from n (q ∷ A) s =
-    and-parts (ltb q n && vacant A q) (isSound n A) .1
-    (and-parts (ltb q n) (vacant A q) .1 (lt→ltb q n (s .below 0 (omega arith)), first-vacant n q A s), isSound-from n A (sound-tail n q A s))
+isSound-from n (q ∷ A) s = and-parts (ltb q n && vacant A q) (isSound n A) .1 (
+  and-parts (ltb q n) (vacant A q) .1 (lt→ltb q n (s .below 0 (omega arith)), first-vacant n q A s),
+  isSound-from n A (sound-tail n q A s),
+)
 
 pub isSound-sound : (n : ℕ) (A : Arrangement) → T (isSound n A) ↔ Sound n A
 isSound-sound n A = (isSound-to n A, isSound-from n A)
@@ -208,12 +212,15 @@ pub full-still : (F : Floor) (A : Arrangement) → Sound (F .positions) A → le
 full-still F A s e = occupied-still F A (full-occupied (F .positions) A s e)
 
 -- where no move is legal only the empty list leads anywhere
-stuck-leads : (F : Floor) (A : Arrangement) → ((m : ℕ × ℕ) → T (legalMove F A m) → ⊥) → (ms : List (ℕ × ℕ)) (B : Arrangement) → Leads F A ms B ↔ ((ms ≡ []) × (A ≡ B))
+stuck-leads : (F : Floor) (A : Arrangement) → ((m : ℕ × ℕ) → T (legalMove F A m) → ⊥) → (ms : List (ℕ × ℕ)) (B : Arrangement)
+    → Leads F A ms B ↔ ((ms ≡ []) × (A ≡ B))
 stuck-leads F A stuck [] B = (λ p. (refl, lawful-none p), λ t. rw (← t .1) still)
 stuck-leads F A stuck (m ∷ ms) B = (λ p. absurd (stuck m (lawful-first p .0)), λ t. absurd (nil≢cons (sym (t .0))))
 
-pub full-leads : (F : Floor) (A : Arrangement) → Sound (F .positions) A → length A ≡ F .positions → (ms : List (ℕ × ℕ)) (B : Arrangement) → Leads F A ms B ↔ ((ms ≡ []) × (A ≡ B))
+pub full-leads : (F : Floor) (A : Arrangement) → Sound (F .positions) A → length A ≡ F .positions
+    → (ms : List (ℕ × ℕ)) (B : Arrangement) → Leads F A ms B ↔ ((ms ≡ []) × (A ≡ B))
 full-leads F A s e = stuck-leads F A (full-still F A s e)
 
 pub no-racks-leads : (F : Floor) (ms : List (ℕ × ℕ)) (B : Arrangement) → Leads F [] ms B ↔ ((ms ≡ []) × ([] ≡ B))
-no-racks-leads F = stuck-leads F [] (λ m l. let r = occupied-rack [] (m .0) .0 (legal-parts F [] m .0 l .1) in let h : r .0 < 0 = r .1 in omega arith)
+no-racks-leads F =
+    stuck-leads F [] (λ m l. let r = occupied-rack [] (m .0) .0 (legal-parts F [] m .0 l .1) in let h : r .0 < 0 = r .1 in omega arith)

@@ -34,22 +34,47 @@ pub bad-is : (n : ℕ) (e : ℕ × ℕ) → badEdge n e ≡ (leb (e .1) (e .0) |
 unfolding badEdge
 bad-is n e = elim (decLe (e .1) (e .0)) [
   | yes h ↦ simp (le-leb (e .1) (e .0) h, or-true)
-  | no h ↦ elim (decLe n (e .1)) [
-    | yes k ↦ simp (le-leb n (e .1) k, or-true)
-    | no k ↦ simp (lt-leb n (e .1) (lt-of-not-le k), lt-leb (e .1) (e .0) (lt-of-not-le h), lt-leb n (e .0) (omega (arith, lt-of-not-le h, lt-of-not-le k)))
-  ]
+  | no h ↦
+      elim (decLe n (e .1)) [
+        | yes k ↦ simp (le-leb n (e .1) k, or-true)
+        | no k ↦
+            simp (
+              lt-leb n (e .1) (lt-of-not-le k),
+              lt-leb (e .1) (e .0) (lt-of-not-le h),
+              lt-leb n (e .0) (omega (arith, lt-of-not-le h, lt-of-not-le k)),
+            )
+      ]
 ]
 
 pub precedes-is : (p e : ℕ × ℕ) → p .1 < 64 → e .1 < 64 → precedes p e ≡ not (leb (place e) (place p))
 unfolding precedes
 precedes-is p e hp he = elim (decLe (e .0) (p .0)) [
-  | yes h ↦ elim (decLe (p .0) (e .0)) [
-    | yes k ↦ elim (decLe (e .1) (p .1)) [
-      | yes l ↦ simp (le-ltb (p .0) (e .0) h, le-ltb (p .1) (e .1) l, le-leb (place e) (place p) (omega arith), eq-eqb (p .0) (e .0) (omega arith))
-      | no l ↦ simp (le-ltb (p .0) (e .0) h, eq-eqb (p .0) (e .0) (omega arith), lt-ltb (p .1) (e .1) (lt-of-not-le l), lt-leb (place e) (place p) (omega (arith, lt-of-not-le l)))
-    ]
-    | no k ↦ simp (le-ltb (p .0) (e .0) h, ne-eqb (p .0) (e .0) (omega (arith, lt-of-not-le k)), le-leb (place e) (place p) (omega (arith, lt-of-not-le k)))
-  ]
+  | yes h ↦
+      elim (decLe (p .0) (e .0)) [
+        | yes k ↦
+            elim (decLe (e .1) (p .1)) [
+              | yes l ↦
+                  simp (
+                    le-ltb (p .0) (e .0) h,
+                    le-ltb (p .1) (e .1) l,
+                    le-leb (place e) (place p) (omega arith),
+                    eq-eqb (p .0) (e .0) (omega arith),
+                  )
+              | no l ↦
+                  simp (
+                    le-ltb (p .0) (e .0) h,
+                    eq-eqb (p .0) (e .0) (omega arith),
+                    lt-ltb (p .1) (e .1) (lt-of-not-le l),
+                    lt-leb (place e) (place p) (omega (arith, lt-of-not-le l)),
+                  )
+            ]
+        | no k ↦
+            simp (
+              le-ltb (p .0) (e .0) h,
+              ne-eqb (p .0) (e .0) (omega (arith, lt-of-not-le k)),
+              le-leb (place e) (place p) (omega (arith, lt-of-not-le k)),
+            )
+      ]
   | no h ↦ simp (lt-ltb (p .0) (e .0) (lt-of-not-le h), lt-leb (place e) (place p) (omega (arith, lt-of-not-le h)))
 ]
 
@@ -83,7 +108,8 @@ places-ascend e f he hf p = leb-false (place f) (place e) (flip (leb (place f) (
     flip true h = sym h
     flip false h = refl
 
-pub ascending-first : (e f : ℕ × ℕ) (l : List (ℕ × ℕ)) → e .1 < 64 → BelowPairs 64 l → ascending (e ∷ l) ≡ true → among f l ≡ true → place e < place f
+pub ascending-first : (e f : ℕ × ℕ) (l : List (ℕ × ℕ)) → e .1 < 64 → BelowPairs 64 l → ascending (e ∷ l) ≡ true → among f l ≡ true
+    → place e < place f
 unfolding ascending among
 ascending-first e f [] he b a m = absurd (never (sym m))
 ascending-first e f (g ∷ l) he (more₂ h₀ h₁ b) a m =
@@ -109,15 +135,18 @@ not-again e l h b a = by (among e l) refl
     by true m = absurd (omega (arith, ascending-first e e l h b a m))
     by false m = m
 
-pub same-set : (l m : List (ℕ × ℕ)) → BelowPairs 64 l → BelowPairs 64 m → ascending l ≡ true → ascending m ≡ true → ((e : ℕ × ℕ) → among e l ≡ among e m) → l ≡ m
+pub same-set : (l m : List (ℕ × ℕ)) → BelowPairs 64 l → BelowPairs 64 m → ascending l ≡ true → ascending m ≡ true
+    → ((e : ℕ × ℕ) → among e l ≡ among e m) → l ≡ m
 unfolding among
 same-set [] [] bl bm al am h = refl
 same-set [] (y ∷ m) bl bm al am h = absurd (never (sym (h y ∙ rw (isPair-same y) refl)))
 same-set (x ∷ l) [] bl bm al am h = absurd (never (sym (rw (isPair-same x) refl) ∙ h x))
-same-set (x ∷ l) (y ∷ m) (more₂ hx₀ hx₁ bl) (more₂ hy₀ hy₁ bm) al am h = ap₂ (λ (e : ℕ × ℕ) (k : List (ℕ × ℕ)). e ∷ k) first (same-set l m bl bm (rest-ascends x l al) (rest-ascends y m am) tails)
+same-set (x ∷ l) (y ∷ m) (more₂ hx₀ hx₁ bl) (more₂ hy₀ hy₁ bm) al am h =
+    ap₂ (λ (e : ℕ × ℕ) (k : List (ℕ × ℕ)). e ∷ k) first (same-set l m bl bm (rest-ascends x l al) (rest-ascends y m am) tails)
   where
     -- an edge of one list is not before the other's first
-    not-before : (u v : ℕ × ℕ) (k : List (ℕ × ℕ)) → v .1 < 64 → BelowPairs 64 k → ascending (v ∷ k) ≡ true → among u (v ∷ k) ≡ true → place v ≤ place u
+    not-before : (u v : ℕ × ℕ) (k : List (ℕ × ℕ)) → v .1 < 64 → BelowPairs 64 k → ascending (v ∷ k) ≡ true → among u (v ∷ k) ≡ true
+        → place v ≤ place u
     not-before u v k hv bk ak m = by (isPair u v) refl
       where
         by : (t : Bool) → isPair u v ≡ t → place v ≤ place u
@@ -160,12 +189,14 @@ good-among n e (f ∷ l) g m = by (isPair e f) refl (λ k. good-among n e l (or-
     good = sym (bad-is n f) ∙ or-left (badEdge n f) (some (badEdge n) l) g
 
     by : (t : Bool) → isPair e f ≡ t → (among e l ≡ true → (e .0 < e .1) × (e .1 < n)) → (e .0 < e .1) × (e .1 < n)
-    by true h later =
-        rw (isPair-is e f h)
-        (leb-false (f .1) (f .0) (or-left (leb (f .1) (f .0)) (leb n (f .1)) good), leb-false n (f .1) (or-right (leb (f .1) (f .0)) (leb n (f .1)) good))
+    by true h later = rw (isPair-is e f h) (
+      leb-false (f .1) (f .0) (or-left (leb (f .1) (f .0)) (leb n (f .1)) good),
+      leb-false n (f .1) (or-right (leb (f .1) (f .0)) (leb n (f .1)) good),
+    )
     by false h later = later (rw h at m)
 
-pub among-joined : (F : Floor) → some (badEdge (F .positions)) (F .edges) ≡ false → (a b : ℕ) → among (a, b) (F .edges) ≡ (ltb a b && joined F a b)
+pub among-joined : (F : Floor) → some (badEdge (F .positions)) (F .edges) ≡ false → (a b : ℕ)
+    → among (a, b) (F .edges) ≡ (ltb a b && joined F a b)
 unfolding joined
 among-joined F g a b = elim (decLe b a) [
   | yes h ↦ rw (le-ltb a b h) (absent (a, b) h)

@@ -39,7 +39,8 @@ module _ (test : ℕ → Bool) where
   listed-ascends : (k i : ℕ) (e : ℕ × ℕ) → e .1 < 64 → place e < i → ascending (e ∷ listed test i k) ≡ true
   unfolding listed ascending
   listed-ascends zero i e h l = refl
-  listed-ascends (suc k) i e h l = by (test i) (listed-ascends k (suc i) (pairOf i) (omega arith) (omega arith)) (listed-ascends k (suc i) e h (omega arith))
+  listed-ascends (suc k) i e h l =
+      by (test i) (listed-ascends k (suc i) (pairOf i) (omega arith) (omega arith)) (listed-ascends k (suc i) e h (omega arith))
     where
       by : (t : Bool) → ascending (pairOf i ∷ listed test (suc i) k) ≡ true → ascending (e ∷ listed test (suc i) k) ≡ true
           → ascending (e ∷ cond t (pairOf i ∷ listed test (suc i) k) (listed test (suc i) k)) ≡ true
@@ -62,7 +63,8 @@ module _ (test : ℕ → Bool) where
   listed-under zero i a b h l = refl
   listed-under (suc k) i a b h l = by (test i) (listed-under k (suc i) a b h (omega arith))
     where
-      by : (t : Bool) → among (a, b) (listed test (suc i) k) ≡ false → among (a, b) (cond t (pairOf i ∷ listed test (suc i) k) (listed test (suc i) k)) ≡ false
+      by : (t : Bool) → among (a, b) (listed test (suc i) k) ≡ false
+          → among (a, b) (cond t (pairOf i ∷ listed test (suc i) k) (listed test (suc i) k)) ≡ false
       by true r = rw (other-place i a b (λ e. omega (arith, l, e)), r) refl
       by false r = r
 
@@ -77,11 +79,13 @@ module _ (test : ℕ → Bool) where
       here : i ≡ a * 64 + b → among (a, b) (cond (test i) (pairOf i ∷ listed test (suc i) k) (listed test (suc i) k)) ≡ test (a * 64 + b)
       here e = by (test i) refl
         where
-          by : (t : Bool) → test i ≡ t → among (a, b) (cond t (pairOf i ∷ listed test (suc i) k) (listed test (suc i) k)) ≡ test (a * 64 + b)
+          by : (t : Bool) → test i ≡ t
+              → among (a, b) (cond t (pairOf i ∷ listed test (suc i) k) (listed test (suc i) k)) ≡ test (a * 64 + b)
           by true p = rw (same-place i a b h e, isPair-same (a, b)) (sym (ap test (sym e) ∙ p))
           by false p = listed-under k (suc i) a b h (omega (arith, e)) ∙ sym (ap test (sym e) ∙ p)
 
-      later : (i ≡ a * 64 + b → ⊥) → among (a, b) (listed test (suc i) k) ≡ test (a * 64 + b) → among (a, b) (cond (test i) (pairOf i ∷ listed test (suc i) k) (listed test (suc i) k)) ≡ test (a * 64 + b)
+      later : (i ≡ a * 64 + b → ⊥) → among (a, b) (listed test (suc i) k) ≡ test (a * 64 + b)
+          → among (a, b) (cond (test i) (pairOf i ∷ listed test (suc i) k) (listed test (suc i) k)) ≡ test (a * 64 + b)
       later d r = by (test i)
         where
           by : (t : Bool) → among (a, b) (cond t (pairOf i ∷ listed test (suc i) k) (listed test (suc i) k)) ≡ test (a * 64 + b)
@@ -98,7 +102,11 @@ module _ (n : ℕ) (E : ℕ → ℕ → Bool) where
       good t =
           unfold isEdge in
           let front = and-left (ltb (i / 64) (i % 64) && ltb (i % 64) n) (E (i / 64) (i % 64)) t in
-          rw (bad-is n (pairOf i), lt-leb (i % 64) (i / 64) (ltb-true (i / 64) (i % 64) (and-left (ltb (i / 64) (i % 64)) (ltb (i % 64) n) front)), lt-leb n (i % 64) (ltb-true (i % 64) n (and-right (ltb (i / 64) (i % 64)) (ltb (i % 64) n) front))) refl
+          rw (
+            bad-is n (pairOf i),
+            lt-leb (i % 64) (i / 64) (ltb-true (i / 64) (i % 64) (and-left (ltb (i / 64) (i % 64)) (ltb (i % 64) n) front)),
+            lt-leb n (i % 64) (ltb-true (i % 64) n (and-right (ltb (i / 64) (i % 64)) (ltb (i % 64) n) front)),
+          ) refl
 
       by : (t : Bool) → isEdge n E i ≡ t → some (badEdge n) (listed (isEdge n E) (suc i) k) ≡ false
           → some (badEdge n) (cond t (pairOf i ∷ listed (isEdge n E) (suc i) k) (listed (isEdge n E) (suc i) k)) ≡ false
@@ -125,7 +133,9 @@ module _ (n : ℕ) (E : ℕ → ℕ → Bool) where
     listed-not a b h = by (among (a, b) (listed (isEdge n E) 0 4096)) refl
       where
         by : (t : Bool) → among (a, b) (listed (isEdge n E) 0 4096) ≡ t → among (a, b) (listed (isEdge n E) 0 4096) ≡ false
-        by true m = ⊎-elim (λ k. absurd (omega (arith, k, good-among n (a, b) (listed (isEdge n E) 0 4096) (none-bad 4096 0) m .0))) (λ k. absurd (omega (arith, k, good-among n (a, b) (listed (isEdge n E) 0 4096) (none-bad 4096 0) m .1))) h
+        by true m =
+            ⊎-elim (λ k. absurd (omega (arith, k, good-among n (a, b) (listed (isEdge n E) 0 4096) (none-bad 4096 0) m .0)))
+            (λ k. absurd (omega (arith, k, good-among n (a, b) (listed (isEdge n E) 0 4096) (none-bad 4096 0) m .1))) h
         by false m = m
 
     outside : (a b : ℕ) → n ≤ b → E a b ≡ false

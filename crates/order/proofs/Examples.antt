@@ -2,7 +2,8 @@
 -- So the conditions are neither empty nor everything.
 --
 --     caseBook                                   the order of "Programs"
---     case-book-accepted, case-book-read, case-book-written    it is accepted, and describes what the paper says of it, which has it as its record
+--     case-book-accepted, case-book-read, case-book-written    it is accepted, and describes what the paper says of it,
+--                                                              which has it as its record
 --     case-book-length, case-book-cut            it is 14 bytes long, whatever stands behind it, and no order where it is cut short
 --     meets-10, .., meets-14                     an order for each of the numbers
 -- Assumes nothing.
@@ -14,7 +15,9 @@ use Rattle.answers.specs.Answer.{accepted, refused}
 use Rattle.field.specs.Bits.{bits, number, bitsOf, field, pairs, positions, pairBits, positionBits, pad, padded, bytes, toBytes}
 use Rattle.field.specs.Units.{recordLength, misfits, unclean}
 use Rattle.field.specs.Front.{wholeLength}
-use Rattle.order.specs.Order.{Order, orderBits, orderRecord, positionCount, edgeCount, rackCount, unitCount, floorOf, startsOf, goalsOf, orderOf, wrongLength, wrongPositions, paddingSet, some, badEdge, precedes, ascending, wrongEdges, repeats, wrongPlaces, wrongRacks, counts, orderAnswer}
+use Rattle.order.specs.Order.{Order, orderBits, orderRecord, positionCount, edgeCount, rackCount, unitCount, floorOf, startsOf}
+use Rattle.order.specs.Order.{goalsOf, orderOf, wrongLength, wrongPositions, paddingSet, some, badEdge, precedes, ascending}
+use Rattle.order.specs.Order.{wrongEdges, repeats, wrongPlaces, wrongRacks, counts, orderAnswer}
 use Rattle.order.specs.RecordLength.{orderLength, wholeOrderLength}
 use Rattle.order.proofs.RecordLengthLaws.{order-length-found}
 
@@ -31,7 +34,9 @@ caseBookOrder =
     }
 
 case-book-accepted : orderAnswer caseBook ≡ accepted (4 ∷ 5 ∷ 2 ∷ [])
-unfolding caseBook orderAnswer wrongLength misfits recordLength unitCount wrongPositions paddingSet unclean pad wrongEdges some badEdge precedes ascending wrongRacks wrongPlaces repeats orderOf floorOf startsOf goalsOf counts positionCount edgeCount rackCount field number bitsOf bits pairs positions
+unfolding caseBook orderAnswer wrongLength misfits recordLength unitCount wrongPositions paddingSet unclean pad wrongEdges some badEdge
+    precedes ascending wrongRacks wrongPlaces repeats orderOf floorOf startsOf goalsOf counts positionCount edgeCount rackCount field number
+    bitsOf bits pairs positions
 case-book-accepted = refl
 
 case-book-read : orderOf caseBook ≡ caseBookOrder
@@ -62,15 +67,19 @@ meets-11 = refl
 
 -- the second spare bit is set
 meets-12 : orderAnswer (0x02 ∷ 0x00 ∷ 0x01 ∷ []) ≡ refused 12 0
-unfolding orderAnswer wrongLength misfits recordLength unitCount wrongPositions paddingSet unclean pad positionCount edgeCount rackCount field number bitsOf bits
+unfolding orderAnswer wrongLength misfits recordLength unitCount wrongPositions paddingSet unclean pad positionCount edgeCount rackCount
+    field number bitsOf bits
 meets-12 = refl
 
 -- the edge 1-0 is not lower first
 meets-13 : orderAnswer (0x04 ∷ 0x02 ∷ 0x00 ∷ 0x04 ∷ 0x00 ∷ []) ≡ refused 13 0
-unfolding orderAnswer wrongLength misfits recordLength unitCount wrongPositions paddingSet unclean pad wrongEdges some badEdge precedes ascending floorOf positionCount edgeCount rackCount field number bitsOf bits pairs
+unfolding orderAnswer wrongLength misfits recordLength unitCount wrongPositions paddingSet unclean pad wrongEdges some badEdge precedes
+    ascending floorOf positionCount edgeCount rackCount field number bitsOf bits pairs
 meets-13 = refl
 
 -- n = 1, one rack from 0 to 1
 meets-14 : orderAnswer (0x02 ∷ 0x00 ∷ 0x04 ∷ 0x00 ∷ 0x10 ∷ []) ≡ refused 14 0
-unfolding orderAnswer wrongLength misfits recordLength unitCount wrongPositions paddingSet unclean pad wrongEdges some badEdge precedes ascending wrongRacks wrongPlaces repeats orderOf floorOf startsOf goalsOf positionCount edgeCount rackCount field number bitsOf bits pairs positions
+unfolding orderAnswer wrongLength misfits recordLength unitCount wrongPositions paddingSet unclean pad wrongEdges some badEdge precedes
+    ascending wrongRacks wrongPlaces repeats orderOf floorOf startsOf goalsOf positionCount edgeCount rackCount field number bitsOf bits
+    pairs positions
 meets-14 = refl

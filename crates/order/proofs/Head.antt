@@ -15,7 +15,8 @@ use Rattle.answers.specs.Answer.{Answer, accepted, refused}
 use Rattle.field.proofs.BitLaws.{field-in-byte, field-across}
 use Rattle.field.specs.Units.{misfits, unclean}
 use Rattle.field.proofs.UnitLaws.{misfits-short}
-use Rattle.order.specs.Order.{CountsOf, positionCount, edgeCount, rackCount, unitCount, wrongLength, wrongPositions, paddingSet, counts}
+use Rattle.order.specs.Order.{CountsOf, positionCount, edgeCount, rackCount, unitCount, wrongLength, wrongPositions, paddingSet}
+use Rattle.order.specs.Order.{counts}
 use Rattle.order.proofs.OrderLaws.{no-positions, many-positions, right-positions}
 use Rattle.order.specs.Readers.{headAnswer}
 

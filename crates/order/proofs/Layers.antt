@@ -24,7 +24,8 @@ use Rattle.answers.proofs.AnswerLaws.{refuse-not, refuse-else, passUp-low, pass
 use Rattle.field.specs.Bits.{field, pairs, positions}
 use Rattle.field.proofs.BitLaws.{field-lt}
 use Rattle.order.specs.Floor.{Floor}
-use Rattle.order.specs.Order.{positionCount, edgeCount, rackCount, floorOf, startsOf, goalsOf, orderOf, counts, wrongLength, wrongPositions, paddingSet, wrongEdges, wrongPlaces, wrongRacks, orderAnswer}
+use Rattle.order.specs.Order.{positionCount, edgeCount, rackCount, floorOf, startsOf, goalsOf, orderOf, counts, wrongLength}
+use Rattle.order.specs.Order.{wrongPositions, paddingSet, wrongEdges, wrongPlaces, wrongRacks, orderAnswer}
 use Rattle.order.proofs.OrderLaws.{RightHead, right-head}
 use Rattle.order.proofs.TailLaws
 use Rattle.order.specs.Readers.{headAnswer, edgesAnswer, FilledRows, RacksJudged}
@@ -45,8 +46,10 @@ head-of s v e =
     let a₂ = refuse (paddingSet s) 12 0 (accepted (counts s)) in
     let a₁ = refuse (wrongPositions s) 11 0 a₂ in
     let e₁ : a₁ ≡ accepted v = refuse-else (wrongLength s) 10 0 a₁ v e in
-    let e₂ : a₂ ≡ accepted v = refuse-else (wrongPositions s) 11 0 a₂ v e₁ in
-    (right-head s (refuse-not (wrongLength s) 10 0 a₁ v e) (refuse-not (wrongPositions s) 11 0 a₂ v e₁), refuse-else (paddingSet s) 12 0 (accepted (counts s)) v e₂)
+    let e₂ : a₂ ≡ accepted v = refuse-else (wrongPositions s) 11 0 a₂ v e₁ in (
+      right-head s (refuse-not (wrongLength s) 10 0 a₁ v e) (refuse-not (wrongPositions s) 11 0 a₂ v e₁),
+      refuse-else (paddingSet s) 12 0 (accepted (counts s)) v e₂,
+    )
 
 pub head-gave : (s : List ℕ) (n e m : ℕ) → accepted (n ∷ e ∷ m ∷ []) ≡ headAnswer s → HeadGave s n e m
 unfolding counts edgeCount rackCount
@@ -80,7 +83,8 @@ module _ (s : List ℕ) (n e m : ℕ) (gave : HeadGave s n e m) where
   unfolding counts
   counts-are = rw (gave .positions-are, gave .edges-are, gave .racks-are) refl
 
-  module _ (a : accepted (n ∷ e ∷ m ∷ []) ≡ headAnswer s) (r : Bool) (t : r ≡ not (wrongEdges (record { positions = n; edges = pairs (take (length s - 3) (drop 3 s)) 0 e }))) where
+  module _ (a : accepted (n ∷ e ∷ m ∷ []) ≡ headAnswer s) (r : Bool)
+      (t : r ≡ not (wrongEdges (record { positions = n; edges = pairs (take (length s - 3) (drop 3 s)) 0 e }))) where
     edges-test : r ≡ not (wrongEdges (floorOf s))
     edges-test = t ∙ ap (λ (F : Floor). not (wrongEdges F)) floor-is
 
@@ -123,7 +127,9 @@ module _ (s : List ℕ) (n e m : ℕ) (h₀ h₁ : List ℕ) (r : Bool) (first :
 
 pub order-is : (s : List ℕ) → orderAnswer s ≡ passUp (edgesAnswer s) (refuse (wrongRacks (orderOf s)) 14 0 (accepted (counts s)))
 unfolding orderAnswer edgesAnswer headAnswer
-order-is s = chain (wrongLength s) (wrongPositions s) (paddingSet s) (wrongEdges (floorOf s)) (refuse (wrongRacks (orderOf s)) 14 0 (accepted (counts s)))
+order-is s =
+    chain (wrongLength s) (wrongPositions s) (paddingSet s) (wrongEdges (floorOf s))
+    (refuse (wrongRacks (orderOf s)) 14 0 (accepted (counts s)))
   where
     chain : (a b c d : Bool) (rest : Answer)
         → refuse a 10 0 (refuse b 11 0 (refuse c 12 0 (refuse d 13 0 rest)))
@@ -145,7 +151,9 @@ edges-gave s n e m a = head-gave s n e m (ap accepted same ∙ sym head-accepted
     own = head-of s (low .0) (low .1) .1
 
     rest : accepted (counts s) ≡ accepted (n ∷ e ∷ m ∷ [])
-    rest = refuse-else (wrongEdges (floorOf s)) 13 0 (accepted (counts s)) (n ∷ e ∷ m ∷ []) (passUp-high (headAnswer s) (refuse (wrongEdges (floorOf s)) 13 0 (accepted (counts s))) (n ∷ e ∷ m ∷ []) (sym a))
+    rest =
+        refuse-else (wrongEdges (floorOf s)) 13 0 (accepted (counts s)) (n ∷ e ∷ m ∷ [])
+        (passUp-high (headAnswer s) (refuse (wrongEdges (floorOf s)) 13 0 (accepted (counts s))) (n ∷ e ∷ m ∷ []) (sym a))
 
     same : n ∷ e ∷ m ∷ [] ≡ counts s
     same = cc rest
@@ -158,7 +166,8 @@ module _ (s : List ℕ) (n e m : ℕ) (a : accepted (n ∷ e ∷ m ∷ []) ≡ e
   gave = edges-gave s n e m a
 
   over-edges : orderAnswer s ≡ refuse (wrongRacks (orderOf s)) 14 0 (accepted (counts s))
-  over-edges = order-is s ∙ passUp-accepted (edgesAnswer s) (refuse (wrongRacks (orderOf s)) 14 0 (accepted (counts s))) (n ∷ e ∷ m ∷ []) (sym a)
+  over-edges =
+      order-is s ∙ passUp-accepted (edgesAnswer s) (refuse (wrongRacks (orderOf s)) 14 0 (accepted (counts s))) (n ∷ e ∷ m ∷ []) (sym a)
 
   module _ (r : Bool) (h₀ h₁ : List ℕ) (judged : RacksJudged (take (length s - 3) (drop 3 s)) n e m r h₀ h₁) where
     starts-are : positions (take (length s - 3) (drop 3 s)) (6 * (2 * e)) m ≡ startsOf s

@@ -14,7 +14,8 @@ use lib.Dec.{ltb, eqb}
 use Rattle.answers.specs.Answer.{accepted, refuse}
 use Rattle.answers.proofs.AnswerLaws.{refuse-not, refuse-else}
 use Rattle.field.proofs.UnitLaws.{Fitting, fitting, or-left, or-right}
-use Rattle.order.specs.Order.{positionCount, unitCount, wrongLength, wrongPositions, paddingSet, wrongEdges, wrongRacks, floorOf, orderOf, counts, orderAnswer, WellFormed}
+use Rattle.order.specs.Order.{positionCount, unitCount, wrongLength, wrongPositions, paddingSet, wrongEdges, wrongRacks, floorOf}
+use Rattle.order.specs.Order.{orderOf, counts, orderAnswer, WellFormed}
 
 module _ (s : List ℕ) where
   pub no-positions : positionCount s ≡ 0 → wrongPositions s ≡ true

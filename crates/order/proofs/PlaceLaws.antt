@@ -54,4 +54,5 @@ differ-at (x ∷ l) (suc i) (suc j) e h k = differ-at l i j (or-right (some (eqb
 
 -- so m > n meets 14
 pub few-places : (n : ℕ) (l : List ℕ) → wrongPlaces n l ≡ false → length l ≤ n
-few-places n l e = pigeonhole n (λ i. getD l i 0) (length l) (below-getD (places-below n l e)) (λ i j. differ-at l i j (places-differ n l e))
+few-places n l e =
+    pigeonhole n (λ i. getD l i 0) (length l) (below-getD (places-below n l e)) (λ i j. differ-at l i j (places-differ n l e))

@@ -38,4 +38,5 @@ size-right r rest e =
 
 pub order-length-found : (s : List ℕ) → LengthFound (λ (r : List ℕ). wrongLength r ≡ false) s (wholeOrderLength s)
 unfolding wholeOrderLength
-order-length-found = length-found (λ (r : List ℕ). wrongLength r ≡ false) orderLength (λ s. omega (arith, head-within s)) right-size size-right
+order-length-found =
+    length-found (λ (r : List ℕ). wrongLength r ≡ false) orderLength (λ s. omega (arith, head-within s)) right-size size-right

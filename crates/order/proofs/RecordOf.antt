@@ -12,9 +12,11 @@ use lib.Seq.{take-all}
 use Rattle.field.specs.Bits.{bits, bitsOf, field, pairs, positions, pairBits, positionBits, pad, padded}
 use Rattle.field.proofs.BitLaws.{Bits, below-append, bits-are, bits-field, length-bits, length-bitsOf}
 use Rattle.field.specs.Bytes.{Bytes}
-use Rattle.field.proofs.RecordLaws.{length-pairs, length-positions, bits-pairs, bits-positions, length-pairBits, length-positionBits, pairBits-are, positionBits-are, zeros-at, join, padded-by, up-to-byte, toBytes-from}
+use Rattle.field.proofs.RecordLaws.{length-pairs, length-positions, bits-pairs, bits-positions, length-pairBits, length-positionBits}
+use Rattle.field.proofs.RecordLaws.{pairBits-are, positionBits-are, zeros-at, join, padded-by, up-to-byte, toBytes-from}
 use Rattle.field.proofs.UnitLaws.{Fitting, Clean, cleanly, pad-after-head}
-use Rattle.order.specs.Order.{Order, orderBits, orderRecord, positionCount, edgeCount, rackCount, unitCount, floorOf, startsOf, goalsOf, orderOf, paddingSet, WellFormed}
+use Rattle.order.specs.Order.{Order, orderBits, orderRecord, positionCount, edgeCount, rackCount, unitCount, floorOf, startsOf}
+use Rattle.order.specs.Order.{goalsOf, orderOf, paddingSet, WellFormed}
 use Rattle.order.proofs.OrderLaws.{right-head}
 
 pub orderBits-are : (o : Order) → Bits (orderBits o)
@@ -22,11 +24,13 @@ unfolding orderBits
 orderBits-are o =
     below-append
     (below-append
-    (below-append (below-append (below-append (below-append (bits-are 7 _) (bits-are 8 _)) (bits-are 7 _)) (bits-are 2 0)) (pairBits-are (o .floor .edges)))
+    (below-append (below-append (below-append (below-append (bits-are 7 _) (bits-are 8 _)) (bits-are 7 _)) (bits-are 2 0))
+    (pairBits-are (o .floor .edges)))
     (positionBits-are (o .starts)))
     (positionBits-are (o .goals))
 
-module _ (s : List ℕ) (e m : ℕ) (ee : e ≡ edgeCount s) (em : m ≡ rackCount s) (room : 24 + 12 * (e + m) + pad (12 * (e + m)) ≡ 8 * length s) where
+module _ (s : List ℕ) (e m : ℕ) (ee : e ≡ edgeCount s) (em : m ≡ rackCount s)
+    (room : 24 + 12 * (e + m) + pad (12 * (e + m)) ≡ 8 * length s) where
   -- the fields of s, one after another, are the bits of s
   read-bits : field s 22 2 ≡ 0 → field s (24 + 12 * (e + m)) (pad (12 * (e + m))) ≡ 0
       → bits 7 (field s 0 7)
@@ -56,7 +60,8 @@ module _ (s : List ℕ) (e m : ℕ) (ee : e ≡ edgeCount s) (em : m ≡ rackCou
       (rw at (zeros-at s (24 + 12 * (e + m)) (pad (12 * (e + m))) (omega arith) clear))
       ∙ take-all (24 + 12 * e + 6 * m + 6 * m + pad (12 * (e + m))) (bitsOf s) (rw length-bitsOf (omega arith))
 
-pub length-orderBits : (o : Order) → length (orderBits o) ≡ 24 + 12 * length (o .floor .edges) + 6 * length (o .starts) + 6 * length (o .goals)
+pub length-orderBits : (o : Order)
+    → length (orderBits o) ≡ 24 + 12 * length (o .floor .edges) + 6 * length (o .starts) + 6 * length (o .goals)
 unfolding orderBits
 length-orderBits o =
     simp (length-append, length-bits, length-pairBits, length-positionBits)
@@ -82,9 +87,12 @@ record-of s b w = toBytes-from b (orderBits-are (orderOf s)) (sym all)
 
     lengths : length (orderBits (orderOf s)) ≡ 24 + 12 * units
     lengths =
-        unfold orderOf floorOf startsOf goalsOf in
-        length-orderBits (orderOf s)
-        ∙ rw (length-pairs s 24 (edgeCount s), length-positions s (24 + 12 * edgeCount s) (rackCount s), length-positions s (24 + 12 * edgeCount s + 6 * rackCount s) (rackCount s)) (omega arith)
+        unfold orderOf floorOf startsOf goalsOf in length-orderBits (orderOf s)
+        ∙ rw (
+          length-pairs s 24 (edgeCount s),
+          length-positions s (24 + 12 * edgeCount s) (rackCount s),
+          length-positions s (24 + 12 * edgeCount s + 6 * rackCount s) (rackCount s),
+        ) (omega arith)
 
     pad-is : pad (length (orderBits (orderOf s))) ≡ pad (12 * units)
     pad-is = ap pad lengths ∙ pad-after-head (12 * units)

@@ -1,5 +1,5 @@
--- The order's tail, the part of the record from its fourth byte on: where its edges, starts and goals stand in it, for layers that are handed
--- the tail as a part `&order[3..]` and the counts e and m.
+-- The order's tail, the part of the record from its fourth byte on: where its edges, starts and goals stand in it, for layers that are
+-- handed the tail as a part `&order[3..]` and the counts e and m.
 --
 --     tail-edges, tail-starts, tail-goals    what is read from the tail is what the record describes
 --     tail-room                              the tail has room for them

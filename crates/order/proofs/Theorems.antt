@@ -16,7 +16,8 @@ use Rattle.field.specs.Bytes.{Bytes, BelowPairs}
 use Rattle.field.proofs.RecordLaws.{pairs-lt}
 use Rattle.field.proofs.UnitLaws.{or-left, or-right}
 use Rattle.order.specs.Floor.{Floor, joined}
-use Rattle.order.specs.Order.{Order, orderRecord, edgeCount, floorOf, orderOf, some, badEdge, ascending, wrongEdges, repeats, wrongPlaces, WellFormed}
+use Rattle.order.specs.Order.{Order, orderRecord, edgeCount, floorOf, orderOf, some, badEdge, ascending, wrongEdges, repeats}
+use Rattle.order.specs.Order.{wrongPlaces, WellFormed}
 use Rattle.order.proofs.OrderLaws.{accepted-is}
 use Rattle.order.proofs.RecordOf.{record-of}
 use Rattle.order.proofs.EdgeLaws.{among-joined, same-set, and-left}
@@ -105,7 +106,10 @@ all-of-four =
     }
   where
     eqb-comm : (a b : ℕ) → eqb a b ≡ eqb b a
-    eqb-comm a b = elim (ℕ-discrete a b) [ yes e ↦ rw (eq-eqb a b e, eq-eqb b a (sym e)) refl | no d ↦ rw (ne-eqb a b d, ne-eqb b a (λ e. d (sym e))) refl ]
+    eqb-comm a b = elim (ℕ-discrete a b) [
+      | yes e ↦ rw (eq-eqb a b e, eq-eqb b a (sym e)) refl
+      | no d ↦ rw (ne-eqb a b d, ne-eqb b a (λ e. d (sym e))) refl
+    ]
 
 -- two racks on it change places: the hypotheses of `every-order` hold of something
 an-order : Choice 4 allOfFour (0 ∷ 3 ∷ []) (3 ∷ 0 ∷ [])

@@ -16,9 +16,12 @@ use lib.Dec.{leb}
 use Rattle.field.specs.Bits.{bits, bitsOf, field, pairs, positions, pairBits, positionBits, pad}
 use Rattle.field.proofs.BitLaws.{length-bits, field-at}
 use Rattle.field.specs.Bytes.{BelowPairs, none₂, more₂}
-use Rattle.field.proofs.RecordLaws.{pairs-at, positions-at, length-pairBits, length-positionBits, bits-zero, bitsOf-toBytes, length-toBytes, padded-by}
+use Rattle.field.proofs.RecordLaws.{pairs-at, positions-at, length-pairBits, length-positionBits, bits-zero, bitsOf-toBytes}
+use Rattle.field.proofs.RecordLaws.{length-toBytes, padded-by}
 use Rattle.field.proofs.UnitLaws.{fits, clean, pad-after-head, or-left, or-right}
-use Rattle.order.specs.Order.{Order, orderBits, orderRecord, positionCount, edgeCount, rackCount, unitCount, floorOf, startsOf, goalsOf, orderOf, wrongLength, paddingSet, some, badEdge, wrongEdges, ascending, wrongPlaces, wrongRacks, WellFormed}
+use Rattle.order.specs.Order.{Order, orderBits, orderRecord, positionCount, edgeCount, rackCount, unitCount, floorOf, startsOf}
+use Rattle.order.specs.Order.{goalsOf, orderOf, wrongLength, paddingSet, some, badEdge, wrongEdges, ascending, wrongPlaces}
+use Rattle.order.specs.Order.{wrongRacks, WellFormed}
 use Rattle.order.proofs.OrderLaws.{right-positions}
 use Rattle.order.proofs.PlaceLaws.{places-below, below-more, few-places}
 use Rattle.order.proofs.RecordOf.{orderBits-are, length-orderBits}
@@ -37,7 +40,8 @@ edges-below : (n : ℕ) (l : List (ℕ × ℕ)) → n ≤ 64 → some (badEdge n
 unfolding some badEdge
 edges-below n [] h e = none₂
 edges-below n (p ∷ l) h e =
-    let bad : (leb n (p .0) || leb n (p .1) || leb (p .1) (p .0)) ≡ false = or-left (leb n (p .0) || leb n (p .1) || leb (p .1) (p .0)) (some (badEdge n) l) e in
+    let bad : (leb n (p .0) || leb n (p .1) || leb (p .1) (p .0)) ≡ false =
+    or-left (leb n (p .0) || leb n (p .1) || leb (p .1) (p .0)) (some (badEdge n) l) e in
     let both : (leb n (p .0) || leb n (p .1)) ≡ false = or-left (leb n (p .0) || leb n (p .1)) (leb (p .1) (p .0)) bad in
     more₂ {p = p} (omega (arith, leb-false n (p .0) (or-left (leb n (p .0)) (leb n (p .1)) both)))
     (omega (arith, leb-false n (p .1) (or-right (leb n (p .0)) (leb n (p .1)) both)))
@@ -68,21 +72,28 @@ module _ (o : Order) (sound : SoundOrder o) where
     edges-are : pairs (orderRecord o) 24 (length (o .floor .edges)) ≡ o .floor .edges
     starts-are : positions (orderRecord o) (24 + 12 * length (o .floor .edges)) (length (o .starts)) ≡ o .starts
     goals-are : positions (orderRecord o) (24 + 12 * length (o .floor .edges) + 6 * length (o .starts)) (length (o .starts)) ≡ o .goals
-    pad-clear : field (orderRecord o) (24 + 12 * (length (o .floor .edges) + length (o .starts))) (pad (12 * (length (o .floor .edges) + length (o .starts)))) ≡ 0
+    pad-clear :
+        field (orderRecord o) (24 + 12 * (length (o .floor .edges) + length (o .starts)))
+        (pad (12 * (length (o .floor .edges) + length (o .starts))))
+        ≡ 0
 
   read : Read
   unfolding positionCount edgeCount rackCount
-  read =
-      record {
-        positions-are = field-at s [] _ 0 7 n e₀ refl (omega (arith, sound .few-positions));
-        edges-count = field-at s b₀ _ 7 8 e e₀ l₁ (omega (arith, sound .few-edges));
-        racks-count = field-at s (b₀ ++ b₁) _ 15 7 m e₁ l₂ (omega (arith, few-racks));
-        spare-clear = field-at s (b₀ ++ b₁ ++ b₂) _ 22 2 0 e₂ l₃ (omega arith);
-        edges-are = pairs-at s (b₀ ++ b₁ ++ b₂ ++ b₃) (o .floor .edges) _ 24 e₃ l₄ (edges-below n (o .floor .edges) (sound .few-positions) edges-good);
-        starts-are = positions-at s (b₀ ++ b₁ ++ b₂ ++ b₃ ++ b₄) (o .starts) _ (24 + 12 * e) e₄ l₅ (below-more (sound .few-positions) (places-below n (o .starts) (sound .starts-right)));
-        goals-are = ap (positions s (24 + 12 * e + 6 * m)) (sym (sound .a-goal-each)) ∙ positions-at s (b₀ ++ b₁ ++ b₂ ++ b₃ ++ b₄ ++ b₅) (o .goals) _ (24 + 12 * e + 6 * m) e₅ l₆ (below-more (sound .few-positions) (places-below n (o .goals) (sound .goals-right)));
-        pad-clear = field-at s (b₀ ++ b₁ ++ b₂ ++ b₃ ++ b₄ ++ b₅ ++ b₆) [] (24 + 12 * (e + m)) (pad (12 * (e + m))) 0 e₇ l₇ (pow-pos (pad (12 * (e + m))));
-      }
+  read = record {
+    positions-are = field-at s [] _ 0 7 n e₀ refl (omega (arith, sound .few-positions));
+    edges-count = field-at s b₀ _ 7 8 e e₀ l₁ (omega (arith, sound .few-edges));
+    racks-count = field-at s (b₀ ++ b₁) _ 15 7 m e₁ l₂ (omega (arith, few-racks));
+    spare-clear = field-at s (b₀ ++ b₁ ++ b₂) _ 22 2 0 e₂ l₃ (omega arith);
+    edges-are = pairs-at s (b₀ ++ b₁ ++ b₂ ++ b₃) (o .floor .edges) _ 24 e₃ l₄
+        (edges-below n (o .floor .edges) (sound .few-positions) edges-good);
+    starts-are = positions-at s (b₀ ++ b₁ ++ b₂ ++ b₃ ++ b₄) (o .starts) _ (24 + 12 * e) e₄ l₅
+        (below-more (sound .few-positions) (places-below n (o .starts) (sound .starts-right)));
+    goals-are = ap (positions s (24 + 12 * e + 6 * m)) (sym (sound .a-goal-each))
+        ∙ positions-at s (b₀ ++ b₁ ++ b₂ ++ b₃ ++ b₄ ++ b₅) (o .goals) _ (24 + 12 * e + 6 * m) e₅ l₆
+        (below-more (sound .few-positions) (places-below n (o .goals) (sound .goals-right)));
+    pad-clear = field-at s (b₀ ++ b₁ ++ b₂ ++ b₃ ++ b₄ ++ b₅ ++ b₆) [] (24 + 12 * (e + m)) (pad (12 * (e + m))) 0 e₇ l₇
+        (pow-pos (pad (12 * (e + m))));
+  }
     where
       s : List ℕ
       s = orderRecord o
@@ -140,7 +151,9 @@ module _ (o : Order) (sound : SoundOrder o) where
       e₅ = shift (b₀ ++ b₁ ++ b₂ ++ b₃ ++ b₄) b₅ _ e₄
 
       e₇ : bitsOf s ≡ (b₀ ++ b₁ ++ b₂ ++ b₃ ++ b₄ ++ b₅ ++ b₆) ++ (bits (pad (12 * (e + m))) 0 ++ [])
-      e₇ = unfold zeros in shift (b₀ ++ b₁ ++ b₂ ++ b₃ ++ b₄ ++ b₅) b₆ zeros e₅ ∙ rw (append-nil (bits (pad (12 * (e + m))) 0), bits-zero (pad (12 * (e + m)))) refl
+      e₇ =
+          unfold zeros in shift (b₀ ++ b₁ ++ b₂ ++ b₃ ++ b₄ ++ b₅) b₆ zeros e₅
+          ∙ rw (append-nil (bits (pad (12 * (e + m))) 0), bits-zero (pad (12 * (e + m)))) refl
 
       l₁ : length b₀ ≡ 7
       l₁ = length-bits 7 n
@@ -161,10 +174,14 @@ module _ (o : Order) (sound : SoundOrder o) where
       l₆ = length-shift (b₀ ++ b₁ ++ b₂ ++ b₃ ++ b₄) b₅ (24 + 12 * e) (6 * m) l₅ (length-positionBits (o .starts))
 
       l₇ : length (b₀ ++ b₁ ++ b₂ ++ b₃ ++ b₄ ++ b₅ ++ b₆) ≡ 24 + 12 * (e + m)
-      l₇ = length-shift (b₀ ++ b₁ ++ b₂ ++ b₃ ++ b₄ ++ b₅) b₆ (24 + 12 * e + 6 * m) (6 * length (o .goals)) l₆ (length-positionBits (o .goals)) ∙ omega (arith, sound .a-goal-each)
+      l₇ =
+          length-shift (b₀ ++ b₁ ++ b₂ ++ b₃ ++ b₄ ++ b₅) b₆ (24 + 12 * e + 6 * m) (6 * length (o .goals)) l₆
+          (length-positionBits (o .goals))
+          ∙ omega (arith, sound .a-goal-each)
 
       edges-good : some (badEdge n) (o .floor .edges) ≡ false
-      edges-good = unfold wrongEdges in or-left (some (badEdge n) (o .floor .edges)) (not (ascending (o .floor .edges))) (sound .edges-right)
+      edges-good =
+          unfold wrongEdges in or-left (some (badEdge n) (o .floor .edges)) (not (ascending (o .floor .edges))) (sound .edges-right)
 
   pub record-read : orderOf (orderRecord o) ≡ o
   unfolding orderOf floorOf startsOf goalsOf
@@ -172,16 +189,16 @@ module _ (o : Order) (sound : SoundOrder o) where
       rw (read .positions-are, read .edges-count, read .racks-count, read .edges-are, read .starts-are, read .goals-are) refl
 
   pub record-sound : WellFormed (orderRecord o)
-  record-sound =
-      record {
-        length-right = unfold wrongLength in fits (orderRecord o) (unitCount (orderRecord o)) (rw length-is (omega arith))
-            (length-is ∙ omega (arith, units));
-        positions-right = right-positions (orderRecord o) (λ z. omega (arith, read .positions-are, sound .some-position)) (rw (read .positions-are) (sound .few-positions));
-        padding-clear = unfold paddingSet in rw units (clean (orderRecord o) (2 * (length (o .floor .edges) + length (o .starts)))
-            (read .spare-clear) (rw twelve (read .pad-clear)));
-        edges-right = ap (λ (x : Order). wrongEdges (x .floor)) (ap-order) ∙ sound .edges-right;
-        racks-right = ap wrongRacks record-read ∙ (unfold wrongRacks in rw (sound .starts-right, sound .goals-right) refl);
-      }
+  record-sound = record {
+    length-right = unfold wrongLength in fits (orderRecord o) (unitCount (orderRecord o)) (rw length-is (omega arith))
+        (length-is ∙ omega (arith, units));
+    positions-right = right-positions (orderRecord o) (λ z. omega (arith, read .positions-are, sound .some-position))
+        (rw (read .positions-are) (sound .few-positions));
+    padding-clear = unfold paddingSet in rw units
+        (clean (orderRecord o) (2 * (length (o .floor .edges) + length (o .starts))) (read .spare-clear) (rw twelve (read .pad-clear)));
+    edges-right = ap (λ (x : Order). wrongEdges (x .floor)) (ap-order) ∙ sound .edges-right;
+    racks-right = ap wrongRacks record-read ∙ (unfold wrongRacks in rw (sound .starts-right, sound .goals-right) refl);
+  }
     where
       units : unitCount (orderRecord o) ≡ 2 * (length (o .floor .edges) + length (o .starts))
       units = unfold unitCount in ap₂ (λ (e m : ℕ). 2 * (e + m)) (read .edges-count) (read .racks-count)
@@ -192,5 +209,6 @@ module _ (o : Order) (sound : SoundOrder o) where
       length-is : length (orderRecord o) ≡ 3 + (12 * (length (o .floor .edges) + length (o .starts)) + 7) / 8
       length-is = unfold orderRecord in length-toBytes (orderBits o) ∙ rw lengths (omega arith)
 
-      ap-order : _≡_ {A = Order} (record { floor = floorOf (orderRecord o); starts = startsOf (orderRecord o); goals = goalsOf (orderRecord o) }) o
+      ap-order : _≡_ {A = Order}
+          (record { floor = floorOf (orderRecord o); starts = startsOf (orderRecord o); goals = goalsOf (orderRecord o) }) o
       ap-order = unfold orderOf in record-read

@@ -2,7 +2,8 @@
 --
 --     Same s t          s and t describe the same floor, as a set of edges, the same starts and the same goals
 --     RecordFor n E starts goals s    s is accepted, and read it gives back n, E, the starts and the goals
---     Choice            what is asked of them: n from 1 to 64, edges between positions below n and at most 255 of them, distinct starts and goals
+--     Choice            what is asked of them: n from 1 to 64, edges between positions below n and at most 255 of them,
+--                       distinct starts and goals
 --     recordFor         their record
 -- Assumes nothing.
 use Prim.Native.Nat.{ℕ, _≤_}

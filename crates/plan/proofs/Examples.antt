@@ -5,7 +5,8 @@
 --     plan-open o p          the plan checker's answer, with all that it is made of open
 --     case-1, case-7         starred cases 1, first half, and 7
 --     meets-30, ..           one plan each for the other numbers; an order's refusal is passed up
---     case-well-formed, case-solution, case-accepted, case-told    an order, a solution, its record, and that it is accepted, for the theorems
+--     case-well-formed, case-solution, case-accepted, case-told    an order, a solution, its record, and that it is
+--                                                                  accepted, for the theorems
 --     full-empty, bare-empty                        an empty plan on a full floor and on one without racks, for the limits
 --     case-written, case-read                       writing and reading the case book's moves
 -- Assumes nothing.
@@ -18,7 +19,9 @@ use Rattle.field.specs.Bits.{bits, number, bitsOf, field, pairs, positions, pai
 use Rattle.field.specs.Bytes.{BelowPairs, none₂, more₂}
 use Rattle.field.specs.Units.{recordLength, misfits, unclean}
 use Rattle.order.specs.Floor.{isPair, among, joined}
-use Rattle.order.specs.Order.{positionCount, edgeCount, rackCount, unitCount, floorOf, startsOf, goalsOf, orderOf, wrongLength, wrongPositions, paddingSet, some, badEdge, precedes, ascending, wrongEdges, repeats, wrongPlaces, wrongRacks, counts, orderAnswer, WellFormed}
+use Rattle.order.specs.Order.{positionCount, edgeCount, rackCount, unitCount, floorOf, startsOf, goalsOf, orderOf, wrongLength}
+use Rattle.order.specs.Order.{wrongPositions, paddingSet, some, badEdge, precedes, ascending, wrongEdges, repeats, wrongPlaces, wrongRacks}
+use Rattle.order.specs.Order.{counts, orderAnswer, WellFormed}
 use Rattle.motion.specs.Arrangement.{occupied, vacant}
 use Rattle.motion.specs.Move.{onFloor, faultBy, moveFault, goesTo, after, afterMove}
 use Rattle.motion.specs.Replay.{replayFrom, replayMoves, trace}

@@ -56,7 +56,8 @@ unfolding recordAnswer moveCount wrongPlanLength
 record-gave p k a =
     let a₁ = refuse (planPaddingSet p) 31 0 (accepted (field p 0 22 ∷ [])) in
     let e₁ : a₁ ≡ accepted (k ∷ []) = refuse-else (wrongPlanLength p) 30 0 a₁ (k ∷ []) (sym a) in
-    let e₂ : accepted (field p 0 22 ∷ []) ≡ accepted (k ∷ []) = refuse-else (planPaddingSet p) 31 0 (accepted (field p 0 22 ∷ [])) (k ∷ []) e₁ in
+    let e₂ : accepted (field p 0 22 ∷ []) ≡ accepted (k ∷ []) =
+    refuse-else (planPaddingSet p) 31 0 (accepted (field p 0 22 ∷ [])) (k ∷ []) e₁ in
     let l : wrongPlanLength p ≡ false = refuse-not (wrongPlanLength p) 30 0 a₁ (k ∷ []) (sym a) in
     let count : k ≡ field p 0 22 = cc e₂ in
     record {
@@ -98,9 +99,13 @@ module _ (o : List ℕ) (n e m : ℕ) (gave : OrderGave o n e m) (p : List ℕ) 
       ∙ all-accepted (planAnswer o p) (orderAnswer o) (recordAnswer p) (judgement o p) (plan-is o p) (n ∷ e ∷ m ∷ []) a (k ∷ []) b
 
 -- a refusal below is the answer above
-pub order-turned-down : (o p : List ℕ) (below r : Answer) (number place : ℕ) → below ≡ orderAnswer o → below ≡ refused number place → r ≡ passUp below (accepted (0 ∷ [])) → r ≡ planAnswer o p
-order-turned-down o p below r = order-refused (planAnswer o p) (orderAnswer o) (recordAnswer p) (judgement o p) (plan-is o p) below r (accepted (0 ∷ []))
+pub order-turned-down : (o p : List ℕ) (below r : Answer) (number place : ℕ) → below ≡ orderAnswer o → below ≡ refused number place
+    → r ≡ passUp below (accepted (0 ∷ [])) → r ≡ planAnswer o p
+order-turned-down o p below r =
+    order-refused (planAnswer o p) (orderAnswer o) (recordAnswer p) (judgement o p) (plan-is o p) below r (accepted (0 ∷ []))
 
-pub record-turned-down : (o p counted : List ℕ) (head : Answer) (number place : ℕ) → accepted counted ≡ orderAnswer o → head ≡ recordAnswer p → head ≡ refused number place → head ≡ planAnswer o p
+pub record-turned-down : (o p counted : List ℕ) (head : Answer) (number place : ℕ) → accepted counted ≡ orderAnswer o
+    → head ≡ recordAnswer p → head ≡ refused number place → head ≡ planAnswer o p
 record-turned-down o p counted head number place a is f =
-    record-refused (planAnswer o p) (orderAnswer o) (recordAnswer p) (judgement o p) (plan-is o p) counted a head head (accepted []) number place is f (passUp-refused head (accepted []) number place f)
+    record-refused (planAnswer o p) (orderAnswer o) (recordAnswer p) (judgement o p) (plan-is o p) counted a head head (accepted []) number
+    place is f (passUp-refused head (accepted []) number place f)

@@ -1,8 +1,8 @@
--- Plans where nothing can move, from document 01, "The floor": "here a full floor may be checked too, and no rack on it can move. No steps at
--- all is a solution when each start is its goal."
+-- Plans where nothing can move, from document 01, "The floor": "here a full floor may be checked too, and no rack on it can move. No steps
+-- at all is a solution when each start is its goal."
 --
---     LeadingPlan o p v, accepted-leads    a plan is accepted exactly if 10 to 14, 30 and 31 pass, and its moves, each legal at its turn, lead from the starts
---                                          to the goals
+--     LeadingPlan o p v, accepted-leads    a plan is accepted exactly if 10 to 14, 30 and 31 pass, and its moves, each legal at its turn,
+--                                          lead from the starts to the goals
 --     EmptyPlan o p v    p lists no move, v counts none, and each start is its goal
 --     full-floor         on a full floor a plan is accepted exactly if it is empty and each start is its goal
 --     no-racks           so it is where there is no rack
@@ -47,7 +47,8 @@ module _ (o p v : List ℕ) where
   accepted-leads = (
     (λ a.
         let t = plan-replayed o .0 p v .0 a in
-        let solved = pebble-replay (floorOf o) (rackCount o) (startsOf o) (goalsOf o) (well-placed o (t .order-right) .task) .0 (planMoves p) in
+        let solved =
+        pebble-replay (floorOf o) (rackCount o) (startsOf o) (goalsOf o) (well-placed o (t .order-right) .task) .0 (planMoves p) in
         record {
           order-right = t .order-right;
           length-right = t .length-right;
@@ -56,14 +57,16 @@ module _ (o p v : List ℕ) where
           leads = replayMoves-ended (floorOf o) (startsOf o) (planMoves p) (goalsOf o) .0 (solved .1 (rw moves-counted (t .solution)));
         }),
     (λ t.
-        let solved = pebble-replay (floorOf o) (rackCount o) (startsOf o) (goalsOf o) (well-placed o (t .order-right) .task) .0 (planMoves p) in
+        let solved =
+        pebble-replay (floorOf o) (rackCount o) (startsOf o) (goalsOf o) (well-placed o (t .order-right) .task) .0 (planMoves p) in
         plan-replayed o .0 p v .1
         (record {
           order-right = t .order-right;
           length-right = t .length-right;
           padding-clear = t .padding-clear;
           counted = t .counted;
-          solution = rw moves-counted at (solved .0 (replayMoves-ended (floorOf o) (startsOf o) (planMoves p) (goalsOf o) .1 (t .leads)));
+          solution = rw moves-counted at
+              (solved .0 (replayMoves-ended (floorOf o) (startsOf o) (planMoves p) (goalsOf o) .1 (t .leads)));
         })),
   )
 
@@ -75,7 +78,8 @@ module _ (o p v : List ℕ) where
       by (m ∷ ms) h = absurd (omega arith)
 
   -- where only the empty list can lead from the starts to the goals
-  still-plans : WellFormed o → (Leads (floorOf o) (startsOf o) (planMoves p) (goalsOf o) → planMoves p ≡ []) → (planAnswer o p ≡ accepted v) ↔ EmptyPlan
+  still-plans : WellFormed o → (Leads (floorOf o) (startsOf o) (planMoves p) (goalsOf o) → planMoves p ≡ [])
+      → (planAnswer o p ≡ accepted v) ↔ EmptyPlan
   still-plans w stuck = (
     (λ a.
         let t = accepted-leads .0 a in

@@ -19,7 +19,8 @@ use lib.Pow.{pow-pos}
 use Rattle.field.specs.Bits.{bits, bitsOf, field, pairBits, pad, padded}
 use Rattle.field.proofs.BitLaws.{Bits, below-append, bits-are, bits-field, length-bits, length-bitsOf, field-at}
 use Rattle.field.specs.Bytes.{Bytes, BelowPairs}
-use Rattle.field.proofs.RecordLaws.{length-pairs, length-pairBits, pairBits-are, bits-pairs, pairs-at, bits-zero, zeros-at, join, padded-by, up-to-byte, length-toBytes, toBytes-are, bitsOf-toBytes, toBytes-from}
+use Rattle.field.proofs.RecordLaws.{length-pairs, length-pairBits, pairBits-are, bits-pairs, pairs-at, bits-zero, zeros-at, join}
+use Rattle.field.proofs.RecordLaws.{padded-by, up-to-byte, length-toBytes, toBytes-are, bitsOf-toBytes, toBytes-from}
 use Rattle.field.proofs.HeadLaws.{headBits, headBits-are, length-headBits, head-bytes}
 use Rattle.field.specs.Head.{headBytes}
 use Rattle.field.proofs.WholeBytes.{toBytes-append}
@@ -80,10 +81,14 @@ module _ (ms : List (ℕ × ℕ)) (few : length ms < 2 ^ 22) (small : BelowPairs
   count = field-at (planRecord ms) [] (bits 2 0 ++ (pairBits ms ++ replicate (pad (12 * length ms)) 0)) 0 22 (length ms) at-count refl few
 
   spare : field (planRecord ms) 22 2 ≡ 0
-  spare = field-at (planRecord ms) (bits 22 (length ms)) (pairBits ms ++ replicate (pad (12 * length ms)) 0) 22 2 0 at-count (length-bits 22 (length ms)) (omega arith)
+  spare =
+      field-at (planRecord ms) (bits 22 (length ms)) (pairBits ms ++ replicate (pad (12 * length ms)) 0) 22 2 0 at-count
+      (length-bits 22 (length ms)) (omega arith)
 
   padding : field (planRecord ms) (24 + 12 * length ms) (pad (12 * length ms)) ≡ 0
-  padding = field-at (planRecord ms) (planBits ms) [] (24 + 12 * length ms) (pad (12 * length ms)) 0 at-pad (length-planBits ms) (pow-pos (pad (12 * length ms)))
+  padding =
+      field-at (planRecord ms) (planBits ms) [] (24 + 12 * length ms) (pad (12 * length ms)) 0 at-pad (length-planBits ms)
+      (pow-pos (pad (12 * length ms)))
 
   head-length : length (bits 22 (length ms) ++ bits 2 0) ≡ 24
   head-length = length-append (bits 22 (length ms)) (bits 2 0) ∙ ap₂ _+_ (length-bits 22 (length ms)) (length-bits 2 0)
@@ -91,7 +96,8 @@ module _ (ms : List (ℕ × ℕ)) (few : length ms < 2 ^ 22) (small : BelowPairs
   pub record-parts : planRecord ms ≡ headBytes (length ms) ++ pack ms
   unfolding planRecord planBits headBits
   record-parts =
-      toBytes-append 3 (headBits-are (length ms)) (length-headBits (length ms)) (pairBits-are ms) ∙ ap₂ _++_ (head-bytes (length ms) few) (sym (pack-is small))
+      toBytes-append 3 (headBits-are (length ms)) (length-headBits (length ms)) (pairBits-are ms)
+      ∙ ap₂ _++_ (head-bytes (length ms) few) (sym (pack-is small))
 
   pub written : Written ms
   unfolding moveCount planMoves wrongPlanLength planPaddingSet recordLength
@@ -102,7 +108,9 @@ module _ (ms : List (ℕ × ℕ)) (few : length ms < 2 ^ 22) (small : BelowPairs
         length-right = rw count (fits (planRecord ms) (2 * length ms) (rw length-is (omega arith)) length-is);
         padding-clear = rw count (clean (planRecord ms) (2 * length ms) spare (rw (twelve (length ms)) padding));
         count-is = count;
-        moves-are = rw count (pairs-at (planRecord ms) (bits 22 (length ms) ++ bits 2 0) ms (replicate (pad (12 * length ms)) 0) 24 at-moves head-length small);
+        moves-are = rw count
+            (pairs-at (planRecord ms) (bits 22 (length ms) ++ bits 2 0) ms (replicate (pad (12 * length ms)) 0) 24 at-moves head-length
+            small);
       }
 
 module _ (p : List ℕ) (b : Bytes p) (l : wrongPlanLength p ≡ false) (c : planPaddingSet p ≡ false) where

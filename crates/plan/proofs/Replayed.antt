@@ -4,7 +4,8 @@
 --     ReplayedPlan o p v   what acceptance of the plan p for the order o with the counts v means: 10 to 14, 30 and 31 pass both, v is the
 --                          count of moves, and the arrangements of the replay are a solution with as many moves
 --     OnlyRecord o ξ S     exactly one byte string that 30 and 31 pass has the arrangements S as its replay, and it is accepted with ξ
---     the-moves, accepted-record, only-record    the moves of a solution; of fewer than 2^22 of them the record is accepted, and is the only one
+--     the-moves, accepted-record, only-record    the moves of a solution; of fewer than 2^22 of them the record is
+--                                                accepted, and is the only one
 --     plan-replayed        a plan is accepted exactly if it describes a solution, and every solution with fewer than 2^22 moves has
 --                          exactly one record, which is accepted
 -- Assumes nothing.
@@ -65,7 +66,9 @@ module _ (o p v : List ℕ) where
   judged-solution w =
       let g = well-placed o w in
       let x = replayMoves (floorOf o) (startsOf o) (planMoves p) in
-      let same : (A : Arrangement) → x ≡ ended A → length A ≡ length (goalsOf o) = λ A e. leads-length (floorOf o) (replayMoves-ended (floorOf o) (startsOf o) (planMoves p) A .0 e) ∙ g .starts-length ∙ sym (g .goals-length) in
+      let same : (A : Arrangement) → x ≡ ended A → length A ≡ length (goalsOf o) =
+      λ A e. leads-length (floorOf o) (replayMoves-ended (floorOf o) (startsOf o) (planMoves p) A .0 e) ∙ g .starts-length
+      ∙ sym (g .goals-length) in
       let by = judged-accepted 33 (goalsOf o) (moveCount p ∷ []) v x same in
       let solved = pebble-replay (floorOf o) (rackCount o) (startsOf o) (goalsOf o) (g .task) .0 (planMoves p) in
       (λ a. (by .0 a .1, rw moves-counted at (solved .0 (by .0 a .0))), λ t. by .1 (solved .1 (rw moves-counted (t .1)), t .0))
@@ -111,7 +114,8 @@ module _ (o : List ℕ) (w : WellFormed o) (ξ : ℕ) (S : List Arrangement) (fe
   the-record =
       let n : length (the-moves .moves) ≡ ξ = the-moves .steps in
       written (the-moves .moves) (rw n few)
-      (leads-small (floorOf o) (well-placed o w .few-positions) (replayMoves-ended (floorOf o) (startsOf o) (the-moves .moves) (goalsOf o) .0 (the-moves .accepted)))
+      (leads-small (floorOf o) (well-placed o w .few-positions)
+      (replayMoves-ended (floorOf o) (startsOf o) (the-moves .moves) (goalsOf o) .0 (the-moves .accepted)))
 
   the-count : moveCount (planRecord (the-moves .moves)) ≡ ξ
   the-count = the-record .count-is ∙ the-moves .steps
@@ -142,9 +146,9 @@ module _ (o : List ℕ) (w : WellFormed o) (ξ : ℕ) (S : List Arrangement) (fe
         only = λ p b l c e. sym (record-read p b l c) ∙ ap planRecord (the-moves .only (planMoves p) e);
       }
 
--- For every order o: (a) a byte string p is accepted as its plan, with the counts v, exactly if o is well formed, 30 and 31 pass p, v is the
--- count of p's moves, and the arrangements of p's replay are a solution with as many moves; (b) where o is well formed, every solution with
--- fewer than 2^22 moves is described by exactly one byte string that 30 and 31 pass, and this one is accepted with as many moves.
+-- For every order o: (a) a byte string p is accepted as its plan, with the counts v, exactly if o is well formed, 30 and 31 pass p, v is
+-- the count of p's moves, and the arrangements of p's replay are a solution with as many moves; (b) where o is well formed, every solution
+-- with fewer than 2^22 moves is described by exactly one byte string that 30 and 31 pass, and this one is accepted with as many moves.
 pub plan-replayed : (o : List ℕ)
     → ((p v : List ℕ) → (planAnswer o p ≡ accepted v) ↔ ReplayedPlan o p v)
     × (WellFormed o → (ξ : ℕ) (S : List Arrangement) → ξ < 2 ^ 22 → SolutionOf o ξ S → OnlyRecord o ξ S)

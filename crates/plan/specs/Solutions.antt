@@ -1,8 +1,8 @@
 -- The plan checker accepts exactly the solutions of Surynek's Definition 1, as document 01 reads it (motion's Pebble): demand 2 for plans.
 --
 --     SolutionOf o ξ S     the arrangements S solve the task of the order o in ξ moves
---     AcceptedPlan o p v   the byte string p is the record of a solution's moves, and v the count of them: so a solution has one record, which
---                          the plan checker accepts
+--     AcceptedPlan o p v   the byte string p is the record of a solution's moves, and v the count of them: so a solution has one record,
+--                          which the plan checker accepts
 -- Assumes nothing.
 use Prim.Native.Nat.{ℕ, _^_, _<_}
 use mathlib.Core.List.{List, [], _∷_}

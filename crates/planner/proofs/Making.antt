@@ -44,7 +44,8 @@ counted o can a handed =
     handed ∙ ap (λ (b : Answer). passUp b (accepted (counts o))) (plannable-is o can) ∙ sym (accepted-is o (can .right))
 
 module _ (o B : List ℕ) where
-  pub planner-refused : (a r : Answer) (k place : ℕ) → a ≡ floorAnswer o → a ≡ refused k place → r ≡ passUp a (accepted (0 ∷ [])) → PlanMade o B r B
+  pub planner-refused : (a r : Answer) (k place : ℕ) → a ≡ floorAnswer o → a ≡ refused k place → r ≡ passUp a (accepted (0 ∷ []))
+      → PlanMade o B r B
   unfolding refusals
   planner-refused a r k place ea ek er =
       let n = positionCount o in
@@ -96,22 +97,27 @@ module _ (o B : List ℕ) where
         behind : take 3 B ++ (t ++ drop (length B - 3) (drop 3 B)) ≡ written B 3 (pack ms)
         unfolding written
         behind =
-            let nothing : drop (length B - 3) (drop 3 B) ≡ [] = drop-of-length-le (drop 3 B) {i = length B - 3} (rw (length-drop 3 B) (omega arith)) in
+            let nothing : drop (length B - 3) (drop 3 B) ≡ [] =
+            drop-of-length-le (drop 3 B) {i = length B - 3} (rw (length-drop 3 B) (omega arith)) in
             let after : t ≡ pack ms ++ drop (3 + length (pack ms)) B =
-            moves .packed .is ∙ ap (λ (x : List ℕ). pack ms ++ drop (length (pack ms)) x) (rest-is 3 B) ∙ ap (λ (x : List ℕ). pack ms ++ x) (drop-drop (length (pack ms)) 3 B) in
+            moves .packed .is ∙ ap (λ (x : List ℕ). pack ms ++ drop (length (pack ms)) x) (rest-is 3 B)
+            ∙ ap (λ (x : List ℕ). pack ms ++ x) (drop-drop (length (pack ms)) 3 B) in
             rw (nothing, append-nil t) (ap (λ (x : List ℕ). take 3 B ++ x) after)
 
         parts : planRecord ms ≡ headBytes k ++ pack ms
         parts =
             record-parts ms (let f = few-moves in let k = moves .count in omega arith)
-            (leads-small (floorOf o) (gave .placed-well .few-positions) (replayMoves-ended (floorOf o) (startsOf o) ms (goalsOf o) .0 (moves .solves .replayed)))
+            (leads-small (floorOf o) (gave .placed-well .few-positions)
+            (replayMoves-ended (floorOf o) (startsOf o) ms (goalsOf o) .0 (moves .solves .replayed)))
             ∙ ap (λ (j : ℕ). headBytes j ++ pack ms) (sym (moves .count))
 
-        pub planner-made : (x : List ℕ) → x ≡ written (take 3 B ++ (t ++ drop (length B - 3) (drop 3 B))) 0 (headBytes k) → PlanMade o B (accepted (k ∷ [])) x
+        pub planner-made : (x : List ℕ) → x ≡ written (take 3 B ++ (t ++ drop (length B - 3) (drop 3 B))) 0 (headBytes k)
+            → PlanMade o B (accepted (k ∷ [])) x
         planner-made x is =
             let short : 3 + length (pack ms) ≤ length B = (let f = moves .solves .few in let l = length-pack ms in omega (arith, enough)) in
             let all : x ≡ written B 0 (planRecord ms) =
-            is ∙ ap (λ (b : List ℕ). written b 0 (headBytes k)) behind ∙ front-written B (headBytes k) (pack ms) (length-headBytes k) short ∙ ap (written B 0) (sym parts) in
+            is ∙ ap (λ (b : List ℕ). written b 0 (headBytes k)) behind ∙ front-written B (headBytes k) (pack ms) (length-headBytes k) short
+            ∙ ap (written B 0) (sym parts) in
             subst (λ (b : List ℕ). PlanMade o B (accepted (k ∷ [])) b) (sym all)
             (subst (λ (j : ℕ). PlanMade o B (accepted (j ∷ [])) (written B 0 (planRecord ms))) (sym (moves .count))
             (made ms (answer-is ∙ rw (le-ltb (length B) (12 * (n * (n * n)) + 3) enough) refl)

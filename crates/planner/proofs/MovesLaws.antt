@@ -58,12 +58,14 @@ module _ (o : List ℕ) (n e m : ℕ) (gave : OrderGave o n e m) where
   pub start-placed : (h : List ℕ) → Holds (startsOf o) h → Placed n m (row h)
   start-placed h holds =
       let w = gave .placed-well in
-      held-placed holds n m (subst (λ (k : ℕ). Sound k (startsOf o)) (sym (gave .positions-are)) (w .starts-sound)) (w .starts-length ∙ sym (gave .racks-are))
+      held-placed holds n m (subst (λ (k : ℕ). Sound k (startsOf o)) (sym (gave .positions-are)) (w .starts-sound))
+      (w .starts-length ∙ sym (gave .racks-are))
 
   pub goal-placed : (h : List ℕ) → Holds (goalsOf o) h → Placed n m (row h)
   goal-placed h holds =
       let w = gave .placed-well in
-      held-placed holds n m (subst (λ (k : ℕ). Sound k (goalsOf o)) (sym (gave .positions-are)) (w .goals-sound)) (w .goals-length ∙ sym (gave .racks-are))
+      held-placed holds n m (subst (λ (k : ℕ). Sound k (goalsOf o)) (sym (gave .positions-are)) (w .goals-sound))
+      (w .goals-length ∙ sym (gave .racks-are))
 
   module _ (plannable : Plannable o) where
     pub room-racks : m + 2 ≤ n
@@ -87,7 +89,8 @@ module _ (o : List ℕ) (n e m : ℕ) (gave : OrderGave o n e m) where
           let p = gave .positions-are in (
             subst (λ (k : ℕ). a < k) p (l .0),
             subst (λ (k : ℕ). b < k) p (l .1),
-            edge-joins (floorOf o) (gave .placed-well .edges-below) a b (subst (λ (x : List ℕ). Edge x a b) (filled-is o n e m gave g filled) edge),
+            edge-joins (floorOf o) (gave .placed-well .edges-below) a b
+                (subst (λ (x : List ℕ). Edge x a b) (filled-is o n e m gave g filled) edge),
           )
 
       -- the racks `start`, with those of the order real and nothing written yet
@@ -121,7 +124,8 @@ module _ (o : List ℕ) (n e m : ℕ) (gave : OrderGave o n e m) where
   pub none-needed : (h k t : List ℕ) → Holds (startsOf o) h → Holds (goalsOf o) k → ((p : ℕ) → p < 64 → row h p ≡ row k p) → Moves o n t t 0
   none-needed h k t a b same =
       let well = gave .placed-well in
-      let alike = tables-alike (floorOf o .positions) (rackCount o) (well .starts-sound) a b (well .starts-length) (well .goals-length) same in
+      let alike =
+      tables-alike (floorOf o .positions) (rackCount o) (well .starts-sound) a b (well .starts-length) (well .goals-length) same in
       record {
         moves = [];
         count = refl;

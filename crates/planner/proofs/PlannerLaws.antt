@@ -58,7 +58,8 @@ module _ (o : List ℕ) (can : Plannable o) (ms : List (ℕ × ℕ)) (solves : S
       (leads-small (floorOf o) (well .few-positions) (replayMoves-ended (floorOf o) (startsOf o) ms (goalsOf o) .0 (solves .replayed)))
 
   same : (A : Arrangement) → replayMoves (floorOf o) (startsOf o) ms ≡ ended A → length A ≡ length (goalsOf o)
-  same A e = leads-length (floorOf o) (replayMoves-ended (floorOf o) (startsOf o) ms A .0 e) ∙ well .starts-length ∙ sym (well .goals-length)
+  same A e =
+      leads-length (floorOf o) (replayMoves-ended (floorOf o) (startsOf o) ms A .0 e) ∙ well .starts-length ∙ sym (well .goals-length)
 
   pub plan-accepted : planAnswer o (planRecord ms) ≡ accepted (length ms ∷ [])
   unfolding planAnswer

@@ -1,7 +1,7 @@
 -- The moves of a plan for an order, before its head is written: document 01, "Breakdown and planning", and demand 3.
 --
---     Solves o n ms         the moves ms, each legal at its turn, take each rack of the order o from its start to its goal; there are at most
---                           8 × n × n × n, and none where each start is its goal
+--     Solves o n ms         the moves ms, each legal at its turn, take each rack of the order o from its start to its goal; there are at
+--                           most 8 × n × n × n, and none where each start is its goal
 --     TablesOf o n m g h k  the order o can be planned, with n positions and m racks, and is decoded to the rows g and the tables h and k
 --     SomeTables n m g h k  some order has these tables
 --     MovesMade n m g h k t t′ w    w such moves of every order with these tables

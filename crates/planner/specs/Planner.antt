@@ -26,8 +26,8 @@ refusals o b =
     (refuse (ltb b (12 * (n * (n * n)) + 3)) 23 0
     (accepted []))
 
--- "No lent byte changes on a refusal." "After acceptance the buffer holds the plan record first, other bytes unchanged, and the answer gives the count
--- of its moves." Which moves is left free; `Solves` is what holds of them.
+-- "No lent byte changes on a refusal." "After acceptance the buffer holds the plan record first, other bytes unchanged, and the answer
+-- gives the count of its moves." Which moves is left free; `Solves` is what holds of them.
 pub data PlanMade (o B : List ℕ) : Answer → List ℕ → Type 0 where
   turned-down : {number place : ℕ} → refusals o (length B) ≡ refused number place → PlanMade o B (refused number place) B
   made : (ms : List (ℕ × ℕ)) → refusals o (length B) ≡ accepted [] → Solves o (positionCount o) ms

@@ -1,5 +1,5 @@
-// The planner: an order is judged, the buffer measured, and the plan's moves are made behind its head. specs/Planner.antt has the answers and the buffer
-// afterwards, specs/Moves.antt what is promised of the moves; `make` is the entry point.
+// The planner: an order is judged, the buffer measured, and the plan's moves are made behind its head. specs/Planner.antt has the answers
+// and the buffer afterwards, specs/Moves.antt what is promised of the moves; `make` is the entry point.
 use answers::Fault;
 use floor::FloorVerdict;
 use shunting::State;

@@ -1,5 +1,5 @@
--- The theorem of the timetable maker, from document 01, "Making the timetable": what holds of the steps that the making rule makes of a plan
--- whose moves are each legal at its turn.
+-- The theorem of the timetable maker, from document 01, "Making the timetable": what holds of the steps that the making rule makes of a
+-- plan whose moves are each legal at its turn.
 --
 --     step-short          a step with a move takes at most 3 bytes for each of its moves
 --     steps-short         steps with moves take at most 3 bytes for each move
@@ -34,26 +34,33 @@ use Rattle.field.proofs.PackingLaws.{length-pack}
 use Rattle.timetable.specs.Reading.{moveTotal}
 use Rattle.scheduling.specs.Rows.{stepBytes, stepsBytes}
 use Rattle.scheduling.specs.Making.{Timed, ofRack, stepFor, timed, greatest, movesIn, inStep, stepsFrom, madeSteps}
-use Rattle.scheduling.proofs.Timing.{Ruled, none, ruled-timed, stepFor-bounds, ruled-filled, length-movesIn, steps-total, steps-length, steps-at, history, history-length, history-greatest, history-made, history-differ}
+use Rattle.scheduling.proofs.Timing.{Ruled, none, ruled-timed, stepFor-bounds, ruled-filled, length-movesIn, steps-total}
+use Rattle.scheduling.proofs.Timing.{steps-length, steps-at, history, history-length, history-greatest, history-made}
+use Rattle.scheduling.proofs.Timing.{history-differ}
 use Rattle.scheduling.proofs.Schedule.{Scheduled, scheduled-none, scheduled-more, scheduled-leads}
 
 pub step-short : (ms : List (ℕ × ℕ)) → 1 ≤ length ms → length (stepBytes ms) ≤ 3 * length ms
 unfolding stepBytes
 step-short ms h = omega (arith, length-pack ms)
 
-pub steps-short : (steps : List (List (ℕ × ℕ))) → ((ms : List (ℕ × ℕ)) → List·Memᴰ ms steps → 1 ≤ length ms) → length (stepsBytes steps) ≤ 3 * moveTotal steps
+pub steps-short : (steps : List (List (ℕ × ℕ))) → ((ms : List (ℕ × ℕ)) → List·Memᴰ ms steps → 1 ≤ length ms)
+    → length (stepsBytes steps) ≤ 3 * moveTotal steps
 unfolding stepsBytes moveTotal
 steps-short [] h = omega arith
-steps-short (ms ∷ steps) h =
-    omega (arith, length-append (stepBytes ms) (stepsBytes steps), step-short ms (h ms (List·Memᴰ·head refl)), steps-short steps (λ x k. h x (List·Memᴰ·tail k)))
+steps-short (ms ∷ steps) h = omega (
+  arith,
+  length-append (stepBytes ms) (stepsBytes steps),
+  step-short ms (h ms (List·Memᴰ·head refl)),
+  steps-short steps (λ x k. h x (List·Memᴰ·tail k)),
+)
 
 pub steps-few : (steps : List (List (ℕ × ℕ))) → ((ms : List (ℕ × ℕ)) → List·Memᴰ ms steps → 1 ≤ length ms) → length steps ≤ moveTotal steps
 unfolding moveTotal
 steps-few [] h = omega arith
 steps-few (ms ∷ steps) h = omega (arith, h ms (List·Memᴰ·head refl), steps-few steps (λ x k. h x (List·Memᴰ·tail k)))
 
-pub leads-size : (F : Floor) {A B : Arrangement} {steps : List (List (ℕ × ℕ))} → LeadsSteps F A steps B → (ms : List (ℕ × ℕ)) → List·Memᴰ ms steps
-    → length ms ≤ min (length A) (F .positions - 1)
+pub leads-size : (F : Floor) {A B : Arrangement} {steps : List (List (ℕ × ℕ))} → LeadsSteps F A steps B → (ms : List (ℕ × ℕ))
+    → List·Memᴰ ms steps → length ms ≤ min (length A) (F .positions - 1)
 leads-size F still ms k = absurd (List·Memᴰ·not-nil k)
 leads-size F (_then_ {A = A} {x = x} {xs = steps} l p) ms k =
     by-member k (λ e. rw e (omega (arith, step-size x (legalStep-iff F A x .0 l)))) (λ n. rw (after-length A x) at (leads-size F p ms n))
@@ -126,5 +133,6 @@ module _ (F : Floor) {A B : Arrangement} {ms : List (ℕ × ℕ)} (sound : Sound
         short = omega (arith, steps-short (madeSteps A ms) made-filled, made-total);
       }
 
-pub made-replayed : (F : Floor) (A : Arrangement) (ms : List (ℕ × ℕ)) (B : Arrangement) → Sound (F .positions) A → replayMoves F A ms ≡ ended B → Made F A ms B
+pub made-replayed : (F : Floor) (A : Arrangement) (ms : List (ℕ × ℕ)) (B : Arrangement) → Sound (F .positions) A
+    → replayMoves F A ms ≡ ended B → Made F A ms B
 made-replayed F A ms B sound e = made F sound (replayMoves-ended F A ms B .0 e)

@@ -1,11 +1,12 @@
--- The theorem of the timetable maker, on records: for every plan that the plan checker accepts, the record that the maker writes is short enough
--- for its buffer, and the timetable checker accepts it.
+-- The theorem of the timetable maker, on records: for every plan that the plan checker accepts, the record that the maker writes is short
+-- enough for its buffer, and the timetable checker accepts it.
 --
 --     PlanGave o p v, plan-gave      what acceptance of the plan p for the order o tells
 --     steps-packable                 steps that lead anywhere have room in the record's fields
 --     made-of                        the made steps of an accepted plan lead from the starts to the goals
 --     made-packable                  so have the made steps
---     Timetabled o p, timetabled     the made record is at most 3 × k + 3 bytes long, and the timetable checker accepts it, with s steps and k moves
+--     Timetabled o p, timetabled     the made record is at most 3 × k + 3 bytes long, and the timetable checker accepts it,
+--                                    with s steps and k moves
 --     MakerGave o p n v, maker-gave  what acceptance by the maker tells: the plan is accepted, the buffer has room, and the answer is s
 --     maker-record                   the buffer afterwards begins with a record that the timetable checker accepts
 -- Assumes nothing.
@@ -80,7 +81,8 @@ moves-below F few (m ∷ ms) h =
     let t = h m (List·Memᴰ·head refl) in
     more₂ {p = m} (omega (arith, t .left-below)) (omega (arith, t .entered-below)) (moves-below F few ms (λ x k. h x (List·Memᴰ·tail k)))
 
-pub steps-packable : (F : Floor) → F .positions ≤ 64 → {A B : Arrangement} {steps : List (List (ℕ × ℕ))} → LeadsSteps F A steps B → Steps steps
+pub steps-packable : (F : Floor) → F .positions ≤ 64 → {A B : Arrangement} {steps : List (List (ℕ × ℕ))} → LeadsSteps F A steps B
+    → Steps steps
 steps-packable F few still = no-steps
 steps-packable F few (_then_ {A = A} {x = ms} l rest) =
     let s = legalStep-iff F A ms .0 l in
@@ -108,9 +110,10 @@ module _ (o p v : List ℕ) (e : planAnswer o p ≡ accepted v) where
 
   made-short : length (timetableRecord (madeOf o p)) ≤ 3 * moveCount p + 3
   made-short =
-      let parts = ap length (record-bytes (madeOf o p) made-packable) ∙ length-append (headBytes (length (madeOf o p))) (stepsBytes (madeOf o p)) in
-      let few : length (stepsBytes (madeOf o p)) ≤ 3 * length (planMoves p) = unfold madeOf in made-of .short in
-      omega (arith, parts, length-headBytes (length (madeOf o p)), few, moves-counted p)
+      let parts =
+      ap length (record-bytes (madeOf o p) made-packable) ∙ length-append (headBytes (length (madeOf o p))) (stepsBytes (madeOf o p)) in
+      let few : length (stepsBytes (madeOf o p)) ≤ 3 * length (planMoves p) = unfold madeOf in
+      made-of .short in omega (arith, parts, length-headBytes (length (madeOf o p)), few, moves-counted p)
 
   steps-counted : length (madeOf o p) ≡ greatest (timed (startsOf o) [] (planMoves p))
   unfolding madeOf
@@ -136,7 +139,8 @@ module _ (o p v : List ℕ) (e : planAnswer o p ≡ accepted v) where
   at-goals v =
       judged-accepted 43 (goalsOf o) v v (ended (goalsOf o)) (λ A q. let g : goalsOf o ≡ A = cc in ap length (sym g)) .1 (refl, refl)
 
-  made-checked : timetableAnswer o (timetableRecord (madeOf o p)) ≡ accepted (greatest (timed (startsOf o) [] (planMoves p)) ∷ moveCount p ∷ [])
+  made-checked : timetableAnswer o (timetableRecord (madeOf o p))
+      ≡ accepted (greatest (timed (startsOf o) [] (planMoves p)) ∷ moveCount p ∷ [])
   unfolding timetableAnswer
   made-checked =
       let r = timetableRecord (madeOf o p) in

@@ -48,7 +48,11 @@ module _ (o p B : List ℕ) where
   unfolding makerAnswer
   maker-refused a r n q ea en er =
       let below : planAnswer o p ≡ refused n q = sym ea ∙ en in
-      let up : makerAnswer o p (length B) ≡ refused n q = ap (λ (x : Answer). passUp x (refuse (ltb (length B) (3 * moveCount p + 3)) 44 0 (accepted (greatest (timed (startsOf o) [] (planMoves p)) ∷ [])))) below in
+      let up : makerAnswer o p (length B) ≡ refused n q =
+      ap
+      (λ (x : Answer). passUp x
+      (refuse (ltb (length B) (3 * moveCount p + 3)) 44 0 (accepted (greatest (timed (startsOf o) [] (planMoves p)) ∷ []))))
+      below in
       let down : r ≡ refused n q = er ∙ ap (λ (x : Answer). passUp x (accepted (0 ∷ []))) en in
       (down ∙ sym up, after-refusal n q up)
 
@@ -80,9 +84,12 @@ module _ (o p B : List ℕ) where
 
     steps-are : allSteps (pairs (take (length p - 3) (drop 3 p)) 0 k) ≡ madeOf o p
     unfolding madeOf
-    steps-are = ap allSteps tail-moves ∙ allSteps-made (floorOf o) (gave .placed-well .few-positions) (gave .placed-well .starts-sound) (gave .leads)
+    steps-are =
+        ap allSteps tail-moves
+        ∙ allSteps-made (floorOf o) (gave .placed-well .few-positions) (gave .placed-well .starts-sound) (gave .leads)
 
-    answer-is : makerAnswer o p (length B) ≡ refuse (ltb (length B) (3 * k + 3)) 44 0 (accepted (greatest (timed (startsOf o) [] (planMoves p)) ∷ []))
+    answer-is : makerAnswer o p (length B)
+        ≡ refuse (ltb (length B) (3 * k + 3)) 44 0 (accepted (greatest (timed (startsOf o) [] (planMoves p)) ∷ []))
     unfolding makerAnswer
     answer-is = passUp-accepted (planAnswer o p) _ (k ∷ []) (sym e) ∙ rw count-is refl
 
@@ -108,28 +115,39 @@ module _ (o p B : List ℕ) where
         count-few = omega (arith, es, ap latest tail-moves, latest-few (planMoves p), moves-counted p, count-is)
 
         pub head-room : (3 ≤ length b) × (s < 2 ^ 22)
-        head-room =
-            (omega (arith, ap length eb, length-written B 3 (stepsBytes (allSteps (pairs (take (length p - 3) (drop 3 p)) 0 k))) maker-room, room), omega (arith, count-few, count-below))
+        head-room = (
+          omega (
+            arith,
+            ap length eb,
+            length-written B 3 (stepsBytes (allSteps (pairs (take (length p - 3) (drop 3 p)) 0 k))) maker-room,
+            room,
+          ),
+          omega (arith, count-few, count-below),
+        )
 
         rule : s ≡ greatest (timed (startsOf o) [] (planMoves p))
-        rule = es ∙ ap latest tail-moves ∙ latest-rule (floorOf o) (gave .placed-well .few-positions) (gave .placed-well .starts-sound) (gave .leads)
+        rule =
+            es ∙ ap latest tail-moves
+            ∙ latest-rule (floorOf o) (gave .placed-well .few-positions) (gave .placed-well .starts-sound) (gave .leads)
 
         counted : s ≡ length (madeOf o p)
         unfolding madeOf
         counted = rule ∙ sym (made-of o p (k ∷ []) (sym e) .count)
 
         whole : timetableRecord (madeOf o p) ≡ headBytes s ++ stepsBytes (madeOf o p)
-        whole = record-bytes (madeOf o p) (made-packable o p (k ∷ []) (sym e)) ∙ ap (λ (n : ℕ). headBytes n ++ stepsBytes (madeOf o p)) (sym counted)
+        whole =
+            record-bytes (madeOf o p) (made-packable o p (k ∷ []) (sym e))
+            ∙ ap (λ (n : ℕ). headBytes n ++ stepsBytes (madeOf o p)) (sym counted)
 
-        pub maker-made : (c : List ℕ) → c ≡ written b 0 (headBytes s) → (accepted (s ∷ []) ≡ makerAnswer o p (length B)) × (c ≡ bufferAfter o p B)
+        pub maker-made : (c : List ℕ) → c ≡ written b 0 (headBytes s)
+            → (accepted (s ∷ []) ≡ makerAnswer o p (length B)) × (c ≡ bufferAfter o p B)
         unfolding bufferAfter
         maker-made c ec =
             let x = stepsBytes (madeOf o p) in
             let behind : b ≡ written B 3 x = eb ∙ ap (λ (l : List (List (ℕ × ℕ))). written B 3 (stepsBytes l)) steps-are in
             let buffer : c ≡ written B 0 (headBytes s ++ x) =
-            ec ∙ ap (λ (l : List ℕ). written l 0 (headBytes s)) behind ∙ front-written B (headBytes s) x (length-headBytes s) (omega (arith, few, room)) in (
+            ec ∙ ap (λ (l : List ℕ). written l 0 (headBytes s)) behind
+            ∙ front-written B (headBytes s) x (length-headBytes s) (omega (arith, few, room)) in (
               ap (λ (n : ℕ). accepted (n ∷ [])) rule ∙ sym up,
-              buffer
-                  ∙ ap (written B 0) (sym whole)
-                  ∙ sym (ap (λ (a : Answer). leftBy a (timetableRecord (madeOf o p)) B) up),
+              buffer ∙ ap (written B 0) (sym whole) ∙ sym (ap (λ (a : Answer). leftBy a (timetableRecord (madeOf o p)) B) up),
             )

@@ -1,10 +1,11 @@
--- The making rule on document 01's case book, computed ("Case book", cases 1 and 2, and what is printed under "Programs"), and an inhabitant
--- for what each law of the rule assumes.
+-- The making rule on document 01's case book, computed ("Case book", cases 1 and 2, and what is printed under "Programs"), and an
+-- inhabitant for what each law of the rule assumes.
 --
 --     case-1-made       case 1's plan makes the timetable of two steps that "Programs" prints
 --     case-1-turned     so does the same plan with its last two moves the other way round
 --     case-2-made       "moves 1>3 then 0>1 make one step"
---     waiting-made      a rack's first move waits for the step in which its place is left: the case book's cases do not show this half of the rule
+--     waiting-made      a rack's first move waits for the step in which its place is left: the case book's cases do not
+--                       show this half of the rule
 --     none-made         with no moves there is no step
 --     case-1-theorem    the theorem holds of case 1's plan
 --     case-1-bytes      its steps take 8 bytes, of at most 3 × 4
@@ -108,5 +109,7 @@ pub case-1-carrying : StepMoves floorF (0 ∷ 2 ∷ []) ((0, 1) ∷ []) (1 ∷ 2
 unfolding legalMove onFloor joined among isPair occupied vacant afterMove after goesTo
 case-1-carrying =
     let first : StepMoves floorF (0 ∷ 3 ∷ []) ((0, 1) ∷ []) (1 ∷ 3 ∷ []) =
-    joining (stepMoves-none floorF starts) (record { sound = starts-sound; sound-after = starts-sound; legal = tt; rack = 0; is = lit< tt; before = refl; behind = refl }) in
-    carrying first (record { sound = starts-sound; sound-after = sound-1; legal = tt; rack = 1; is = lit< tt; before = refl; behind = refl }) tt
+    joining (stepMoves-none floorF starts)
+    (record { sound = starts-sound; sound-after = starts-sound; legal = tt; rack = 0; is = lit< tt; before = refl; behind = refl }) in
+    carrying first
+    (record { sound = starts-sound; sound-after = sound-1; legal = tt; rack = 1; is = lit< tt; before = refl; behind = refl }) tt

@@ -1,8 +1,8 @@
 -- The timetable so far, as the rule makes it move by move, and that each move joins it lawfully.
 --
 --     arranged A l i      the arrangement that the timed moves l, latest first, make of A up to step i
---     Scheduled F A l B   the steps of l, made in turn from A, are legal and come to B; where a rack of B stands, it has stood since its last step,
---                         and what is vacant in B has been so since the last step in which it was left
+--     Scheduled F A l B   the steps of l, made in turn from A, are legal and come to B; where a rack of B stands, it has stood since its
+--                         last step, and what is vacant in B has been so since the last step in which it was left
 --     scheduled-none      no moves are so scheduled
 --     scheduled-more      a legal move in a step after its rack's last, and not before the last that left the place that it enters, joins
 --     scheduled-leads     the steps from 1 on, sorted, lead from A to B
@@ -32,7 +32,8 @@ use Rattle.motion.proofs.LegalStepLaws.{legalStep-iff}
 use Rattle.motion.specs.StepOf.{sort}
 use Rattle.scheduling.specs.Making.{Timed, ofRack, ofLeaving, greatest, inStep, movesIn, stepsFrom}
 use Rattle.scheduling.proofs.StepMoves.{StepMoves, Stays, stepMoves-none, stepMoves-legal, stepMoves-after, joining, carrying}
-use Rattle.scheduling.proofs.Timing.{ofRack-same, ofRack-other, ofLeaving-same, ofLeaving-other, greatest-most, inStep-same, inStep-other}
+use Rattle.scheduling.proofs.Timing.{ofRack-same, ofRack-other, ofLeaving-same, ofLeaving-other, greatest-most, inStep-same}
+use Rattle.scheduling.proofs.Timing.{inStep-other}
 
 unfoldable pub arranged : Arrangement → List Timed → ℕ → Arrangement
 arranged A [] i = A
@@ -42,7 +43,8 @@ arranged-before : (A : Arrangement) (t : Timed) (l : List Timed) (i : ℕ) → i
 unfolding arranged
 arranged-before A t l i h = rw (lt-leb (t .step) i h)
 
-arranged-from : (A : Arrangement) (t : Timed) (l : List Timed) (i : ℕ) → t .step ≤ i → arranged A (t ∷ l) i ≡ afterMove (arranged A l i) (t .move)
+arranged-from : (A : Arrangement) (t : Timed) (l : List Timed) (i : ℕ) → t .step ≤ i
+    → arranged A (t ∷ l) i ≡ afterMove (arranged A l i) (t .move)
 unfolding arranged
 arranged-from A t l i h = rw (le-leb (t .step) i h)
 
@@ -161,37 +163,37 @@ module _ {F : Floor} {A B : Arrangement} {l : List Timed} (s : Scheduled F A l B
       ⊎-elim
       (λ (e : t .move .0 ≡ p).
       let c : t .step ≤ i = omega (arith, ofLeaving-same t l p e) in
-      rw (arranged-from A t l i c) (subst (λ (x : ℕ). T (vacant (afterMove (arranged A l i) (t .move)) x)) e (left-vacant F (arranged A l i) (t .move) (legal-then i c))))
+      rw (arranged-from A t l i c)
+      (subst (λ (x : ℕ). T (vacant (afterMove (arranged A l i) (t .move)) x)) e
+      (left-vacant F (arranged A l i) (t .move) (legal-then i c))))
       (λ (e : t .move .0 ≢ p).
       let free-end = vacant-racks (afterMove B (t .move)) p .0 v in
       let before : T (vacant B p) =
       vacant-racks B p .1 (λ j h c. free-end j (rw (move-length B (t .move)) h) (moved-other B (t .move) j h (λ d. e (sym d ∙ c)) ∙ c)) in
       let now : T (vacant (arranged A l i) p) = s .vacated i p before (omega (arith, ofLeaving-other t l p e)) in
       arranged-either (λ (C : Arrangement). T (vacant C p)) A t l i
-      (λ k. vacant-move (arranged A l i) (t .move) p now (λ c. free-end r (rw (move-length B (t .move)) is) (moved-rack B (t .move) r is at ∙ c)))
+      (λ k. vacant-move (arranged A l i) (t .move) p now
+      (λ c. free-end r (rw (move-length B (t .move)) is) (moved-rack B (t .move) r is at ∙ c)))
       (λ k. now))
       (equal? (t .move .0) p)
 
   pub scheduled-more : Scheduled F A (t ∷ l) (afterMove B (t .move))
-  scheduled-more =
-      record {
-        steps = more-steps;
-        sound =
-            λ i.
-            arranged-either (Sound (F .positions)) A t l i (λ h. move-sound F (arranged A l i) (t .move) (legal-then i h) (s .sound i)) (λ h. s .sound i);
-        racks =
-            λ i.
-            arranged-either (λ (C : Arrangement). length C ≡ length (afterMove B (t .move))) A t l i
-            (λ h. move-length (arranged A l i) (t .move) ∙ s .racks i ∙ sym (move-length B (t .move)))
-            (λ h. s .racks i ∙ sym (move-length B (t .move)));
-        first = arranged-before A t l 0 (omega arith) ∙ s .first;
-        last =
-            λ i h.
-            arranged-from A t l i (omega (arith, greatest-most t l))
-            ∙ ap (λ (C : Arrangement). afterMove C (t .move)) (s .last i (omega (arith, greatest-most t l)));
-        stood = λ i q h. more-stood i q (rw (move-length B (t .move)) at h);
-        vacated = more-vacated;
-      }
+  scheduled-more = record {
+    steps = more-steps;
+    sound =
+        λ i. arranged-either (Sound (F .positions)) A t l i (λ h. move-sound F (arranged A l i) (t .move) (legal-then i h) (s .sound i))
+        (λ h. s .sound i);
+    racks =
+        λ i. arranged-either (λ (C : Arrangement). length C ≡ length (afterMove B (t .move))) A t l i
+        (λ h. move-length (arranged A l i) (t .move) ∙ s .racks i ∙ sym (move-length B (t .move)))
+        (λ h. s .racks i ∙ sym (move-length B (t .move)));
+    first = arranged-before A t l 0 (omega arith) ∙ s .first;
+    last =
+        λ i h. arranged-from A t l i (omega (arith, greatest-most t l))
+        ∙ ap (λ (C : Arrangement). afterMove C (t .move)) (s .last i (omega (arith, greatest-most t l)));
+    stood = λ i q h. more-stood i q (rw (move-length B (t .move)) at h);
+    vacated = more-vacated;
+  }
 
 module _ {F : Floor} {A B : Arrangement} {l : List Timed} (s : Scheduled F A l B) where
   leads-on : (k i : ℕ) → LeadsSteps F (arranged A l i) (stepsFrom (suc i) k l) (arranged A l (i + k))

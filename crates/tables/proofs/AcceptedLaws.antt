@@ -18,7 +18,8 @@ use Rattle.field.specs.Bits.{field}
 use Rattle.field.proofs.BitLaws.{field-lt}
 use Rattle.field.proofs.RecordLaws.{length-positions, pairs-lt}
 use Rattle.field.proofs.UnitLaws.{or-left, or-right, fitting}
-use Rattle.order.specs.Order.{positionCount, edgeCount, rackCount, floorOf, startsOf, goalsOf, orderOf, some, repeats, wrongPlaces, wrongRacks, wrongLength, unitCount, counts, orderAnswer, WellFormed}
+use Rattle.order.specs.Order.{positionCount, edgeCount, rackCount, floorOf, startsOf, goalsOf, orderOf, some, repeats, wrongPlaces}
+use Rattle.order.specs.Order.{wrongRacks, wrongLength, unitCount, counts, orderAnswer, WellFormed}
 use Rattle.order.proofs.OrderLaws.{right-head, well-formed, accepted-is}
 use Rattle.order.proofs.TailLaws.{tail-room}
 use Rattle.motion.specs.Arrangement.{occupied, vacant}
@@ -43,16 +44,18 @@ some-occupied p (q ∷ l) = rw (eqb-comm p q, some-occupied p l)
 places-isSound : (n : ℕ) (l : List ℕ) → some (leb n) l ≡ false → repeats l ≡ false → T (isSound n l)
 unfolding some repeats isSound vacant
 places-isSound n [] b r = tt
-places-isSound n (p ∷ l) b r =
-    and-parts (ltb p n && vacant l p) (isSound n l) .1 (
-      and-parts (ltb p n) (vacant l p) .1
-          (lt→ltb p n (leb-false n p (or-left (leb n p) (some (leb n) l) b)), rw (← some-occupied p l, or-left (some (eqb p) l) (repeats l) r) tt),
-      places-isSound n l (or-right (leb n p) (some (leb n) l) b) (or-right (some (eqb p) l) (repeats l) r),
-    )
+places-isSound n (p ∷ l) b r = and-parts (ltb p n && vacant l p) (isSound n l) .1 (
+  and-parts (ltb p n) (vacant l p) .1 (
+    lt→ltb p n (leb-false n p (or-left (leb n p) (some (leb n) l) b)),
+    rw (← some-occupied p l, or-left (some (eqb p) l) (repeats l) r) tt,
+  ),
+  places-isSound n l (or-right (leb n p) (some (leb n) l) b) (or-right (some (eqb p) l) (repeats l) r),
+)
 
 pub places-sound : (n : ℕ) (l : List ℕ) → wrongPlaces n l ≡ false → Sound n l
 unfolding wrongPlaces
-places-sound n l w = isSound-sound n l .0 (places-isSound n l (or-left (some (leb n) l) (repeats l) w) (or-right (some (leb n) l) (repeats l) w))
+places-sound n l w =
+    isSound-sound n l .0 (places-isSound n l (or-left (some (leb n) l) (repeats l) w) (or-right (some (leb n) l) (repeats l) w))
 
 module _ (o : List ℕ) (w : WellFormed o) where
   few : positionCount o ≤ 64

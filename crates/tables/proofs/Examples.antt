@@ -1,4 +1,5 @@
--- The hypotheses of the laws of tables hold of something: the case book's floor F (n = 4, edges 0-1, 0-2, 1-2, 1-3, 2-3) with racks at 0 and 3.
+-- The hypotheses of the laws of tables hold of something: the case book's floor F (n = 4, edges 0-1, 0-2, 1-2, 1-3,
+-- 2-3) with racks at 0 and 3.
 --
 --     starts-held, move-held      its starts are held by the table that they fill, and after the move 0>1 by that table moved
 --     edge-there, none-there      an edge of F in its matrix, and a pair that no edge joins
@@ -36,7 +37,8 @@ move-held = moved-holds 4 starts (placed (replicate 64 0) 1 starts) (lit≤ tt) 
 
 edges-small : BelowPairs 64 (floorF .edges)
 edges-small =
-    more₂ (lit< tt) (lit< tt) (more₂ (lit< tt) (lit< tt) (more₂ (lit< tt) (lit< tt) (more₂ (lit< tt) (lit< tt) (more₂ (lit< tt) (lit< tt) none₂))))
+    more₂ (lit< tt) (lit< tt)
+    (more₂ (lit< tt) (lit< tt) (more₂ (lit< tt) (lit< tt) (more₂ (lit< tt) (lit< tt) (more₂ (lit< tt) (lit< tt) none₂))))
 
 edge-there : edgeAt (marked (replicate 4096 0) (floorF .edges)) (3, 1) ≡ true
 unfolding joined among isPair

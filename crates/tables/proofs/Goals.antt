@@ -27,7 +27,8 @@ module _ (s : List ℕ) (from m : ℕ) (h : List ℕ) where
   left-first = rw (add-zero from, sub-zero m) refl
 
   module _ (i p w : ℕ) (left : Left i) (k : i < m) (e : p ≡ field s (6 * (from + i)) 6) (here : w ≡ getD h p 0) where
-    next : cond (eqb w (suc i)) (misplacedOn (suc (suc i)) h (positions s (6 * (from + (i + 1))) (m - (i + 1)))) (suc i) ≡ misplacedOn 1 h (positions s (6 * from) m)
+    next : cond (eqb w (suc i)) (misplacedOn (suc (suc i)) h (positions s (6 * (from + (i + 1))) (m - (i + 1)))) (suc i)
+        ≡ misplacedOn 1 h (positions s (6 * from) m)
     unfolding Left misplacedOn
     next = rw (here, e) (ap (misplacedOn (suc i) h) (sym (positions-next s from i m k)) ∙ left)
 

@@ -30,7 +30,8 @@ use Rattle.tables.proofs.TableLaws.{passed, failed, zeros-at}
 same-place : (a b x y : ℕ) → b < 64 → y < 64 → a * 64 + b ≡ x * 64 + y → (a ≡ x) × (b ≡ y)
 same-place a b x y h k e = (omega arith, omega arith)
 
-edge-set : (g : List ℕ) (a b x y : ℕ) → b < 64 → y < 64 → x * 64 + y < length g → edgeAt (set g (x * 64 + y) 1) (a, b) ≡ (isPair (a, b) (x, y) || edgeAt g (a, b))
+edge-set : (g : List ℕ) (a b x y : ℕ) → b < 64 → y < 64 → x * 64 + y < length g
+    → edgeAt (set g (x * 64 + y) 1) (a, b) ≡ (isPair (a, b) (x, y) || edgeAt g (a, b))
 unfolding edgeAt isPair
 edge-set g a b x y h k room =
     ⊎-elim
@@ -82,7 +83,8 @@ none-there : (m : ℕ × ℕ) → edgeAt (replicate 4096 0) m ≡ false
 unfolding edgeAt
 none-there m = rw (zeros-at 4096 (m .0 * 64 + m .1))
 
-pub matrix-joined : (F : Floor) (a b : ℕ) → BelowPairs 64 (F .edges) → a < 64 → b < 64 → edgeAt (marked (replicate 4096 0) (F .edges)) (a, b) ≡ joined F a b
+pub matrix-joined : (F : Floor) (a b : ℕ) → BelowPairs 64 (F .edges) → a < 64 → b < 64
+    → edgeAt (marked (replicate 4096 0) (F .edges)) (a, b) ≡ joined F a b
 unfolding joined
 matrix-joined F a b r h k =
     marked-edges (replicate 4096 0) (F .edges) a b (length-replicate {A = ℕ} 4096 0) r h k
@@ -92,7 +94,8 @@ module _ (F : Floor) (right : wrongEdges F ≡ false) (a b : ℕ) where
   pub joined-below : T (joined F a b) → (a < F .positions) × (b < F .positions)
   unfolding joined wrongEdges
   joined-below t =
-      let good : some (badEdge (F .positions)) (F .edges) ≡ false = or-left (some (badEdge (F .positions)) (F .edges)) (not (ascending (F .edges))) right in
+      let good : some (badEdge (F .positions)) (F .edges) ≡ false =
+      or-left (some (badEdge (F .positions)) (F .edges)) (not (ascending (F .edges))) right in
       ⊎-elim
       (λ (u : T (among (a, b) (F .edges))).
       let v = good-among (F .positions) (a, b) (F .edges) good (passed (among (a, b) (F .edges)) u) in

@@ -69,8 +69,11 @@ module _ (F : Floor) (few : F .positions ≤ 64) (below : BelowPairs 64 (F .edge
       → Kept (F .positions) k (afterMove A m) (movedOn h m)
   kept-on k A h m r p z =
       let l : T (legalMove F A m) = rw (moveFault-none F A m) at z in
-      let t = legal-parts F A m .0 l in
-      (move-sound F A m l (r .0), moved-holds (F .positions) A h few (r .0) (r .1) m (t .1) (t .2) (onFloor-parts F m .0 (t .0) .1), move-length A m ∙ r .2)
+      let t = legal-parts F A m .0 l in (
+        move-sound F A m l (r .0),
+        moved-holds (F .positions) A h few (r .0) (r .1) m (t .1) (t .2) (onFloor-parts F m .0 (t .0) .1),
+        move-length A m ∙ r .2,
+      )
 
   module _ (A : Arrangement) (s : Sound (F .positions) A) {ms : List (ℕ × ℕ)} (small : BelowPairs 64 ms) where
     pub moves-alike : Alike (Kept (F .positions) (length A)) (replayMoves F A ms) (replayOn (matrixOf F) (tableOf A) ms)

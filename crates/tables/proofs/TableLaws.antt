@@ -55,9 +55,9 @@ module _ (A : Arrangement) (h : List ℕ) (holds : Holds A h) where
   pub held-rack : (i g : ℕ) → i < length A → eqb (getD h g 0) (suc i) ≡ eqb (getD A i 0) g
   held-rack i g k =
       ⊎-elim
-      (λ (e : getD A i 0 ≡ g). rw (eq-eqb (getD A i 0) g e) (eq-eqb (getD h g 0) (suc i) (ap (λ (q : ℕ). getD h q 0) (sym e) ∙ holds .racks i k)))
-      (λ (d : getD A i 0 ≢ g). rw (ne-eqb (getD A i 0) g d) (ne-eqb (getD h g 0) (suc i) (λ e. d (only e))))
-      (equal? (getD A i 0) g)
+      (λ (e : getD A i 0 ≡ g). rw (eq-eqb (getD A i 0) g e)
+      (eq-eqb (getD h g 0) (suc i) (ap (λ (q : ℕ). getD h q 0) (sym e) ∙ holds .racks i k)))
+      (λ (d : getD A i 0 ≢ g). rw (ne-eqb (getD A i 0) g d) (ne-eqb (getD h g 0) (suc i) (λ e. d (only e)))) (equal? (getD A i 0) g)
     where
       only : getD h g 0 ≡ suc i → getD A i 0 ≡ g
       only e =
@@ -84,7 +84,8 @@ placed-other h r (q ∷ A) p v =
     placed-other (set h q r) (r + 1) A p (vacant-racks A p .1 (λ i k. away (suc i) (omega arith)))
     ∙ getD-set-other h q p r 0 (λ e. away 0 (omega arith) (sym e))
 
-placed-rack : (n : ℕ) (h : List ℕ) (r : ℕ) (A : Arrangement) → n ≤ length h → T (isSound n A) → (i : ℕ) → i < length A → getD (placed h r A) (getD A i 0) 0 ≡ r + i
+placed-rack : (n : ℕ) (h : List ℕ) (r : ℕ) (A : Arrangement) → n ≤ length h → T (isSound n A) → (i : ℕ) → i < length A
+    → getD (placed h r A) (getD A i 0) 0 ≡ r + i
 unfolding placed isSound
 placed-rack n h r [] f s i k = absurd (omega arith)
 placed-rack n h r (q ∷ A) f s zero k =
@@ -112,7 +113,8 @@ placed-holds n A f s =
     }
 
 -- a move made on the table
-module _ (n : ℕ) (A : Arrangement) (h : List ℕ) (few : n ≤ 64) (s : Sound n A) (holds : Holds A h) (m : ℕ × ℕ) (o : T (occupied A (m .0))) (v : T (vacant A (m .1))) (below : m .1 < n) where
+module _ (n : ℕ) (A : Arrangement) (h : List ℕ) (few : n ≤ 64) (s : Sound n A) (holds : Holds A h) (m : ℕ × ℕ)
+    (o : T (occupied A (m .0))) (v : T (vacant A (m .1))) (below : m .1 < n) where
   the-rack : (i : ℕ) × (i < length A) × (getD A i 0 ≡ m .0)
   the-rack = occupied-rack A (m .0) .0 o
 
@@ -171,7 +173,8 @@ module _ (n : ℕ) (A : Arrangement) (h : List ℕ) (few : n ≤ 64) (s : Sound 
       }
 
 -- racks r, r + 1, .. at the positions A, goals G
-misplaced-from : (h : List ℕ) (r : ℕ) (A G : List ℕ) → length G ≡ length A → ((i g : ℕ) → i < length A → eqb (getD h g 0) (r + i) ≡ eqb (getD A i 0) g) → misplacedOn r h G ≡ misplaced r A G
+misplaced-from : (h : List ℕ) (r : ℕ) (A G : List ℕ) → length G ≡ length A
+    → ((i g : ℕ) → i < length A → eqb (getD h g 0) (r + i) ≡ eqb (getD A i 0) g) → misplacedOn r h G ≡ misplaced r A G
 unfolding misplacedOn misplaced
 misplaced-from h r [] [] l same = refl
 misplaced-from h r [] (g ∷ G) l same = absurd (omega arith)

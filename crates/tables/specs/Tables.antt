@@ -6,7 +6,8 @@
 --     entriesFault e l t       a move's fault by what the tables have: e for its edge, l where it leaves, t where it enters
 --     moveFaultOn g h m        the fault of the move m by the matrix g and the table h
 --     movedOn h m              the table h after the move m
---     misplacedOn r h G        by the table h, the lowest rack that does not stand at its goal, where G begins with rack r's; 0 where each does
+--     misplacedOn r h G        by the table h, the lowest rack that does not stand at its goal, where G begins with
+--                              rack r's; 0 where each does
 --     MisplacedOn h G m r      r is that rack, where the goals G are those of racks 1 to m, so that it is at most m
 --     judgedOn l G counts x    the answer for a replay on tables that ended as x, as Judgement has it for arrangements
 -- Assumes nothing.

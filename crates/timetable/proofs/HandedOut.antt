@@ -35,7 +35,8 @@ module _ (s : List ℕ) (i : ℕ) where
   number-gave v e =
       let above = refuse (eqb i 0 || ltb (stepCount s) i) 45 0 (readingAnswer s) in
       let below = passUp-low (readingAnswer s) above v e in
-      let right : (eqb i 0 || ltb (stepCount s) i) ≡ false = refuse-not _ 45 0 (readingAnswer s) v (passUp-high (readingAnswer s) above v e) in
+      let right : (eqb i 0 || ltb (stepCount s) i) ≡ false =
+      refuse-not _ 45 0 (readingAnswer s) v (passUp-high (readingAnswer s) above v e) in
       let some : (i ≡ 0 → ⊥) = eqb-false i 0 (or-left (eqb i 0) (ltb (stepCount s) i) right) in
       record {
         length-right = well-packed s (below .0) (below .1) .length-right;
@@ -91,5 +92,6 @@ module _ (s : List ℕ) (i : ℕ) where
     pub given-some : 1 ≤ length (partGiven s i)
     unfolding partGiven
     given-some =
-        let size : length (partGiven s i) ≡ stepLength (getD s at 0) = ap (λ (b : Answer). length (givenBy b (stepPart s i))) e ∙ ap length part-is ∙ length-partAt s at fits in
+        let size : length (partGiven s i) ≡ stepLength (getD s at 0) =
+        ap (λ (b : Answer). length (givenBy b (stepPart s i))) e ∙ ap length part-is ∙ length-partAt s at fits in
         omega (arith, size, stepLength-some (getD s at 0))

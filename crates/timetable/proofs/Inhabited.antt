@@ -34,7 +34,9 @@ use Rattle.field.proofs.WholeBytes.{below-each}
 use Rattle.field.specs.Units.{recordLength, misfits, unclean}
 use Rattle.field.specs.Front.{wholeLength}
 use Rattle.order.specs.Floor.{isPair, among, joined}
-use Rattle.order.specs.Order.{positionCount, edgeCount, rackCount, unitCount, floorOf, startsOf, goalsOf, orderOf, wrongLength, wrongPositions, paddingSet, some, badEdge, precedes, ascending, wrongEdges, repeats, wrongPlaces, wrongRacks, counts, orderAnswer, WellFormed}
+use Rattle.order.specs.Order.{positionCount, edgeCount, rackCount, unitCount, floorOf, startsOf, goalsOf, orderOf, wrongLength}
+use Rattle.order.specs.Order.{wrongPositions, paddingSet, some, badEdge, precedes, ascending, wrongEdges, repeats, wrongPlaces, wrongRacks}
+use Rattle.order.specs.Order.{counts, orderAnswer, WellFormed}
 use Rattle.motion.specs.Arrangement.{occupied, vacant}
 use Rattle.motion.specs.Move.{onFloor, goesTo, after}
 use Rattle.motion.specs.Step.{every, ascends, leaves, enters, enteredOnce, led, legalStep}
@@ -43,7 +45,9 @@ use Rattle.motion.proofs.StepDecision.{by-test, legalStep?}
 use Rattle.motion.specs.Judgement.{misplaced, judged}
 use Rattle.motion.specs.StepOf.{moved, insert, sort, stepOf}
 use Rattle.motion.specs.StepSolutions.{stepsThrough, stepsBetween}
-use Rattle.timetable.specs.Timetable.{stepBits, allStepBits, timetableBits, timetableRecord, stepLength, stepCount, wrongSteps, stepParts, partsOf, wrongTimetableLength, stepPadSet, timetablePaddingSet, stepMoves, stepsOf, total, timetableAnswer, lengthOf, offset, stepPart, stepAnswer}
+use Rattle.timetable.specs.Timetable.{stepBits, allStepBits, timetableBits, timetableRecord, stepLength, stepCount, wrongSteps}
+use Rattle.timetable.specs.Timetable.{stepParts, partsOf, wrongTimetableLength, stepPadSet, timetablePaddingSet, stepMoves, stepsOf}
+use Rattle.timetable.specs.Timetable.{total, timetableAnswer, lengthOf, offset, stepPart, stepAnswer}
 use Rattle.timetable.specs.Reading.{readingAnswer, WellPacked, moveTotal, partGiven, placeGiven}
 use Rattle.timetable.proofs.ReadingLaws.{Stands, stands-at}
 use Rattle.timetable.specs.RecordLength.{stepsLength, timetableLength, wholeTimetableLength}
@@ -94,7 +98,8 @@ packed₁ = record { length-right = refl; padding-clear = refl }
 pub length₁ : (rest : List ℕ) → wholeTimetableLength (timetable₁ ++ rest) ≡ 11
 length₁ rest = timetable-length-found (timetable₁ ++ rest) .only timetable₁ rest refl (packed₁ .length-right)
 
-pub cut₁ : (wholeTimetableLength (take 10 timetable₁) ≡ 0) × (wholeTimetableLength (take 7 timetable₁) ≡ 0) × (wholeTimetableLength (take 2 timetable₁) ≡ 0)
+pub cut₁ : (wholeTimetableLength (take 10 timetable₁) ≡ 0) × (wholeTimetableLength (take 7 timetable₁) ≡ 0)
+    × (wholeTimetableLength (take 2 timetable₁) ≡ 0)
 unfolding wholeTimetableLength wholeLength timetableLength stepsLength stepLength stepCount field number bitsOf bits
 cut₁ = (refl, refl, refl)
 
@@ -107,7 +112,11 @@ second-stands = stands-at timetable₁ (packed₁ .length-right) 1 (lit≤ tt)
 
 pub second-part : Part (0x02 ∷ 0x04 ∷ 0x30 ∷ 0x80 ∷ [])
 unfolding stepLength stepPadSet pad field number bitsOf bits
-second-part = record { bytes-are = more (lit< tt) (more (lit< tt) (more (lit< tt) (more (lit< tt) none))); length-is = refl; pad-clear = refl }
+second-part = record {
+  bytes-are = more (lit< tt) (more (lit< tt) (more (lit< tt) (more (lit< tt) none)));
+  length-is = refl;
+  pad-clear = refl;
+}
 
 pub reading₁ : readingAnswer timetable₁ ≡ accepted (2 ∷ 4 ∷ [])
 unfolding readingAnswer total wrongTimetableLength timetablePaddingSet wrongSteps some stepPadSet pad partsOf stepParts stepLength
@@ -202,11 +211,11 @@ abbrev pub swapTimetable : List ℕ
 swapTimetable = 0x00 ∷ 0x00 ∷ 0x04 ∷ 0x02 ∷ 0x00 ∷ 0x10 ∷ 0x40 ∷ []
 
 unfoldable pub timetable-open : List ℕ → List ℕ → Answer
-unfolding timetableAnswer judged misplaced replaySteps replayFrom stepFault unlessLegal legalStep? by-test legalStep every ascends leaves enters enteredOnce led
-    occupied vacant onFloor goesTo after joined among isPair orderAnswer counts wrongRacks wrongPlaces repeats wrongEdges ascending
-    precedes badEdge paddingSet wrongPositions wrongLength unitCount floorOf startsOf goalsOf orderOf positionCount edgeCount rackCount
-    unclean misfits recordLength positions total stepsOf stepMoves pairs wrongTimetableLength timetablePaddingSet wrongSteps some
-    stepPadSet pad partsOf stepParts stepLength stepCount field number bitsOf bits
+unfolding timetableAnswer judged misplaced replaySteps replayFrom stepFault unlessLegal legalStep? by-test legalStep every ascends
+    leaves enters enteredOnce led occupied vacant onFloor goesTo after joined among isPair orderAnswer counts wrongRacks wrongPlaces repeats
+    wrongEdges ascending precedes badEdge paddingSet wrongPositions wrongLength unitCount floorOf startsOf goalsOf orderOf positionCount
+    edgeCount rackCount unclean misfits recordLength positions total stepsOf stepMoves pairs wrongTimetableLength timetablePaddingSet
+    wrongSteps some stepPadSet pad partsOf stepParts stepLength stepCount field number bitsOf bits
 timetable-open o s = timetableAnswer o s
 
 pub answer₁ : timetableAnswer order₁ timetable₁ ≡ accepted (2 ∷ 4 ∷ [])
@@ -227,8 +236,8 @@ unfolding trace after goesTo startsOf edgeCount rackCount positions stepsOf step
 solution₁ = replayed₁ .solution
 
 pub accepted₁ : AcceptedTimetable order₁ timetable₁ (2 ∷ 4 ∷ [])
-unfolding stepsBetween stepsThrough stepOf sort insert moved moveTotal timetableRecord timetableBits allStepBits stepBits pairBits padded pad
-    toBytes bytes number bits
+unfolding stepsBetween stepsThrough stepOf sort insert moved moveTotal timetableRecord timetableBits allStepBits stepBits pairBits
+    padded pad toBytes bytes number bits
 accepted₁ =
     record {
       order-right = well-formed₁;

@@ -79,9 +79,14 @@ module _ (o : List ℕ) (n e m : ℕ) (gave : OrderGave o n e m) (s : List ℕ) 
       (steps ∷ moves ∷ []) b
 
 -- a refusal below is the answer above
-pub order-turned-down : (o s : List ℕ) (below r : Answer) (number place : ℕ) → below ≡ orderAnswer o → below ≡ refused number place → r ≡ passUp below (accepted (0 ∷ 0 ∷ [])) → r ≡ timetableAnswer o s
-order-turned-down o s below r = order-refused (timetableAnswer o s) (orderAnswer o) (readingAnswer s) (judgement o s) (timetableAnswer-is o s) below r (accepted (0 ∷ 0 ∷ []))
+pub order-turned-down : (o s : List ℕ) (below r : Answer) (number place : ℕ) → below ≡ orderAnswer o → below ≡ refused number place
+    → r ≡ passUp below (accepted (0 ∷ 0 ∷ [])) → r ≡ timetableAnswer o s
+order-turned-down o s below r =
+    order-refused (timetableAnswer o s) (orderAnswer o) (readingAnswer s) (judgement o s) (timetableAnswer-is o s) below r
+    (accepted (0 ∷ 0 ∷ []))
 
-pub reading-turned-down : (o s v : List ℕ) (below r : Answer) (number place : ℕ) → accepted v ≡ orderAnswer o → below ≡ readingAnswer s → below ≡ refused number place → r ≡ passUp below (accepted (0 ∷ 0 ∷ [])) → r ≡ timetableAnswer o s
+pub reading-turned-down : (o s v : List ℕ) (below r : Answer) (number place : ℕ) → accepted v ≡ orderAnswer o → below ≡ readingAnswer s
+    → below ≡ refused number place → r ≡ passUp below (accepted (0 ∷ 0 ∷ [])) → r ≡ timetableAnswer o s
 reading-turned-down o s v below r number place a =
-    record-refused (timetableAnswer o s) (orderAnswer o) (readingAnswer s) (judgement o s) (timetableAnswer-is o s) v a below r (accepted (0 ∷ 0 ∷ [])) number place
+    record-refused (timetableAnswer o s) (orderAnswer o) (readingAnswer s) (judgement o s) (timetableAnswer-is o s) v a below r
+    (accepted (0 ∷ 0 ∷ [])) number place

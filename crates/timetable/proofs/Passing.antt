@@ -31,7 +31,8 @@ module _ (s : List ℕ) (k : ℕ) where
 
   module _ (i at : ℕ) (p : Passing s k i at) where
     module _ (h : i < k) where
-      next-is : stepsLength (k - i) (drop at s) ≡ stepLength (getD s at 0) + stepsLength (k - (i + 1)) (drop (at + stepLength (getD s at 0)) s)
+      next-is : stepsLength (k - i) (drop at s)
+          ≡ stepLength (getD s at 0) + stepsLength (k - (i + 1)) (drop (at + stepLength (getD s at 0)) s)
       unfolding stepsLength
       next-is =
           let more : k - i ≡ suc (k - (i + 1)) = omega arith in

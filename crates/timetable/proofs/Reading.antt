@@ -2,7 +2,8 @@
 --
 --     pad-room, pad-there, pad-clear    the pad of a step, read from the part that begins at its second byte
 --     remembered, kept              whether a pad bit was set, after one more step
---     Left s k at moves seen i    the loop over the k steps of s, before step i + 1, which begins at byte `at`: what is left to judge decides
+--     Left s k at moves seen i    the loop over the k steps of s, before step i + 1, which begins at byte `at`: what
+--                                 is left to judge decides
 --     left-first, left-next, left-none    how the loop begins, goes on and ends
 --     past, runs-past, left-over    40, where a step begins or ends past the end, and where bytes are left over
 --     part-length                   the part that is cut out is as long as its count byte says
@@ -24,9 +25,11 @@ use Rattle.field.specs.Bits.{field, pad}
 use Rattle.field.proofs.BitLaws.{field-drop}
 use Rattle.field.proofs.RecordLaws.{rest-is, up-to-byte}
 use Rattle.order.specs.Order.{some}
-use Rattle.timetable.specs.Timetable.{stepLength, wrongSteps, stepParts, stepPadSet, total, partsOf, stepCount, wrongTimetableLength, timetablePaddingSet}
+use Rattle.timetable.specs.Timetable.{stepLength, wrongSteps, stepParts, stepPadSet, total, partsOf, stepCount, wrongTimetableLength}
+use Rattle.timetable.specs.Timetable.{timetablePaddingSet}
 use Rattle.timetable.specs.Reading.{stepsAnswer, readingAnswer}
-use Rattle.timetable.proofs.StepLaws.{partAt, nextAt, parts-next, parts-none, Room, wrong-past, wrong-short, wrong-next, wrong-left, right-end, head-partAt, cut-is, cut-length}
+use Rattle.timetable.proofs.StepLaws.{partAt, nextAt, parts-next, parts-none, Room, wrong-past, wrong-short, wrong-next, wrong-left}
+use Rattle.timetable.proofs.StepLaws.{right-end, head-partAt, cut-is, cut-length}
 
 module _ (p : List ℕ) (e : length p ≡ stepLength (getD p 0 0)) where
   pub pad-room : (c : ℕ) → c ≡ getD p 0 0 → 6 * (2 * c) + pad (6 * (2 * c)) ≤ 8 * length (take (length p - 1) (drop 1 p))
@@ -99,7 +102,8 @@ module _ (s : List ℕ) (k : ℕ) where
           pub part-length : length (take (at + n - at) (drop at s)) ≡ stepLength (getD (take (at + n - at) (drop at s)) 0 0)
           part-length = cut-length s at n size-is room-there
 
-          pub left-next : (set : Bool) → set ≡ (seen || stepPadSet (take (at + n - at) (drop at s))) → Left s k (at + n) (moves + c) set (i + 1)
+          pub left-next : (set : Bool) → set ≡ (seen || stepPadSet (take (at + n - at) (drop at s)))
+              → Left s k (at + n) (moves + c) set (i + 1)
           unfolding total some
           left-next set e = record {
             wrong-same = rw next-is (sym (wrong-next s at i k h room-there) ∙ left .wrong-same);
@@ -135,7 +139,8 @@ module _ (s : List ℕ) (k : ℕ) where
 
 -- 40 and 41 of the whole record, above those of its steps
 reading-is : (s : List ℕ) → 3 ≤ length s
-    → readingAnswer s ≡ passUp (stepsAnswer (stepCount s) (drop 3 s)) (refuse (not (eqb (field s 22 2) 0)) 41 0 (stepsAnswer (stepCount s) (drop 3 s)))
+    → readingAnswer s
+    ≡ passUp (stepsAnswer (stepCount s) (drop 3 s)) (refuse (not (eqb (field s 22 2) 0)) 41 0 (stepsAnswer (stepCount s) (drop 3 s)))
 unfolding readingAnswer stepsAnswer wrongTimetableLength timetablePaddingSet partsOf
 reading-is s h =
     rw (le-ltb (length s) 3 h)

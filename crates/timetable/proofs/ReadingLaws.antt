@@ -32,9 +32,11 @@ use Rattle.order.specs.Order.{orderAnswer, floorOf, startsOf, goalsOf}
 use Rattle.motion.specs.Replay.{replaySteps}
 use Rattle.motion.proofs.StepDecision.{legalStep?}
 use Rattle.motion.specs.Judgement.{judged}
-use Rattle.timetable.specs.Timetable.{wrongSteps, stepParts, partsOf, stepMoves, stepsOf, stepCount, total, wrongTimetableLength, timetablePaddingSet, timetableAnswer, lengthOf, offset, stepPart, stepAnswer}
+use Rattle.timetable.specs.Timetable.{wrongSteps, stepParts, partsOf, stepMoves, stepsOf, stepCount, total, wrongTimetableLength}
+use Rattle.timetable.specs.Timetable.{timetablePaddingSet, timetableAnswer, lengthOf, offset, stepPart, stepAnswer}
 use Rattle.timetable.specs.Reading.{readingAnswer, WellPacked, moveTotal, numberAnswer}
-use Rattle.timetable.proofs.StepLaws.{partAt, nextAt, parts-next, length-parts, Room, room, wrong-next, all-taken, length-partAt, length-moves}
+use Rattle.timetable.proofs.StepLaws.{partAt, nextAt, parts-next, length-parts, Room, room, wrong-next, all-taken, length-partAt}
+use Rattle.timetable.proofs.StepLaws.{length-moves}
 
 pub reading-accepted : (s : List ℕ) → WellPacked s → readingAnswer s ≡ accepted (stepCount s ∷ total (partsOf s) ∷ [])
 unfolding readingAnswer
@@ -47,7 +49,8 @@ module _ (s : List ℕ) (v : List ℕ) (e : readingAnswer s ≡ accepted v) wher
       let rest = refuse (timetablePaddingSet s) 41 0 (accepted (stepCount s ∷ total (partsOf s) ∷ [])) in
       record {
         length-right = refuse-not (wrongTimetableLength s) 40 0 rest v e;
-        padding-clear = refuse-not (timetablePaddingSet s) 41 0 (accepted (stepCount s ∷ total (partsOf s) ∷ [])) v (refuse-else (wrongTimetableLength s) 40 0 rest v e);
+        padding-clear = refuse-not (timetablePaddingSet s) 41 0 (accepted (stepCount s ∷ total (partsOf s) ∷ [])) v
+            (refuse-else (wrongTimetableLength s) 40 0 rest v e);
       }
 
   pub reading-gave : accepted (stepCount s ∷ total (partsOf s) ∷ []) ≡ accepted v
@@ -72,16 +75,19 @@ pub timetableAnswer-is : (o s : List ℕ)
     (passUp (readingAnswer s)
     (judged 43 (goalsOf o) (stepCount s ∷ total (partsOf s) ∷ []) (replaySteps (legalStep? (floorOf o)) (startsOf o) (stepsOf s))))
 unfolding timetableAnswer readingAnswer
-timetableAnswer-is o s = ap (passUp (orderAnswer o)) (chain (wrongTimetableLength s) (timetablePaddingSet s) (stepCount s ∷ total (partsOf s) ∷ []) _)
+timetableAnswer-is o s =
+    ap (passUp (orderAnswer o)) (chain (wrongTimetableLength s) (timetablePaddingSet s) (stepCount s ∷ total (partsOf s) ∷ []) _)
   where
-    chain : (a b : Bool) (v : List ℕ) (rest : Answer) → refuse a 40 0 (refuse b 41 0 rest) ≡ passUp (refuse a 40 0 (refuse b 41 0 (accepted v))) rest
+    chain : (a b : Bool) (v : List ℕ) (rest : Answer)
+        → refuse a 40 0 (refuse b 41 0 rest) ≡ passUp (refuse a 40 0 (refuse b 41 0 (accepted v))) rest
     chain true b v rest = refl
     chain false true v rest = refl
     chain false false v rest = refl
 
 pub stepAnswer-is : (s : List ℕ) (i : ℕ) → stepAnswer s i ≡ passUp (numberAnswer s i) (accepted (offset s i ∷ length (stepPart s i) ∷ []))
 unfolding stepAnswer numberAnswer readingAnswer
-stepAnswer-is s i = chain (wrongTimetableLength s) (timetablePaddingSet s) (eqb i 0 || ltb (stepCount s) i) (stepCount s ∷ total (partsOf s) ∷ []) _
+stepAnswer-is s i =
+    chain (wrongTimetableLength s) (timetablePaddingSet s) (eqb i 0 || ltb (stepCount s) i) (stepCount s ∷ total (partsOf s) ∷ []) _
   where
     chain : (a b d : Bool) (v : List ℕ) (rest : Answer)
         → refuse a 40 0 (refuse b 41 0 (refuse d 45 0 rest))

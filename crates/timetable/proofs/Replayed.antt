@@ -1,8 +1,8 @@
 -- Accepted timetables and the solutions of Surynek's Definition 2, by the arrangements that a replay passes through.
 --
 --     arrangements o s          the arrangements that the replay of the timetable s for the order o passes through
---     ReplayedTimetable o s v   what acceptance of the timetable s for the order o with the counts v means: 10 to 14, 40 and 41 pass both, v
---                               is the count of steps and of moves, the arrangements of the replay are a solution with as many steps, and
+--     ReplayedTimetable o s v   what acceptance of the timetable s for the order o with the counts v means: 10 to 14, 40 and 41 pass both,
+--                               v is the count of steps and of moves, the arrangements of the replay are a solution with as many steps, and
 --                               each step lists exactly the moves from one arrangement to the next
 --     OnlyTimetable o ζ S       exactly one accepted byte string has the arrangements S as its replay, and it is accepted with ζ steps
 --     the-steps, accepted-record, only-timetable    the steps of a solution; of fewer than 2^22 of them the record is accepted, and is the
@@ -39,7 +39,8 @@ use Rattle.tables.proofs.AcceptedLaws.{well-placed}
 use Rattle.timetable.specs.Timetable.{timetableRecord, stepCount, partsOf, stepsOf, total, timetableAnswer}
 use Rattle.timetable.specs.Reading.{readingAnswer, WellPacked, moveTotal}
 use Rattle.timetable.proofs.ReadingLaws.{well-packed, reading-accepted, count-steps, total-moves, timetableAnswer-is}
-use Rattle.timetable.proofs.TimetableRecord.{Steps, no-steps, one-step, Packable, record-bytes, stepsOf-record, record-well-packed, record-only}
+use Rattle.timetable.proofs.TimetableRecord.{Steps, no-steps, one-step, Packable, record-bytes, stepsOf-record, record-well-packed}
+use Rattle.timetable.proofs.TimetableRecord.{record-only}
 use Rattle.timetable.specs.Solutions.{SolutionOf}
 
 -- the starts and the last included
@@ -75,13 +76,18 @@ module _ (o s v : List ℕ) where
   -- what 42 and 43 leave, for an order that 10 to 14 pass
   judged-solution : WellFormed o
       → (judgement ≡ accepted v)
-      ↔ ((stepCount s ∷ total (partsOf s) ∷ [] ≡ v) × SolutionOf o (stepCount s) (arrangements o s) × (stepsOf s ≡ stepsBetween (arrangements o s)))
+      ↔ ((stepCount s ∷ total (partsOf s) ∷ [] ≡ v) × SolutionOf o (stepCount s) (arrangements o s)
+      × (stepsOf s ≡ stepsBetween (arrangements o s)))
   judged-solution w =
       let g = well-placed o w in
-      let same : (A : Arrangement) → outcome ≡ ended A → length A ≡ length (goalsOf o) = λ A e. steps-length (floorOf o) (replaySteps-ended (floorOf o) (startsOf o) (stepsOf s) A .0 e) ∙ g .starts-length ∙ sym (g .goals-length) in
+      let same : (A : Arrangement) → outcome ≡ ended A → length A ≡ length (goalsOf o) =
+      λ A e. steps-length (floorOf o) (replaySteps-ended (floorOf o) (startsOf o) (stepsOf s) A .0 e) ∙ g .starts-length
+      ∙ sym (g .goals-length) in
       let by = judged-accepted 43 (goalsOf o) (stepCount s ∷ total (partsOf s) ∷ []) v outcome same in
       let solved = solutions-iff (floorOf o) (rackCount o) (startsOf o) (goalsOf o) (g .task .initial) (stepsOf s) (arrangements o s) in (
-        λ a. let t = solved .0 (by .0 a .0, refl) in (by .0 a .1, subst (λ (k : ℕ). SolutionOf o k (arrangements o s)) (count-steps s) (t .0), t .1),
+        λ a.
+            let t = solved .0 (by .0 a .0, refl) in
+            (by .0 a .1, subst (λ (k : ℕ). SolutionOf o k (arrangements o s)) (count-steps s) (t .0), t .1),
         λ t. by .1 (solved .1 (subst (λ (k : ℕ). SolutionOf o k (arrangements o s)) (sym (count-steps s)) (t .1), t .2) .0, t .0),
       )
 
@@ -111,7 +117,8 @@ module _ (o s v : List ℕ) where
 -- moves of which each is on the floor have positions below 64
 all-below : (ms : List (ℕ × ℕ)) → ((m : ℕ × ℕ) → List·Memᴰ m ms → (m .0 < 64) × (m .1 < 64)) → BelowPairs 64 ms
 all-below [] f = none₂
-all-below (m ∷ ms) f = more₂ {p = m} (f m (List·Memᴰ·head refl) .0) (f m (List·Memᴰ·head refl) .1) (all-below ms (λ x k. f x (List·Memᴰ·tail k)))
+all-below (m ∷ ms) f =
+    more₂ {p = m} (f m (List·Memᴰ·head refl) .0) (f m (List·Memᴰ·head refl) .1) (all-below ms (λ x k. f x (List·Memᴰ·tail k)))
 
 -- legal steps can be packed: fewer moves than positions, and positions of the floor
 leads-fit : (F : Floor) → F .positions ≤ 64 → {A B : Arrangement} {steps : List (List (ℕ × ℕ))} → LeadsSteps F A steps B → Steps steps
@@ -127,11 +134,11 @@ module _ (o : List ℕ) (w : WellFormed o) (ζ : ℕ) (S : List Arrangement) (fe
   the-steps = solution-replay (floorOf o) (rackCount o) (startsOf o) (goalsOf o) ζ S solved
 
   can-pack : Packable (the-steps .steps)
-  can-pack =
-      record {
-        few-steps = subst (λ (k : ℕ). k < 2 ^ 22) (sym (the-steps .count)) few;
-        steps-fit = leads-fit (floorOf o) (well-placed o w .few-positions) (replaySteps-ended (floorOf o) (startsOf o) (the-steps .steps) (goalsOf o) .0 (the-steps .accepted));
-      }
+  can-pack = record {
+    few-steps = subst (λ (k : ℕ). k < 2 ^ 22) (sym (the-steps .count)) few;
+    steps-fit = leads-fit (floorOf o) (well-placed o w .few-positions)
+        (replaySteps-ended (floorOf o) (startsOf o) (the-steps .steps) (goalsOf o) .0 (the-steps .accepted));
+  }
 
   abbrev the-record : List ℕ
   the-record = timetableRecord (the-steps .steps)
@@ -171,10 +178,10 @@ module _ (o : List ℕ) (w : WellFormed o) (ζ : ℕ) (S : List Arrangement) (fe
             record-only b (t .packed-right) (the-steps .steps) (t .listed ∙ ap stepsBetween d ∙ sym (the-steps .between));
       }
 
--- For every order o: (a) a byte string s is accepted as its timetable, with the counts v, exactly if o is well formed, 40 and 41 pass s, v is
--- the count of s's steps and moves, the arrangements of s's replay are a solution with as many steps, and each step lists exactly the moves
--- from one arrangement to the next; (b) where o is well formed, every solution with fewer than 2^22 steps is described by exactly one byte
--- string that is accepted, and this one is accepted with as many steps.
+-- For every order o: (a) a byte string s is accepted as its timetable, with the counts v, exactly if o is well formed, 40 and 41 pass s, v
+-- is the count of s's steps and moves, the arrangements of s's replay are a solution with as many steps, and each step lists exactly the
+-- moves from one arrangement to the next; (b) where o is well formed, every solution with fewer than 2^22 steps is described by exactly one
+-- byte string that is accepted, and this one is accepted with as many steps.
 pub timetable-replayed : (o : List ℕ)
     → ((s v : List ℕ) → (timetableAnswer o s ≡ accepted v) ↔ ReplayedTimetable o s v)
     × (WellFormed o → (ζ : ℕ) (S : List Arrangement) → ζ < 2 ^ 22 → SolutionOf o ζ S → OnlyTimetable o ζ S)

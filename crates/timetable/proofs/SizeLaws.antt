@@ -21,7 +21,8 @@ use Rattle.answers.specs.Answer.{accepted, refuse}
 use Rattle.answers.proofs.AnswerLaws.{refuse-not, refuse-else}
 use Rattle.field.proofs.BitLaws.{field-lt}
 use Rattle.field.proofs.UnitLaws.{or-right}
-use Rattle.timetable.specs.Timetable.{stepLength, stepParts, partsOf, stepCount, total, lengthOf, offset, stepPart, stepAnswer, wrongTimetableLength, timetablePaddingSet, timetableAnswer}
+use Rattle.timetable.specs.Timetable.{stepLength, stepParts, partsOf, stepCount, total, lengthOf, offset, stepPart, stepAnswer}
+use Rattle.timetable.specs.Timetable.{wrongTimetableLength, timetablePaddingSet, timetableAnswer}
 use Rattle.timetable.proofs.StepLaws.{stepLength-few, stepLength-some}
 use Rattle.timetable.proofs.Replayed.{ReplayedTimetable, timetable-replayed}
 use Rattle.timetable.specs.ByteString.{ByteString}
@@ -38,18 +39,28 @@ first-count : (t : List ℕ) → ByteString t → getD (take (stepLength (getD t
 first-count t b = rw (getD-take (stepLength (getD t 0 0)) t 0 0 (stepLength-some (getD t 0 0))) (omega (arith, b 0))
 
 first-length : (t : List ℕ) → ByteString t → length (take (stepLength (getD t 0 0)) t) ≤ 384
-first-length t b = rw (length-take (stepLength (getD t 0 0)) t) (le-trans (min-le-left (stepLength (getD t 0 0)) (length t)) (stepLength-few (getD t 0 0) (b 0)))
+first-length t b =
+    rw (length-take (stepLength (getD t 0 0)) t)
+    (le-trans (min-le-left (stepLength (getD t 0 0)) (length t)) (stepLength-few (getD t 0 0) (b 0)))
 
 total-parts : (k : ℕ) (t : List ℕ) → ByteString t → total (stepParts k t) ≤ 255 * k
 unfolding total stepParts
 total-parts zero t b = omega arith
-total-parts (suc k) t b = omega (arith, first-count t b, total-parts k (drop (stepLength (getD t 0 0)) t) (dropped (stepLength (getD t 0 0)) t b))
+total-parts (suc k) t b = omega (
+  arith,
+  first-count t b,
+  total-parts k (drop (stepLength (getD t 0 0)) t) (dropped (stepLength (getD t 0 0)) t b),
+)
 
 lengths-parts : (i k : ℕ) (t : List ℕ) → ByteString t → lengthOf i (stepParts k t) ≤ 384 * i
 unfolding lengthOf stepParts
 lengths-parts zero k t b = omega arith
 lengths-parts (suc i) zero t b = omega arith
-lengths-parts (suc i) (suc k) t b = omega (arith, first-length t b, lengths-parts i k (drop (stepLength (getD t 0 0)) t) (dropped (stepLength (getD t 0 0)) t b))
+lengths-parts (suc i) (suc k) t b = omega (
+  arith,
+  first-length t b,
+  lengths-parts i k (drop (stepLength (getD t 0 0)) t) (dropped (stepLength (getD t 0 0)) t b),
+)
 
 length-part : (j k : ℕ) (t : List ℕ) → ByteString t → length (getD (stepParts k t) j []) ≤ 384
 unfolding stepParts
@@ -62,7 +73,8 @@ module _ (s : List ℕ) (b : ByteString s) where
   unfolding partsOf
   total-small = omega (arith, count-small s, total-parts (stepCount s) (drop 3 s) (dropped 3 s b))
 
-  pub checked-small : (o : List ℕ) (steps moves : ℕ) → accepted (steps ∷ moves ∷ []) ≡ timetableAnswer o s → (steps < 2 ^ 22) × (moves < 2 ^ 30)
+  pub checked-small : (o : List ℕ) (steps moves : ℕ) → accepted (steps ∷ moves ∷ []) ≡ timetableAnswer o s
+      → (steps < 2 ^ 22) × (moves < 2 ^ 30)
   checked-small o steps moves e =
       let gave : ReplayedTimetable o s (steps ∷ moves ∷ []) = timetable-replayed o .0 s (steps ∷ moves ∷ []) .0 (sym e) in (
         subst (λ (n : ℕ). n < 2 ^ 22) (head-eq-of-cons-eq (gave .counted)) (count-small s),
@@ -89,5 +101,7 @@ module _ (s : List ℕ) (b : ByteString s) where
         let e₄ : last ≡ accepted (at ∷ n ∷ []) = refuse-else (eqb i 0 || ltb (stepCount s) i) 45 0 last (at ∷ n ∷ []) e₃ in
         let at-is : offset s i ≡ at = cc e₄ in
         let n-is : length (stepPart s i) ≡ n = cc e₄ in
-        let few = ltb-false (stepCount s) i (or-right (eqb i 0) (ltb (stepCount s) i) (refuse-not (eqb i 0 || ltb (stepCount s) i) 45 0 last (at ∷ n ∷ []) e₃)) in
+        let few =
+        ltb-false (stepCount s) i
+        (or-right (eqb i 0) (ltb (stepCount s) i) (refuse-not (eqb i 0 || ltb (stepCount s) i) 45 0 last (at ∷ n ∷ []) e₃)) in
         (subst (λ (x : ℕ). x < 2 ^ 31) at-is (offset-small few), subst (λ (x : ℕ). x ≤ 384) n-is length-small)

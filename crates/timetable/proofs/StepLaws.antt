@@ -101,7 +101,8 @@ module _ (s : List ℕ) (at i k : ℕ) (h : i < k) where
 
   pub wrong-next : Room s at → wrongSteps (k - i) (drop at s) ≡ wrongSteps (k - (i + 1)) (drop (nextAt s at) s)
   wrong-next r =
-      wrong-is (r .begins) ∙ rw (length-drop at s, le-ltb (length s - at) (stepLength (getD s at 0)) (omega (arith, r .begins, r .ends))) refl
+      wrong-is (r .begins)
+      ∙ rw (length-drop at s, le-ltb (length s - at) (stepLength (getD s at 0)) (omega (arith, r .begins, r .ends))) refl
 
   -- a step that is not wrong has room
   pub room : wrongSteps (k - i) (drop at s) ≡ false → Room s at

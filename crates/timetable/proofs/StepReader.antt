@@ -39,13 +39,15 @@ module _ (s : List ℕ) (i x y : ℕ) (a : accepted (x ∷ y ∷ []) ≡ reading
   step-there d h = a ∙ sym (over ∙ rw (ne-eqb i 0 d, le-ltb (stepCount s) i (omega (arith, steps-are))) refl)
 
 -- from step i to step i + 1
-pub stands-on : (s : List ℕ) (i at n : ℕ) → 1 ≤ i → i ≤ stepCount s → Stands s (i - 1) at → n ≡ stepLength (getD s at 0) → Stands s (i + 1 - 1) (at + n)
+pub stands-on : (s : List ℕ) (i at n : ℕ) → 1 ≤ i → i ≤ stepCount s → Stands s (i - 1) at → n ≡ stepLength (getD s at 0)
+    → Stands s (i + 1 - 1) (at + n)
 stands-on s i at n low high stands e =
     let same : i - 1 + 1 ≡ i + 1 - 1 = omega arith in
     rw (← same, e) (stands-next s (i - 1) at stands (omega arith))
 
 -- where the walk ends
-pub stands-there : (s : List ℕ) (k i at : ℕ) → 1 ≤ i → i ≤ k → k ≤ stepCount s → k ≤ i → Stands s (i - 1) at → (at ≡ offset s k) × (at < length s)
+pub stands-there : (s : List ℕ) (k i at : ℕ) → 1 ≤ i → i ≤ k → k ≤ stepCount s → k ≤ i → Stands s (i - 1) at
+    → (at ≡ offset s k) × (at < length s)
 unfolding offset
 stands-there s k i at low high within up stands =
     let same : i ≡ k = omega arith in
@@ -53,14 +55,16 @@ stands-there s k i at low high within up stands =
 
 module _ (s : List ℕ) (i : ℕ) where
   pub not-found : (a : Answer) (n p : ℕ) → a ≡ numberAnswer s i → a ≡ refused n p → refused n p ≡ stepAnswer s i
-  not-found a n p e r = sym (stepAnswer-is s i ∙ ap (λ (b : Answer). passUp b (accepted (offset s i ∷ length (stepPart s i) ∷ []))) (sym e ∙ r))
+  not-found a n p e r =
+      sym (stepAnswer-is s i ∙ ap (λ (b : Answer). passUp b (accepted (offset s i ∷ length (stepPart s i) ∷ []))) (sym e ∙ r))
 
   module _ (has : Has s i) (at n : ℕ) (there : at ≡ offset s i) (e : n ≡ stepLength (getD s at 0)) where
     length-is : n ≡ length (stepPart s i)
     length-is =
-        e
-        ∙ ap (λ (b : ℕ). stepLength (getD s b 0)) there
-        ∙ sym (ap length (stepPart-is s (has .length-right) i (has .low) (has .high)) ∙ length-partAt s (offset s i) (step-room s (has .length-right) i (has .low) (has .high)))
+        e ∙ ap (λ (b : ℕ). stepLength (getD s b 0)) there
+        ∙ sym
+        (ap length (stepPart-is s (has .length-right) i (has .low) (has .high))
+        ∙ length-partAt s (offset s i) (step-room s (has .length-right) i (has .low) (has .high)))
 
     pub found : (a : Answer) (v : List ℕ) → a ≡ numberAnswer s i → a ≡ accepted v → accepted (at ∷ n ∷ []) ≡ stepAnswer s i
     found a v g r =

@@ -22,7 +22,8 @@ use lib.Seq.{take-all, take-add, drop-drop}
 use Rattle.field.specs.Bits.{bits, bitsOf, field, pairBits, pad, padded, toBytes}
 use Rattle.field.proofs.BitLaws.{Bits, below-append, length-bits, bits-are, length-bitsOf, bits-field, field-at}
 use Rattle.field.specs.Bytes.{Bytes, BelowPairs}
-use Rattle.field.proofs.RecordLaws.{padded-are, length-padded, toBytes-are, toBytes-from, pairs-at, bits-pairs, up-to-byte, bits-zero, pairBits-are, length-pairBits}
+use Rattle.field.proofs.RecordLaws.{padded-are, length-padded, toBytes-are, toBytes-from, pairs-at, bits-pairs, up-to-byte, bits-zero}
+use Rattle.field.proofs.RecordLaws.{pairBits-are, length-pairBits}
 use Rattle.field.proofs.WholeBytes.{pad-after-whole, padded-whole, toBytes-whole, length-whole, byte-field, below-getD}
 use Rattle.timetable.specs.Timetable.{stepBits, stepLength, stepMoves, stepPadSet}
 use Rattle.timetable.proofs.StepLaws.{stepLength-some, length-moves}
@@ -67,7 +68,8 @@ module _ (ms : List (ℕ × ℕ)) where
   stepBits-runs : stepBits ms ≡ bits 8 (length ms) ++ (pairBits ms ++ bits (pad (12 * length ms)) 0)
   unfolding stepBits padded
   stepBits-runs =
-      let same : pad (length (bits 8 (length ms) ++ pairBits ms)) ≡ pad (12 * length ms) = ap pad length-counted ∙ pad-after-whole 1 (12 * length ms) in
+      let same : pad (length (bits 8 (length ms) ++ pairBits ms)) ≡ pad (12 * length ms) =
+      ap pad length-counted ∙ pad-after-whole 1 (12 * length ms) in
       ap (λ (k : ℕ). bits 8 (length ms) ++ pairBits ms ++ replicate k 0) same
       ∙ ap (λ (l : List ℕ). bits 8 (length ms) ++ pairBits ms ++ l) (sym (bits-zero (pad (12 * length ms))))
       ∙ append-assoc (bits 8 (length ms)) (pairBits ms) _
@@ -91,11 +93,14 @@ module _ (ms : List (ℕ × ℕ)) where
         rw count-of (ap not (eq-eqb (field (stepRecord ms) (8 + 12 * length ms) (pad (12 * length ms))) 0 zeros))
       where
         split : bitsOf (stepRecord ms) ≡ (bits 8 (length ms) ++ pairBits ms) ++ (bits (pad (12 * length ms)) 0 ++ [])
-        split = runs ∙ sym (append-assoc (bits 8 (length ms)) (pairBits ms) _) ∙ ap (λ (l : List ℕ). bits 8 (length ms) ++ pairBits ms ++ l) (sym (append-nil _))
+        split =
+            runs ∙ sym (append-assoc (bits 8 (length ms)) (pairBits ms) _)
+            ∙ ap (λ (l : List ℕ). bits 8 (length ms) ++ pairBits ms ++ l) (sym (append-nil _))
 
         zeros : field (stepRecord ms) (8 + 12 * length ms) (pad (12 * length ms)) ≡ 0
         zeros =
-            field-at (stepRecord ms) (bits 8 (length ms) ++ pairBits ms) [] (8 + 12 * length ms) (pad (12 * length ms)) 0 split length-counted (pow-pos (pad (12 * length ms)))
+            field-at (stepRecord ms) (bits 8 (length ms) ++ pairBits ms) [] (8 + 12 * length ms) (pad (12 * length ms)) 0 split
+            length-counted (pow-pos (pad (12 * length ms)))
 
     pub part-of-record : Part (stepRecord ms)
     part-of-record = record { bytes-are = record-bytes; length-is = length-record ∙ ap stepLength (sym count-of); pad-clear = clear-of }
@@ -119,15 +124,22 @@ module _ (p : List ℕ) (part : Part p) where
   pad-run : bits (pad (12 * getD p 0 0)) 0 ≡ take (pad (12 * getD p 0 0)) (drop (8 + 12 * getD p 0 0) (bitsOf p))
   unfolding stepPadSet
   pad-run =
-      ap (bits (pad (12 * getD p 0 0))) (sym (eqb-true (field p (8 + 12 * getD p 0 0) (pad (12 * getD p 0 0))) 0 (not-false _ (part .pad-clear))))
+      ap (bits (pad (12 * getD p 0 0)))
+      (sym (eqb-true (field p (8 + 12 * getD p 0 0) (pad (12 * getD p 0 0))) 0 (not-false _ (part .pad-clear))))
       ∙ bits-field p (8 + 12 * getD p 0 0) (pad (12 * getD p 0 0)) (omega (arith, part-size))
 
   part-runs : stepBits (stepMoves p) ≡ bitsOf p
-  part-runs = stepBits-runs (stepMoves p) ∙ rw (length-moves p) (ap₂ _++_ count-run (ap₂ _++_ moves-run pad-run) ∙ together (12 * getD p 0 0) (pad (12 * getD p 0 0)) (omega (arith, length-bitsOf p, part-size)))
+  part-runs =
+      stepBits-runs (stepMoves p)
+      ∙ rw (length-moves p)
+      (ap₂ _++_ count-run (ap₂ _++_ moves-run pad-run)
+      ∙ together (12 * getD p 0 0) (pad (12 * getD p 0 0)) (omega (arith, length-bitsOf p, part-size)))
     where
-      together : (m w : ℕ) → length (bitsOf p) ≤ 8 + (m + w) → take 8 (bitsOf p) ++ (take m (drop 8 (bitsOf p)) ++ take w (drop (8 + m) (bitsOf p))) ≡ bitsOf p
+      together : (m w : ℕ) → length (bitsOf p) ≤ 8 + (m + w)
+          → take 8 (bitsOf p) ++ (take m (drop 8 (bitsOf p)) ++ take w (drop (8 + m) (bitsOf p))) ≡ bitsOf p
       together m w h =
-          rw (← drop-drop m 8 (bitsOf p), ← take-add m w (drop 8 (bitsOf p)), ← take-add 8 (m + w) (bitsOf p)) (take-all (8 + (m + w)) (bitsOf p) h)
+          rw (← drop-drop m 8 (bitsOf p), ← take-add m w (drop 8 (bitsOf p)), ← take-add 8 (m + w) (bitsOf p))
+          (take-all (8 + (m + w)) (bitsOf p) h)
 
   pub record-of-part : stepRecord (stepMoves p) ≡ p
   unfolding stepRecord

@@ -30,7 +30,8 @@ use Rattle.motion.proofs.StepReplay.{steps-lead}
 use Rattle.motion.proofs.LegalStepLaws.{legalStep-iff, legal-nothing}
 use Rattle.motion.proofs.StepLimits.{step-racks, full-iff}
 use Rattle.tables.proofs.AcceptedLaws.{well-placed}
-use Rattle.timetable.specs.Timetable.{timetableRecord, stepCount, wrongSteps, stepParts, partsOf, wrongTimetableLength, timetablePaddingSet, stepsOf, total, timetableAnswer}
+use Rattle.timetable.specs.Timetable.{timetableRecord, stepCount, wrongSteps, stepParts, partsOf, wrongTimetableLength}
+use Rattle.timetable.specs.Timetable.{timetablePaddingSet, stepsOf, total, timetableAnswer}
 use Rattle.timetable.specs.Reading.{WellPacked, moveTotal}
 use Rattle.timetable.proofs.ReadingLaws.{count-steps, total-moves}
 use Rattle.timetable.proofs.TimetableRecord.{Steps, one-step, Packable, stepsOf-record, record-well-packed}

@@ -30,11 +30,13 @@ use Rattle.field.proofs.RecordLaws.{toBytes-are, toBytes-from, pairs-lt}
 use Rattle.field.proofs.UnitLaws.{or-left, or-right}
 use Rattle.order.specs.Order.{some}
 use Rattle.field.proofs.WholeBytes.{bitsOf-append, padded-whole, toBytes-whole, length-whole, toBytes-append}
-use Rattle.timetable.specs.Timetable.{allStepBits, timetableBits, timetableRecord, stepLength, stepCount, wrongSteps, stepParts, partsOf, wrongTimetableLength, stepPadSet, timetablePaddingSet, stepMoves, stepsOf}
+use Rattle.timetable.specs.Timetable.{allStepBits, timetableBits, timetableRecord, stepLength, stepCount, wrongSteps, stepParts}
+use Rattle.timetable.specs.Timetable.{partsOf, wrongTimetableLength, stepPadSet, timetablePaddingSet, stepMoves, stepsOf}
 use Rattle.timetable.specs.Reading.{WellPacked}
 use Rattle.timetable.proofs.StepLaws.{stepLength-some, length-moves}
 use Rattle.timetable.proofs.ReadingLaws.{count-steps}
-use Rattle.timetable.proofs.StepRecord.{stepRecord, joined, Part, stepBits-are, length-stepBits, part-of-record, moves-of, record-of-part, count-below}
+use Rattle.timetable.proofs.StepRecord.{stepRecord, joined, Part, stepBits-are, length-stepBits, part-of-record, moves-of}
+use Rattle.timetable.proofs.StepRecord.{record-of-part, count-below}
 
 pub data Steps : List (List (ℕ × ℕ)) → Type 0 where
   no-steps : Steps []
@@ -56,19 +58,24 @@ module _ (k : ℕ) (p t : List ℕ) (part : Part p) where
 
   parts-cons : stepParts (suc k) (p ++ t) ≡ p ∷ stepParts k t
   unfolding stepParts
-  parts-cons = rw (head-of, take-at p t (stepLength (getD p 0 0)) (part .length-is), drop-at p t (stepLength (getD p 0 0)) (part .length-is)) refl
+  parts-cons =
+      rw (head-of, take-at p t (stepLength (getD p 0 0)) (part .length-is), drop-at p t (stepLength (getD p 0 0)) (part .length-is)) refl
 
 wrong-cons : (k : ℕ) (p t : List ℕ) → Part p → wrongSteps (suc k) (p ++ t) ≡ wrongSteps k t
 unfolding wrongSteps
 wrong-cons k [] t part = absurd (omega (arith, part .length-is, stepLength-some 0))
 wrong-cons k (c ∷ p) t part =
-    rw (le-ltb (length (c ∷ p ++ t)) (stepLength c) (omega (arith, part .length-is, length-append p t)), drop-at (c ∷ p) t (stepLength c) (part .length-is)) refl
+    rw (
+      le-ltb (length (c ∷ p ++ t)) (stepLength c) (omega (arith, part .length-is, length-append p t)),
+      drop-at (c ∷ p) t (stepLength c) (part .length-is),
+    ) refl
 
 module _ where
   parts-of : {l : List (List ℕ)} → Parts l → stepParts (length l) (joined l) ≡ l
   unfolding joined stepParts
   parts-of no-parts = refl
-  parts-of (one-part {p = p} {l = l} part rest) = parts-cons (length l) p (joined l) part ∙ ap (λ (m : List (List ℕ)). p ∷ m) (parts-of rest)
+  parts-of (one-part {p = p} {l = l} part rest) =
+      parts-cons (length l) p (joined l) part ∙ ap (λ (m : List (List ℕ)). p ∷ m) (parts-of rest)
 
   right-of : {l : List (List ℕ)} → Parts l → wrongSteps (length l) (joined l) ≡ false
   unfolding joined wrongSteps
@@ -87,7 +94,8 @@ records-are (one-step {ms = ms} few low rest) = one-part (part-of-record ms few)
 
 moves-back : {l : List (List (ℕ × ℕ))} → Steps l → map stepMoves (map stepRecord l) ≡ l
 moves-back no-steps = refl
-moves-back (one-step {ms = ms} few low rest) = ap₂ (λ (m : List (ℕ × ℕ)) (r : List (List (ℕ × ℕ))). m ∷ r) (moves-of ms few low) (moves-back rest)
+moves-back (one-step {ms = ms} few low rest) =
+    ap₂ (λ (m : List (ℕ × ℕ)) (r : List (List (ℕ × ℕ))). m ∷ r) (moves-of ms few low) (moves-back rest)
 
 allStepBits-are : (l : List (List (ℕ × ℕ))) → Bits (allStepBits l)
 unfolding allStepBits
@@ -98,7 +106,8 @@ steps-joined : (l : List (List (ℕ × ℕ))) → toBytes (allStepBits l) ≡ jo
 unfolding allStepBits joined toBytes bytes stepRecord
 steps-joined [] = refl
 steps-joined (ms ∷ l) =
-    toBytes-append (stepLength (length ms)) (stepBits-are ms) (length-stepBits ms) (allStepBits-are l) ∙ ap (λ (t : List ℕ). stepRecord ms ++ t) (steps-joined l)
+    toBytes-append (stepLength (length ms)) (stepBits-are ms) (length-stepBits ms) (allStepBits-are l)
+    ∙ ap (λ (t : List ℕ). stepRecord ms ++ t) (steps-joined l)
 
 pub record-bytes : (l : List (List (ℕ × ℕ))) → Bytes (timetableRecord l)
 unfolding timetableRecord timetableBits headBits
@@ -106,7 +115,9 @@ record-bytes l = toBytes-are (below-append (headBits-are (length l)) (allStepBit
 
 pub record-parts : (l : List (List (ℕ × ℕ))) → timetableRecord l ≡ toBytes (headBits (length l)) ++ joined (map stepRecord l)
 unfolding timetableRecord timetableBits headBits
-record-parts l = toBytes-append 3 (headBits-are (length l)) (length-headBits (length l)) (allStepBits-are l) ∙ ap (λ (t : List ℕ). toBytes (headBits (length l)) ++ t) (steps-joined l)
+record-parts l =
+    toBytes-append 3 (headBits-are (length l)) (length-headBits (length l)) (allStepBits-are l)
+    ∙ ap (λ (t : List ℕ). toBytes (headBits (length l)) ++ t) (steps-joined l)
 
 module _ (l : List (List (ℕ × ℕ))) where
   head-record : length (toBytes (headBits (length l))) ≡ 3
@@ -115,15 +126,20 @@ module _ (l : List (List (ℕ × ℕ))) where
   -- the bits of the record: its head, and the rest
   record-bits : bitsOf (timetableRecord l) ≡ headBits (length l) ++ bitsOf (joined (map stepRecord l))
   record-bits =
-      ap bitsOf (record-parts l)
-      ∙ bitsOf-append (toBytes (headBits (length l))) (joined (map stepRecord l))
-      ∙ ap (λ (h : List ℕ). h ++ bitsOf (joined (map stepRecord l))) (toBytes-whole 3 (headBits-are (length l)) (length-headBits (length l)))
+      ap bitsOf (record-parts l) ∙ bitsOf-append (toBytes (headBits (length l))) (joined (map stepRecord l))
+      ∙ ap (λ (h : List ℕ). h ++ bitsOf (joined (map stepRecord l)))
+      (toBytes-whole 3 (headBits-are (length l)) (length-headBits (length l)))
 
   record-rest : drop 3 (timetableRecord l) ≡ joined (map stepRecord l)
   record-rest = ap (drop 3) (record-parts l) ∙ drop-at (toBytes (headBits (length l))) (joined (map stepRecord l)) 3 head-record
 
   record-long : 3 ≤ length (timetableRecord l)
-  record-long = omega (arith, ap length (record-parts l), length-append (toBytes (headBits (length l))) (joined (map stepRecord l)), head-record)
+  record-long = omega (
+    arith,
+    ap length (record-parts l),
+    length-append (toBytes (headBits (length l))) (joined (map stepRecord l)),
+    head-record,
+  )
 
   pub spare-record : field (timetableRecord l) 22 2 ≡ 0
   unfolding headBits
@@ -169,8 +185,10 @@ parts-right (suc k) [] b w c = absurd (let z : _≡_ {A = ℕ} 0 1 = cc in omega
 parts-right (suc k) (x ∷ t) b w c =
     let n = stepLength x in
     let fits : n ≤ length (x ∷ t) = ltb-false (length (x ∷ t)) n (or-left _ _ w) in
-    let rest = parts-right k (drop n (x ∷ t)) (below-drop n b) (or-right (ltb (length (x ∷ t)) n) _ w) (or-right (stepPadSet (take n (x ∷ t))) _ c) in
-    let first : Part (take n (x ∷ t)) = record {
+    let rest =
+    parts-right k (drop n (x ∷ t)) (below-drop n b) (or-right (ltb (length (x ∷ t)) n) _ w) (or-right (stepPadSet (take n (x ∷ t))) _ c) in
+    let first : Part (take n (x ∷ t)) =
+    record {
       bytes-are = below-take n b;
       length-is = length-take-le n (x ∷ t) fits ∙ ap stepLength (sym (getD-take n (x ∷ t) 0 0 (stepLength-some x)));
       pad-clear = or-left _ _ c;
@@ -187,7 +205,8 @@ moves-low p = pairs-lt p 8 (getD p 0 0)
 
 moves-fit : {l : List (List ℕ)} → Parts l → Steps (map stepMoves l)
 moves-fit no-parts = no-steps
-moves-fit (one-part {p = p} part rest) = one-step {ms = stepMoves p} (omega (arith, length-moves p, count-below p part)) (moves-low p) (moves-fit rest)
+moves-fit (one-part {p = p} part rest) =
+    one-step {ms = stepMoves p} (omega (arith, length-moves p, count-below p part)) (moves-low p) (moves-fit rest)
 
 module _ {s : List ℕ} (b : Bytes s) (w : WellPacked s) where
   long : 3 ≤ length s
@@ -196,7 +215,9 @@ module _ {s : List ℕ} (b : Bytes s) (w : WellPacked s) where
 
   rest-right : Parts (partsOf s) × (joined (partsOf s) ≡ drop 3 s)
   unfolding partsOf wrongTimetableLength timetablePaddingSet
-  rest-right = parts-right (stepCount s) (drop 3 s) (below-drop 3 b) (or-right (ltb (length s) 3) _ (w .length-right)) (or-right (not (eqb (field s 22 2) 0)) _ (w .padding-clear))
+  rest-right =
+      parts-right (stepCount s) (drop 3 s) (below-drop 3 b) (or-right (ltb (length s) 3) _ (w .length-right))
+      (or-right (not (eqb (field s 22 2) 0)) _ (w .padding-clear))
 
   spare-zero : field s 22 2 ≡ 0
   unfolding timetablePaddingSet
@@ -212,18 +233,25 @@ module _ {s : List ℕ} (b : Bytes s) (w : WellPacked s) where
       ∙ ap₂ _++_ (sym (bits-field s 0 22 (omega (arith, long)))) (sym (bits-field s 22 2 (omega (arith, long))) ∙ ap (bits 2) spare-zero)
 
   head-right : toBytes (headBits (stepCount s)) ≡ take 3 s
-  head-right = sym (toBytes-from (below-take 3 b) (headBits-are (stepCount s)) (head-bits ∙ sym (padded-whole (headBits (stepCount s)) 3 (length-headBits (stepCount s)))))
+  head-right =
+      sym
+      (toBytes-from (below-take 3 b) (headBits-are (stepCount s))
+      (head-bits ∙ sym (padded-whole (headBits (stepCount s)) 3 (length-headBits (stepCount s)))))
 
   pub record-stepsOf : timetableRecord (stepsOf s) ≡ s
   unfolding stepsOf
   record-stepsOf =
       record-parts (stepsOf s)
-      ∙ ap₂ _++_ (ap (λ (k : ℕ). toBytes (headBits k)) (count-steps s) ∙ head-right) (ap joined (records-back (rest-right .0)) ∙ rest-right .1)
+      ∙ ap₂ _++_ (ap (λ (k : ℕ). toBytes (headBits k)) (count-steps s) ∙ head-right)
+      (ap joined (records-back (rest-right .0)) ∙ rest-right .1)
       ∙ take-append-drop 3 s
 
   pub packable-stepsOf : Packable (stepsOf s)
   unfolding stepsOf stepCount
-  packable-stepsOf = record { few-steps = subst (λ (k : ℕ). k < 2 ^ 22) (sym (count-steps s)) (field-lt s 0 22); steps-fit = moves-fit (rest-right .0) }
+  packable-stepsOf = record {
+    few-steps = subst (λ (k : ℕ). k < 2 ^ 22) (sym (count-steps s)) (field-lt s 0 22);
+    steps-fit = moves-fit (rest-right .0);
+  }
 
   pub record-only : (l : List (List (ℕ × ℕ))) → stepsOf s ≡ l → s ≡ timetableRecord l
   record-only l e = sym record-stepsOf ∙ ap timetableRecord e

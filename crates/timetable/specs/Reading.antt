@@ -22,7 +22,8 @@ use lib.ListN.{length}
 use lib.Dec.{ltb, eqb}
 use Rattle.answers.specs.Answer.{Answer, accepted, refused, refuse, refusedBy, passUp}
 use Rattle.order.specs.Order.{some}
-use Rattle.timetable.specs.Timetable.{stepLength, wrongSteps, stepParts, stepPadSet, total, partsOf, stepCount, wrongTimetableLength, timetablePaddingSet, stepAnswer, stepPart}
+use Rattle.timetable.specs.Timetable.{stepLength, wrongSteps, stepParts, stepPadSet, total, partsOf, stepCount, wrongTimetableLength}
+use Rattle.timetable.specs.Timetable.{timetablePaddingSet, stepAnswer, stepPart}
 use Rattle.timetable.specs.declared.TimetableReading.{TimetableReading}
 use Rattle.timetable.specs.declared.TimetableReading.the-variants.{Accepted, Refused}
 use Rattle.timetable.specs.declared.StepVerdict.{StepVerdict}

@@ -2,8 +2,8 @@
 -- demand 2 for timetables.
 --
 --     SolutionOf o ζ S          the arrangements S solve the task of the order o in ζ steps
---     AcceptedTimetable o s v   the byte string s is the record of a solution's steps, and v the counts of its steps and moves: so a solution
---                               has one record, which the timetable checker accepts
+--     AcceptedTimetable o s v   the byte string s is the record of a solution's steps, and v the counts of its steps and moves: so a
+--                               solution has one record, which the timetable checker accepts
 -- Assumes nothing.
 use Prim.Native.Nat.{ℕ, _^_, _<_}
 use mathlib.Core.List.{List, [], _∷_}

@@ -15,8 +15,10 @@ ghost use Rattle.order.specs.Verdict.{answerOf as orderAnswerOf};
 ghost use Rattle.tables.specs.Ending.{endOf};
 ghost use Rattle.trains.specs.StepOn.{legalStepOn, ranOn};
 ghost use Rattle.trains.specs.StepsOn.{replayStepsOn};
-ghost use Rattle.timetable.specs.Timetable.{stepLength, stepPadSet, wrongTimetableLength, stepCount, stepMoves, stepsOf, timetableAnswer, offset, stepAnswer};
-ghost use Rattle.timetable.specs.Reading.{StepSize, stepsAnswer, readingAnswer, numberAnswer, partGiven, placeGiven, answerOfReading, answerOfStep};
+ghost use Rattle.timetable.specs.Timetable.{stepLength, stepPadSet, wrongTimetableLength, stepCount, stepMoves, stepsOf};
+ghost use Rattle.timetable.specs.Timetable.{timetableAnswer, offset, stepAnswer};
+ghost use Rattle.timetable.specs.Reading.{StepSize, stepsAnswer, readingAnswer, numberAnswer, partGiven, placeGiven, answerOfReading};
+ghost use Rattle.timetable.specs.Reading.{answerOfStep};
 ghost use Rattle.timetable.specs.Checking.{tableAnswer, answerOfCheck};
 ghost use Rattle.timetable.specs.RecordLength.{wholeTimetableLength};
 

@@ -27,8 +27,9 @@ returns c =
 
 returns-2 : tie.Need-returns-2
 returns-2 c =
+    let fault = c .before .before in let check = fault .before .before in
     tells nothing-packs (floor-sized _)
-    (c .refusal .ensures ∙ ap (packed nothing) (ap answerOf (sym (c .before .before .fault .given .1)) ∙ c .before .before .before .before .check .ensures))
+    (c .refusal .ensures ∙ ap (packed nothing) (ap answerOf (sym (fault .fault .given .1)) ∙ check .check .ensures))
 
 pub wichteab-floor-check-spec : {M : Type 1} → statement M
 wichteab-floor-check-spec =

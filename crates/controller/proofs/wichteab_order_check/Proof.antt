@@ -23,14 +23,16 @@ refusal-requires c κs = search needs
 
 returns : tie.Need-returns
 returns c =
-    let answer = ap answerOf (sym (c .enum-told .given .1)) ∙ c .before .before .read .ensures in
-    let o = c .before .before .before .before .args .order .now in
+    let read = c .before .before in let entry = read .before .before in
+    let answer = ap answerOf (sym (c .enum-told .given .1)) ∙ read .read .ensures in
+    let o = entry .args .order .now in
     tells nothing-packs (uncounted-sized (order-sized o)) (ap (packed nothing) answer ∙ uncounted-same (orderAnswer o))
 
 returns-2 : tie.Need-returns-2
 returns-2 c =
-    let answer = ap answerOf (sym (c .before .before .fault .given .1)) ∙ c .before .before .before .before .read .ensures in
-    let o = c .before .before .before .before .before .before .args .order .now in
+    let fault = c .before .before in let read = fault .before .before in let entry = read .before .before in
+    let answer = ap answerOf (sym (fault .fault .given .1)) ∙ read .read .ensures in
+    let o = entry .args .order .now in
     tells nothing-packs (uncounted-sized (order-sized o))
     (c .refusal .ensures ∙ ap (packed nothing) answer ∙ uncounted-same (orderAnswer o))
 

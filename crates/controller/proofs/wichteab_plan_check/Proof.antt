@@ -1,4 +1,5 @@
--- `controller::wichteab_plan_check` meets its contract: the verdict's answer, packed; a plan's moves are fewer than 2 ^ 22. Assumes nothing.
+-- `controller::wichteab_plan_check` meets its contract: the verdict's answer, packed; a plan's moves are fewer than
+-- 2 ^ 22. Assumes nothing.
 use mathlib.Core.Path.{ap, sym, _∙_}
 use native.Mathlib.Omega.{arith}
 use Rattle.plan.specs.Verdict.{answerOf}
@@ -18,7 +19,12 @@ enum-known-moves c = search needs
 
 mul-result : tie.Need-mul-result
 mul-result c =
-    omega (arith, moves-small (c .before .before .before .before .before .before .args .order .now) (c .before .before .before .before .before .before .args .plan .now) (c .before .moves .given .0 .0) (ap answerOf (sym (c .before .moves .given .1)) ∙ c .before .before .before .check .ensures))
+    let check = c .before .before .before in let entry = check .before .before .before in
+    omega (
+      arith,
+      moves-small (entry .args .order .now) (entry .args .plan .now) (c .before .moves .given .0 .0)
+          (ap answerOf (sym (c .before .moves .given .1)) ∙ check .check .ensures),
+    )
 
 enum-known-fault : tie.Need-enum-known-fault
 enum-known-fault c = search needs
@@ -33,8 +39,9 @@ returns c =
 
 returns-2 : tie.Need-returns-2
 returns-2 c =
+    let fault = c .before .before in let check = fault .before .before in
     tells plan-moves-pack (plan-sized _ _)
-    (c .refusal .ensures ∙ ap (packed oneCount) (ap answerOf (sym (c .before .before .fault .given .1)) ∙ c .before .before .before .before .check .ensures))
+    (c .refusal .ensures ∙ ap (packed oneCount) (ap answerOf (sym (fault .fault .given .1)) ∙ check .check .ensures))
 
 pub wichteab-plan-check-spec : {M : Type 1} → statement M
 wichteab-plan-check-spec =

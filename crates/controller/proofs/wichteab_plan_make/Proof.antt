@@ -1,4 +1,5 @@
--- `controller::wichteab_plan_make` meets its contract: the verdict's answer, packed, and the buffer as the planner leaves it. Assumes nothing.
+-- `controller::wichteab_plan_make` meets its contract: the verdict's answer, packed, and the buffer as the planner
+-- leaves it. Assumes nothing.
 use Prim.Native.Nat.{ℕ}
 use mathlib.Core.Path.{_≡_, refl, subst}
 use mathlib.Core.List.{List}
@@ -22,7 +23,9 @@ enum-known-moves : tie.Need-enum-known-moves
 enum-known-moves c = search needs
 
 mul-result : tie.Need-mul-result
-mul-result c = let made = made-as (c .before .moves .given .1) (c .before .before .before .before .before .make .ensures) in
+mul-result c =
+    let match = c .before .before in let make = match .before .before .before in
+    let made = made-as (c .before .moves .given .1) (make .make .ensures) in
     let few = moves-few made in
     omega arith
 
@@ -37,7 +40,8 @@ same-length c = search needs
 
 returns : tie.Need-returns
 returns c =
-    let made = made-as (c .before .moves .given .1) (c .before .before .before .before .before .make .ensures) in
+    let match = c .before .before in let make = match .before .before .before in
+    let made = made-as (c .before .moves .given .1) (make .make .ensures) in
     (_, tells plan-moves-pack (made-sized made) refl, made)
 
 same-length-2 : tie.Need-same-length-2
@@ -45,7 +49,8 @@ same-length-2 c = search needs
 
 returns-2 : tie.Need-returns-2
 returns-2 c =
-    let made = made-as (c .before .before .fault .given .1) (c .before .before .before .before .before .before .make .ensures) in
+    let fault = c .before .before in let buffer = fault .before .before .before in let make = buffer .before in
+    let made = made-as (fault .fault .given .1) (make .make .ensures) in
     (_, tells plan-moves-pack (made-sized made) (c .refusal .ensures), made)
 
 pub wichteab-plan-make-spec : {M : Type 1} → statement M

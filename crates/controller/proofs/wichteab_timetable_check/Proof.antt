@@ -18,15 +18,36 @@ enum-known-steps c = search needs
 
 mul-result : tie.Need-mul-result
 mul-result c =
-    omega (arith, checked-small (c .before .before .before .before .before .before .args .timetable .now) (λ i. c .before .before .before .before .shared-slice-known2 .given i .fits) (c .before .before .before .before .before .before .args .order .now) (c .before .steps .given .0 .0) (c .before .steps .given .0 .1 .0) (ap answerOfCheck (sym (c .before .steps .given .1)) ∙ c .before .before .before .check .ensures))
+    let steps = c .before in let check = steps .before .before in let shared-slice-known2 = check .before in
+    let entry = shared-slice-known2 .before .before in
+    omega (
+      arith,
+      checked-small (entry .args .timetable .now) (λ i. shared-slice-known2 .shared-slice-known2 .given i .fits)
+          (entry .args .order .now) (steps .steps .given .0 .0) (steps .steps .given .0 .1 .0)
+          (ap answerOfCheck (sym (steps .steps .given .1)) ∙ check .check .ensures),
+    )
 
 add-result : tie.Need-add-result
 add-result c =
-    omega (arith, checked-small (c .before .before .before .before .before .before .args .timetable .now) (λ i. c .before .before .before .before .shared-slice-known2 .given i .fits) (c .before .before .before .before .before .before .args .order .now) (c .before .steps .given .0 .0) (c .before .steps .given .0 .1 .0) (ap answerOfCheck (sym (c .before .steps .given .1)) ∙ c .before .before .before .check .ensures))
+    let steps = c .before in let check = steps .before .before in let shared-slice-known2 = check .before in
+    let entry = shared-slice-known2 .before .before in
+    omega (
+      arith,
+      checked-small (entry .args .timetable .now) (λ i. shared-slice-known2 .shared-slice-known2 .given i .fits)
+          (entry .args .order .now) (steps .steps .given .0 .0) (steps .steps .given .0 .1 .0)
+          (ap answerOfCheck (sym (steps .steps .given .1)) ∙ check .check .ensures),
+    )
 
 mul-result-2 : tie.Need-mul-result-2
 mul-result-2 c =
-    omega (arith, checked-small (c .before .before .before .before .before .before .args .timetable .now) (λ i. c .before .before .before .before .shared-slice-known2 .given i .fits) (c .before .before .before .before .before .before .args .order .now) (c .before .steps .given .0 .0) (c .before .steps .given .0 .1 .0) (ap answerOfCheck (sym (c .before .steps .given .1)) ∙ c .before .before .before .check .ensures))
+    let steps = c .before in let check = steps .before .before in let shared-slice-known2 = check .before in
+    let entry = shared-slice-known2 .before .before in
+    omega (
+      arith,
+      checked-small (entry .args .timetable .now) (λ i. shared-slice-known2 .shared-slice-known2 .given i .fits)
+          (entry .args .order .now) (steps .steps .given .0 .0) (steps .steps .given .0 .1 .0)
+          (ap answerOfCheck (sym (steps .steps .given .1)) ∙ check .check .ensures),
+    )
 
 enum-known-fault : tie.Need-enum-known-fault
 enum-known-fault c = search needs
@@ -36,13 +57,15 @@ refusal-requires c κs = search needs
 
 returns : tie.Need-returns
 returns c =
-    tells steps-moves-pack (timetable-sized _ _ (λ i. c .before .before .before .before .shared-slice-known2 .given i .fits))
-    (ap (packed stepsAndMoves) (ap answerOfCheck (sym (c .before .steps .given .1)) ∙ c .before .before .before .check .ensures))
+    let check = c .before .before .before in let shared-slice-known2 = check .before in
+    tells steps-moves-pack (timetable-sized _ _ (λ i. shared-slice-known2 .shared-slice-known2 .given i .fits))
+    (ap (packed stepsAndMoves) (ap answerOfCheck (sym (c .before .steps .given .1)) ∙ check .check .ensures))
 
 returns-2 : tie.Need-returns-2
 returns-2 c =
-    tells steps-moves-pack (timetable-sized _ _ (λ i. c .before .before .before .before .before .shared-slice-known2 .given i .fits))
-    (c .refusal .ensures ∙ ap (packed stepsAndMoves) (ap answerOfCheck (sym (c .before .before .fault .given .1)) ∙ c .before .before .before .before .check .ensures))
+    let fault = c .before .before in let check = fault .before .before in let shared-slice-known2 = check .before in
+    tells steps-moves-pack (timetable-sized _ _ (λ i. shared-slice-known2 .shared-slice-known2 .given i .fits))
+    (c .refusal .ensures ∙ ap (packed stepsAndMoves) (ap answerOfCheck (sym (fault .fault .given .1)) ∙ check .check .ensures))
 
 pub wichteab-timetable-check-spec : {M : Type 1} → statement M
 wichteab-timetable-check-spec =

@@ -1,4 +1,5 @@
--- `controller::wichteab_timetable_make` meets its contract: the verdict's answer, packed, and the buffer as the maker leaves it. Assumes nothing.
+-- `controller::wichteab_timetable_make` meets its contract: the verdict's answer, packed, and the buffer as the maker
+-- leaves it. Assumes nothing.
 use mathlib.Core.Path.{ap, sym, _∙_}
 use native.Mathlib.Omega.{arith}
 use lib.ListN.{length}
@@ -19,7 +20,13 @@ enum-known-steps c = search needs
 
 mul-result : tie.Need-mul-result
 mul-result c =
-    omega (arith, steps-small (c .before .before .before .before .before .before .before .before .before .before .args .order .now) (c .before .before .before .before .before .before .before .before .before .before .args .plan .now) (length (c .before .before .before .before .before .before .before .before .before .before .args .buffer .now)) (c .before .steps .given .0 .0) (ap answerOf (sym (c .before .steps .given .1)) ∙ c .before .before .before .before .before .make .ensures .0))
+    let match = c .before .before in let make = match .before .before .before in
+    let shared-slice-known2 = make .before .before .before in let entry = shared-slice-known2 .before .before in
+    omega (
+      arith,
+      steps-small (entry .args .order .now) (entry .args .plan .now) (length (entry .args .buffer .now)) (c .before .steps .given .0 .0)
+          (ap answerOf (sym (c .before .steps .given .1)) ∙ make .make .ensures .0),
+    )
 
 enum-known-fault : tie.Need-enum-known-fault
 enum-known-fault c = search needs
@@ -32,19 +39,19 @@ same-length c = search needs
 
 returns : tie.Need-returns
 returns c =
-    let made = c .before .before .before .before .before .make .ensures in (
-      tells made-steps-pack (maker-sized _ _ _) (ap (packed oneCount) (ap answerOf (sym (c .before .steps .given .1)) ∙ made .0)),
-      made .1,
-    )
+    let match = c .before .before in let make = match .before .before .before in
+    let made = make .make .ensures in
+    (tells made-steps-pack (maker-sized _ _ _) (ap (packed oneCount) (ap answerOf (sym (c .before .steps .given .1)) ∙ made .0)), made .1)
 
 same-length-2 : tie.Need-same-length-2
 same-length-2 c = search needs
 
 returns-2 : tie.Need-returns-2
 returns-2 c =
-    let made = c .before .before .before .before .before .before .make .ensures in (
+    let fault = c .before .before in let buffer = fault .before .before .before in let make = buffer .before in
+    let made = make .make .ensures in (
       tells made-steps-pack (maker-sized _ _ _)
-          (c .refusal .ensures ∙ ap (packed oneCount) (ap answerOf (sym (c .before .before .fault .given .1)) ∙ made .0)),
+          (c .refusal .ensures ∙ ap (packed oneCount) (ap answerOf (sym (fault .fault .given .1)) ∙ made .0)),
       made .1,
     )
 

@@ -18,15 +18,36 @@ enum-known-offset c = search needs
 
 mul-result : tie.Need-mul-result
 mul-result c =
-    omega (arith, found-small (c .before .before .before .before .before .args .timetable .now) (λ i. c .before .before .before .before .shared-slice-known .given i .fits) (c .before .before .before .before .before .args .number) (c .before .offset .given .0 .0) (c .before .offset .given .0 .1 .0) (ap answerOfStep (sym (c .before .offset .given .1)) ∙ c .before .before .before .find-step .ensures))
+    let offset = c .before in let find-step = offset .before .before in let shared-slice-known = find-step .before in
+    let entry = shared-slice-known .before in
+    omega (
+      arith,
+      found-small (entry .args .timetable .now) (λ i. shared-slice-known .shared-slice-known .given i .fits) (entry .args .number)
+          (offset .offset .given .0 .0) (offset .offset .given .0 .1 .0)
+          (ap answerOfStep (sym (offset .offset .given .1)) ∙ find-step .find-step .ensures),
+    )
 
 add-result : tie.Need-add-result
 add-result c =
-    omega (arith, found-small (c .before .before .before .before .before .args .timetable .now) (λ i. c .before .before .before .before .shared-slice-known .given i .fits) (c .before .before .before .before .before .args .number) (c .before .offset .given .0 .0) (c .before .offset .given .0 .1 .0) (ap answerOfStep (sym (c .before .offset .given .1)) ∙ c .before .before .before .find-step .ensures))
+    let offset = c .before in let find-step = offset .before .before in let shared-slice-known = find-step .before in
+    let entry = shared-slice-known .before in
+    omega (
+      arith,
+      found-small (entry .args .timetable .now) (λ i. shared-slice-known .shared-slice-known .given i .fits) (entry .args .number)
+          (offset .offset .given .0 .0) (offset .offset .given .0 .1 .0)
+          (ap answerOfStep (sym (offset .offset .given .1)) ∙ find-step .find-step .ensures),
+    )
 
 mul-result-2 : tie.Need-mul-result-2
 mul-result-2 c =
-    omega (arith, found-small (c .before .before .before .before .before .args .timetable .now) (λ i. c .before .before .before .before .shared-slice-known .given i .fits) (c .before .before .before .before .before .args .number) (c .before .offset .given .0 .0) (c .before .offset .given .0 .1 .0) (ap answerOfStep (sym (c .before .offset .given .1)) ∙ c .before .before .before .find-step .ensures))
+    let offset = c .before in let find-step = offset .before .before in let shared-slice-known = find-step .before in
+    let entry = shared-slice-known .before in
+    omega (
+      arith,
+      found-small (entry .args .timetable .now) (λ i. shared-slice-known .shared-slice-known .given i .fits) (entry .args .number)
+          (offset .offset .given .0 .0) (offset .offset .given .0 .1 .0)
+          (ap answerOfStep (sym (offset .offset .given .1)) ∙ find-step .find-step .ensures),
+    )
 
 enum-known-fault : tie.Need-enum-known-fault
 enum-known-fault c = search needs
@@ -36,13 +57,16 @@ refusal-requires c κs = search needs
 
 returns : tie.Need-returns
 returns c =
-    tells offset-length-packs (step-sized _ _ (λ i. c .before .before .before .before .shared-slice-known .given i .fits))
-    (ap (packed lengthAndOffset) (ap answerOfStep (sym (c .before .offset .given .1)) ∙ c .before .before .before .find-step .ensures))
+    let find-step = c .before .before .before in let shared-slice-known = find-step .before in
+    tells offset-length-packs (step-sized _ _ (λ i. shared-slice-known .shared-slice-known .given i .fits))
+    (ap (packed lengthAndOffset) (ap answerOfStep (sym (c .before .offset .given .1)) ∙ find-step .find-step .ensures))
 
 returns-2 : tie.Need-returns-2
 returns-2 c =
-    tells offset-length-packs (step-sized _ _ (λ i. c .before .before .before .before .before .shared-slice-known .given i .fits))
-    (c .refusal .ensures ∙ ap (packed lengthAndOffset) (ap answerOfStep (sym (c .before .before .fault .given .1)) ∙ c .before .before .before .before .find-step .ensures))
+    let fault = c .before .before in let find-step = fault .before .before in
+    let shared-slice-known = find-step .before in
+    tells offset-length-packs (step-sized _ _ (λ i. shared-slice-known .shared-slice-known .given i .fits))
+    (c .refusal .ensures ∙ ap (packed lengthAndOffset) (ap answerOfStep (sym (fault .fault .given .1)) ∙ find-step .find-step .ensures))
 
 pub wichteab-timetable-step-spec : {M : Type 1} → statement M
 wichteab-timetable-step-spec =

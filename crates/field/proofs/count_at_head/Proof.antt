@@ -37,7 +37,8 @@ add-result-2 c = search needs
 
 returns : tie.Need-returns
 returns c =
-    omega (arith, head-count (c .before .before .before .before .before .before .before .args .s .now) (omega arith) (omega arith) (omega arith) (omega arith))
+    let wide2 = c .before .before in let wide = wide2 .before .before in let entry = wide .before .before .before in
+    omega (arith, head-count (entry .args .s .now) (omega arith) (omega arith) (omega arith) (omega arith))
 
 pub count-at-head-spec : {M : Type 1} → statement M
 count-at-head-spec =

@@ -33,10 +33,15 @@ add-t17 c = search needs
 
 returns : tie.Need-returns
 returns c =
-    let a = c .before .before .before .before .before .before .args in
+    let shared-slice-known2 = c .before .before .before in let entry = shared-slice-known2 .before .before .before in
+    let a = entry .args in
     record {
       first-is = omega (arith, sextet-0 (a .s .now) (12 * a .j) (a .j / 2 * 3) (omega arith) (omega arith) (omega arith));
-      second-is = omega (arith, sextet-6 (a .s .now) (12 * a .j + 6) (a .j / 2 * 3) (a .j / 2 * 3 + 1) (omega arith) (omega arith) (omega arith) (omega arith));
+      second-is = omega (
+        arith,
+        sextet-6 (a .s .now) (12 * a .j + 6) (a .j / 2 * 3) (a .j / 2 * 3 + 1) (omega arith) (omega arith) (omega arith)
+            (omega arith),
+      );
       first-below = omega arith;
       second-below = omega arith;
     }
@@ -67,9 +72,14 @@ add-t23 c = search needs
 
 returns-2 : tie.Need-returns-2
 returns-2 c =
-    let a = c .before .before .before .before .before .before .args in
+    let shared-slice-known4 = c .before .before .before in let entry = shared-slice-known4 .before .before .before in
+    let a = entry .args in
     record {
-      first-is = omega (arith, sextet-4 (a .s .now) (12 * a .j) (a .j / 2 * 3 + 1) (a .j / 2 * 3 + 2) (omega arith) (omega arith) (omega arith) (omega arith));
+      first-is = omega (
+        arith,
+        sextet-4 (a .s .now) (12 * a .j) (a .j / 2 * 3 + 1) (a .j / 2 * 3 + 2) (omega arith) (omega arith) (omega arith)
+            (omega arith),
+      );
       second-is = omega (arith, sextet-2 (a .s .now) (12 * a .j + 6) (a .j / 2 * 3 + 2) (omega arith) (omega arith));
       first-below = omega arith;
       second-below = omega arith;

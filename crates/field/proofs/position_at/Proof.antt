@@ -17,8 +17,12 @@ wide-requires c κs = search needs
 
 returns : tie.Need-returns
 returns c =
-    let a = c .before .before .before .before .args in
-    record { is = omega (arith, sextet-0 (a .s .now) (6 * a .q) (a .q / 4 * 3) (omega arith) (omega arith) (omega arith)); below = omega arith }
+    let then1 = c .before .before in let entry = then1 .before .before in
+    let a = entry .args in
+    record {
+      is = omega (arith, sextet-0 (a .s .now) (6 * a .q) (a .q / 4 * 3) (omega arith) (omega arith) (omega arith));
+      below = omega arith;
+    }
 
 shared-slice-read-wide-2 : tie.Need-shared-slice-read-wide-2
 shared-slice-read-wide-2 c = search needs
@@ -43,8 +47,15 @@ add-result c = search needs
 
 returns-2 : tie.Need-returns-2
 returns-2 c =
-    let a = c .before .before .before .before .before .before .before .args in
-    record { is = omega (arith, sextet-6 (a .s .now) (6 * a .q) (a .q / 4 * 3) (a .q / 4 * 3 + 1) (omega arith) (omega arith) (omega arith) (omega arith)); below = omega arith }
+    let wide2 = c .before .before in let else1 = wide2 .before .before .before in let entry = else1 .before .before in
+    let a = entry .args in
+    record {
+      is = omega (
+        arith,
+        sextet-6 (a .s .now) (6 * a .q) (a .q / 4 * 3) (a .q / 4 * 3 + 1) (omega arith) (omega arith) (omega arith) (omega arith),
+      );
+      below = omega arith;
+    }
 
 add-wide-2 : tie.Need-add-wide-2
 add-wide-2 c = search needs
@@ -72,8 +83,17 @@ add-result-2 c = search needs
 
 returns-3 : tie.Need-returns-3
 returns-3 c =
-    let a = c .before .before .before .before .before .before .before .before .args in
-    record { is = omega (arith, sextet-4 (a .s .now) (6 * a .q) (a .q / 4 * 3 + 1) (a .q / 4 * 3 + 2) (omega arith) (omega arith) (omega arith) (omega arith)); below = omega arith }
+    let wide4 = c .before .before in let else2 = wide4 .before .before .before in
+    let entry = else2 .before .before .before in
+    let a = entry .args in
+    record {
+      is = omega (
+        arith,
+        sextet-4 (a .s .now) (6 * a .q) (a .q / 4 * 3 + 1) (a .q / 4 * 3 + 2) (omega arith) (omega arith) (omega arith)
+            (omega arith),
+      );
+      below = omega arith;
+    }
 
 add-wide-4 : tie.Need-add-wide-4
 add-wide-4 c = search needs
@@ -86,7 +106,8 @@ wide-requires-6 c κs = search needs
 
 returns-4 : tie.Need-returns-4
 returns-4 c =
-    let a = c .before .before .before .before .before .before .args in
+    let else2 = c .before .before .before in let entry = else2 .before .before .before in
+    let a = entry .args in
     record { is = omega (arith, sextet-2 (a .s .now) (6 * a .q) (a .q / 4 * 3 + 2) (omega arith) (omega arith)); below = omega arith }
 
 pub position-at-spec : {M : Type 1} → statement M

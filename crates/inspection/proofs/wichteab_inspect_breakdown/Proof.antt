@@ -51,50 +51,50 @@ returns-2 c =
 break-down-requires : tie.Need-break-down-requires
 break-down-requires c κs =
     let k = c .before in
-    rows-right (bytes k) (told k .positions) (told k .edges) (told k .racks) (accepted-by k) _ (k .before .before .before .decode .ensures .1 .0)
+    rows-right (bytes k) (told k .positions) (told k .edges) (told k .racks) (accepted-by k) _
+    (k .before .before .before .decode .ensures .1 .0)
 
 returns-3 : tie.Need-returns-3
 returns-3 c =
-    let broken = c .before in
-    let k = broken .before .before in
+    let broken = c .before in let k = broken .before .before in
     let b = broken .break-down in
-    not-found (bytes k) (told k .positions) (told k .edges) (told k .racks) (accepted-by k) _ (k .before .before .before .decode .ensures .1 .0)
-    (b .result .ring) (b .result .handles) (b .result .order) (b .result .start) (b .result .left) (b .result .right) (b .ensures) _ (c .if2 .taken)
+    not-found (bytes k) (told k .positions) (told k .edges) (told k .racks) (accepted-by k) _
+    (k .before .before .before .decode .ensures .1 .0) (b .result .ring) (b .result .handles) (b .result .order) (b .result .start)
+    (b .result .left) (b .result .right) (b .ensures) _ (c .if2 .taken)
 
 lay-out-requires : tie.Need-lay-out-requires
 lay-out-requires c κs =
-    let broken = c .before .before in
-    let k = broken .before .before in
+    let broken = c .before .before in let k = broken .before .before in
     let b = broken .break-down in
     let long = measured k .if1 .left in
-    let few = small (bytes k) (told k .positions) (told k .edges) (told k .racks) (accepted-by k) _ (k .before .before .before .decode .ensures .1 .0)
-    (b .result .ring) (b .result .handles) (b .result .order) (b .result .start) (b .result .left) (b .result .right) (b .ensures) (omega arith) in
+    let few =
+    small (bytes k) (told k .positions) (told k .edges) (told k .racks) (accepted-by k) _ (k .before .before .before .decode .ensures .1 .0)
+    (b .result .ring) (b .result .handles) (b .result .order) (b .result .start) (b .result .left) (b .result .right) (b .ensures)
+    (omega arith) in
     (omega arith, omega arith)
 
 mul-result : tie.Need-mul-result
 mul-result c =
-    let laid = c .before .before in
-    let tested = laid .before .before in
-    let broken = tested .before in
+    let laid = c .before .before in let tested = laid .before .before in let broken = tested .before in
     let k = broken .before .before in
     let b = broken .break-down in
     omega (
       arith,
-      small (bytes k) (told k .positions) (told k .edges) (told k .racks) (accepted-by k) _ (k .before .before .before .decode .ensures .1 .0)
-          (b .result .ring) (b .result .handles) (b .result .order) (b .result .start) (b .result .left) (b .result .right) (b .ensures) (omega arith),
+      small (bytes k) (told k .positions) (told k .edges) (told k .racks) (accepted-by k) _
+          (k .before .before .before .decode .ensures .1 .0) (b .result .ring) (b .result .handles) (b .result .order) (b .result .start)
+          (b .result .left) (b .result .right) (b .ensures) (omega arith),
     )
 
 add-result : tie.Need-add-result
 add-result c =
-    let laid = c .before .before in
-    let tested = laid .before .before in
-    let broken = tested .before in
+    let laid = c .before .before in let tested = laid .before .before in let broken = tested .before in
     let k = broken .before .before in
     let b = broken .break-down in
     omega (
       arith,
-      small (bytes k) (told k .positions) (told k .edges) (told k .racks) (accepted-by k) _ (k .before .before .before .decode .ensures .1 .0)
-          (b .result .ring) (b .result .handles) (b .result .order) (b .result .start) (b .result .left) (b .result .right) (b .ensures) (omega arith),
+      small (bytes k) (told k .positions) (told k .edges) (told k .racks) (accepted-by k) _
+          (k .before .before .before .decode .ensures .1 .0) (b .result .ring) (b .result .handles) (b .result .order) (b .result .start)
+          (b .result .left) (b .result .right) (b .ensures) (omega arith),
     )
 
 same-length : tie.Need-same-length
@@ -102,13 +102,12 @@ same-length c = search needs
 
 returns-4 : tie.Need-returns-4
 returns-4 c =
-    let laid = c .before .before in
-    let tested = laid .before .before in
-    let broken = tested .before in
+    let laid = c .before .before in let tested = laid .before .before in let broken = tested .before in
     let k = broken .before .before in
     let b = broken .break-down in
     found (bytes k) (told k .positions) (told k .edges) (told k .racks) (accepted-by k) _ (k .before .before .before .decode .ensures .1 .0)
-    (b .result .ring) (b .result .handles) (b .result .order) (b .result .start) (b .result .left) (b .result .right) (b .ensures) (omega arith) _ _ (measured k .if1 .left) (laid .lay-out .ensures)
+    (b .result .ring) (b .result .handles) (b .result .order) (b .result .start) (b .result .left) (b .result .right) (b .ensures)
+    (omega arith) _ _ (measured k .if1 .left) (laid .lay-out .ensures)
 
 pub wichteab-inspect-breakdown-spec : {M : Type 1} → statement M
 wichteab-inspect-breakdown-spec =

@@ -37,7 +37,8 @@ add-t17 c = search needs
 
 returns : tie.Need-returns
 returns c =
-    let s = c .before .before .before .before .before .before .before .args .order .now in
+    let wide2 = c .before .before in let wide = wide2 .before .before in let entry = wide .before .before .before in
+    let s = entry .args .order .now in
     record {
       positions-are = omega (arith, head-positions s (omega arith) (omega arith) (omega arith) (omega arith));
       edges-are = omega (arith, head-edges s (omega arith) (omega arith) (omega arith) (omega arith));

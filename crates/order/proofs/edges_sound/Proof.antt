@@ -1,4 +1,5 @@
--- `order::edges_sound` meets its contract. The loop's invariant: what is left to judge, given the last edge's place, decides. Assumes nothing.
+-- `order::edges_sound` meets its contract. The loop's invariant: what is left to judge, given the last edge's place,
+-- decides. Assumes nothing.
 use Prim.Native.Nat.{_≤_, _-_}
 use native.Mathlib.Omega.{arith}
 use Rattle.order.proofs.Edges.{Left, left-first, not-right, left-next, left-none}

@@ -43,10 +43,18 @@ loop-less : tie.Need-loop-less Inv-loop μ-loop
 loop-less c = omega arith
 
 loop-again : tie.Need-loop-again Inv-loop μ-loop
-loop-again c = (omega arith, mark-next (c .before .before .before .before .args .tail .now) (c .before .before .before .before .args .e) (c .before .before .before .before .args .matrix .now) (c .before .before .loop .matrix) (c .before .before .loop .j) (c .pair-at .result .first) (c .pair-at .result .second) (c .before .before .loop .inv .1) (omega arith) (c .pair-at .ensures .first-is) (c .pair-at .ensures .second-is))
+loop-again c =
+    let round = c .before .before in let entry = round .before .before in (
+      omega arith,
+      mark-next (entry .args .tail .now) (entry .args .e) (entry .args .matrix .now) (round .loop .matrix) (round .loop .j)
+          (c .pair-at .result .first) (c .pair-at .result .second) (round .loop .inv .1) (omega arith) (c .pair-at .ensures .first-is)
+          (c .pair-at .ensures .second-is),
+    )
 
 returns : tie.Need-returns Inv-loop μ-loop
-returns c = mark-last (c .before .before .before .args .tail .now) (c .before .before .before .args .e) (c .before .before .before .args .matrix .now) (c .before .loop .matrix) (c .before .loop .j) (c .before .loop .inv .1) (omega arith)
+returns c =
+    mark-last (c .before .before .before .args .tail .now) (c .before .before .before .args .e)
+    (c .before .before .before .args .matrix .now) (c .before .loop .matrix) (c .before .loop .j) (c .before .loop .inv .1) (omega arith)
 
 pub mark-edges-spec : {M : Type 1} → statement M
 mark-edges-spec =

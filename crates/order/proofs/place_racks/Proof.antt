@@ -13,7 +13,10 @@ abbrev μ-loop : tie.MeasureT-loop
 μ-loop tail from m racks₀ i₀ racks i = m - i
 
 loop-holds : tie.Need-loop-holds Inv-loop μ-loop
-loop-holds c = (omega arith, place-first (c .before .args .tail .now) (c .before .args .from) (c .before .args .m) (c .before .args .racks .now))
+loop-holds c = (
+  omega arith,
+  place-first (c .before .args .tail .now) (c .before .args .from) (c .before .args .m) (c .before .args .racks .now),
+)
 
 add-position-at : tie.Need-add-position-at Inv-loop μ-loop
 add-position-at c = omega arith
@@ -37,10 +40,17 @@ loop-less : tie.Need-loop-less Inv-loop μ-loop
 loop-less c = omega arith
 
 loop-again : tie.Need-loop-again Inv-loop μ-loop
-loop-again c = (omega arith, place-next (c .before .before .before .before .args .tail .now) (c .before .before .before .before .args .from) (c .before .before .before .before .args .m) (c .before .before .before .before .args .racks .now) (c .before .before .loop .racks) (c .before .before .loop .i) (c .position-at .result) (c .before .before .loop .inv .1) (omega arith) (c .position-at .ensures .is))
+loop-again c =
+    let round = c .before .before in let entry = round .before .before in (
+      omega arith,
+      place-next (entry .args .tail .now) (entry .args .from) (entry .args .m) (entry .args .racks .now) (round .loop .racks)
+          (round .loop .i) (c .position-at .result) (round .loop .inv .1) (omega arith) (c .position-at .ensures .is),
+    )
 
 returns : tie.Need-returns Inv-loop μ-loop
-returns c = place-last (c .before .before .before .args .tail .now) (c .before .before .before .args .from) (c .before .before .before .args .m) (c .before .before .before .args .racks .now) (c .before .loop .racks) (c .before .loop .i) (c .before .loop .inv .1) (omega arith)
+returns c =
+    place-last (c .before .before .before .args .tail .now) (c .before .before .before .args .from) (c .before .before .before .args .m)
+    (c .before .before .before .args .racks .now) (c .before .loop .racks) (c .before .loop .i) (c .before .loop .inv .1) (omega arith)
 
 pub place-racks-spec : {M : Type 1} → statement M
 place-racks-spec =

@@ -23,30 +23,60 @@ enum-told c = search needs
 returns : tie.Need-returns
 unfolding edgesAnswer
 returns c =
-    c .before .before .read-head .ensures ∙ passUp-refused _ _ _ _ (sym (c .before .before .read-head .ensures) ∙ ap answerOf (c .enum-told .given .1))
+    c .before .before .read-head .ensures
+    ∙ passUp-refused _ _ _ _ (sym (c .before .before .read-head .ensures) ∙ ap answerOf (c .enum-told .given .1))
 
 sub-edges-sound : tie.Need-sub-edges-sound
 sub-edges-sound c =
-    tail-there (c .before .before .before .before .before .args .order .now) (c .before .head .given .0 .0 .positions) (c .before .head .given .0 .0 .edges) (c .before .head .given .0 .0 .racks) (head-gave (c .before .before .before .before .before .args .order .now) (c .before .head .given .0 .0 .positions) (c .before .head .given .0 .0 .edges) (c .before .head .given .0 .0 .racks) (ap answerOf (sym (c .before .head .given .1)) ∙ c .before .before .before .read-head .ensures))
+    let head = c .before in let read-head = head .before .before in let entry = read-head .before .before in
+    tail-there (entry .args .order .now) (head .head .given .0 .0 .positions) (head .head .given .0 .0 .edges)
+    (head .head .given .0 .0 .racks)
+    (head-gave (entry .args .order .now) (head .head .given .0 .0 .positions) (head .head .given .0 .0 .edges)
+    (head .head .given .0 .0 .racks) (ap answerOf (sym (head .head .given .1)) ∙ read-head .read-head .ensures))
 
 part-edges-sound-start : tie.Need-part-edges-sound-start
 part-edges-sound-start c =
-    tail-there (c .before .before .before .before .before .args .order .now) (c .before .head .given .0 .0 .positions) (c .before .head .given .0 .0 .edges) (c .before .head .given .0 .0 .racks) (head-gave (c .before .before .before .before .before .args .order .now) (c .before .head .given .0 .0 .positions) (c .before .head .given .0 .0 .edges) (c .before .head .given .0 .0 .racks) (ap answerOf (sym (c .before .head .given .1)) ∙ c .before .before .before .read-head .ensures))
+    let head = c .before in let read-head = head .before .before in let entry = read-head .before .before in
+    tail-there (entry .args .order .now) (head .head .given .0 .0 .positions) (head .head .given .0 .0 .edges)
+    (head .head .given .0 .0 .racks)
+    (head-gave (entry .args .order .now) (head .head .given .0 .0 .positions) (head .head .given .0 .0 .edges)
+    (head .head .given .0 .0 .racks) (ap answerOf (sym (head .head .given .1)) ∙ read-head .read-head .ensures))
 
 part-edges-sound-end : tie.Need-part-edges-sound-end
 part-edges-sound-end c = search needs
 
 edges-sound-requires : tie.Need-edges-sound-requires
 edges-sound-requires c κs =
-    omega (arith, tail-room (c .before .before .before .before .before .before .args .order .now) (c .before .before .head .given .0 .0 .positions) (c .before .before .head .given .0 .0 .edges) (c .before .before .head .given .0 .0 .racks) (head-gave (c .before .before .before .before .before .before .args .order .now) (c .before .before .head .given .0 .0 .positions) (c .before .before .head .given .0 .0 .edges) (c .before .before .head .given .0 .0 .racks) (ap answerOf (sym (c .before .before .head .given .1)) ∙ c .before .before .before .before .read-head .ensures)))
+    let head = c .before .before in let read-head = head .before .before in let entry = read-head .before .before in
+    omega (
+      arith,
+      tail-room (entry .args .order .now) (head .head .given .0 .0 .positions) (head .head .given .0 .0 .edges)
+          (head .head .given .0 .0 .racks)
+          (head-gave (entry .args .order .now) (head .head .given .0 .0 .positions) (head .head .given .0 .0 .edges)
+          (head .head .given .0 .0 .racks) (ap answerOf (sym (head .head .given .1)) ∙ read-head .read-head .ensures)),
+    )
 
 returns-2 : tie.Need-returns-2
 returns-2 c =
-    edges-wrong (c .before .before .before .before .before .before .before .before .args .order .now) (c .before .before .before .before .head .given .0 .0 .positions) (c .before .before .before .before .head .given .0 .0 .edges) (c .before .before .before .before .head .given .0 .0 .racks) (head-gave (c .before .before .before .before .before .before .before .before .args .order .now) (c .before .before .before .before .head .given .0 .0 .positions) (c .before .before .before .before .head .given .0 .0 .edges) (c .before .before .before .before .head .given .0 .0 .racks) (ap answerOf (sym (c .before .before .before .before .head .given .1)) ∙ c .before .before .before .before .before .before .read-head .ensures)) (ap answerOf (sym (c .before .before .before .before .head .given .1)) ∙ c .before .before .before .before .before .before .read-head .ensures) (c .before .edges-sound .result) (c .before .edges-sound .ensures) (not-true _ (c .if1 .taken))
+    let known-told = c .before .before .before in let head = known-told .before in
+    let read-head = head .before .before in let entry = read-head .before .before in
+    edges-wrong (entry .args .order .now) (head .head .given .0 .0 .positions) (head .head .given .0 .0 .edges)
+    (head .head .given .0 .0 .racks)
+    (head-gave (entry .args .order .now) (head .head .given .0 .0 .positions) (head .head .given .0 .0 .edges)
+    (head .head .given .0 .0 .racks) (ap answerOf (sym (head .head .given .1)) ∙ read-head .read-head .ensures))
+    (ap answerOf (sym (head .head .given .1)) ∙ read-head .read-head .ensures) (c .before .edges-sound .result)
+    (c .before .edges-sound .ensures) (not-true _ (c .if1 .taken))
 
 returns-3 : tie.Need-returns-3
 returns-3 c =
-    edges-right (c .before .before .before .before .before .before .before .before .args .order .now) (c .before .before .before .before .head .given .0 .0 .positions) (c .before .before .before .before .head .given .0 .0 .edges) (c .before .before .before .before .head .given .0 .0 .racks) (head-gave (c .before .before .before .before .before .before .before .before .args .order .now) (c .before .before .before .before .head .given .0 .0 .positions) (c .before .before .before .before .head .given .0 .0 .edges) (c .before .before .before .before .head .given .0 .0 .racks) (ap answerOf (sym (c .before .before .before .before .head .given .1)) ∙ c .before .before .before .before .before .before .read-head .ensures)) (ap answerOf (sym (c .before .before .before .before .head .given .1)) ∙ c .before .before .before .before .before .before .read-head .ensures) (c .before .edges-sound .result) (c .before .edges-sound .ensures) (not-false _ (c .if1 .left))
+    let known-told = c .before .before .before in let head = known-told .before in
+    let read-head = head .before .before in let entry = read-head .before .before in
+    edges-right (entry .args .order .now) (head .head .given .0 .0 .positions) (head .head .given .0 .0 .edges)
+    (head .head .given .0 .0 .racks)
+    (head-gave (entry .args .order .now) (head .head .given .0 .0 .positions) (head .head .given .0 .0 .edges)
+    (head .head .given .0 .0 .racks) (ap answerOf (sym (head .head .given .1)) ∙ read-head .read-head .ensures))
+    (ap answerOf (sym (head .head .given .1)) ∙ read-head .read-head .ensures) (c .before .edges-sound .result)
+    (c .before .edges-sound .ensures) (not-false _ (c .if1 .left))
 
 pub read-edges-spec : {M : Type 1} → statement M
 read-edges-spec =

@@ -23,27 +23,52 @@ units-fit-requires c κs = search needs
 
 returns-2 : tie.Need-returns-2
 returns-2 c =
-    wrong-length (c .before .before .before .before .before .before .args .order .now) (c .before .before .before .counts-of .result .positions) (c .before .before .before .counts-of .result .edges) (c .before .before .before .counts-of .result .racks) (c .before .before .before .counts-of .ensures) (c .before .units-fit .result) (c .before .units-fit .ensures) (not-true _ (c .if2 .taken))
+    let counts-of = c .before .before .before in let entry = counts-of .before .before .before in
+    wrong-length (entry .args .order .now) (counts-of .counts-of .result .positions) (counts-of .counts-of .result .edges)
+    (counts-of .counts-of .result .racks) (counts-of .counts-of .ensures) (c .before .units-fit .result) (c .before .units-fit .ensures)
+    (not-true _ (c .if2 .taken))
 
 returns-3 : tie.Need-returns-3
 returns-3 c =
-    none (c .before .before .before .before .before .before .before .args .order .now) (c .before .before .before .before .counts-of .result .positions) (c .before .before .before .before .counts-of .result .edges) (c .before .before .before .before .counts-of .result .racks) (c .before .before .before .before .counts-of .ensures) (c .before .before .units-fit .result) (c .before .before .units-fit .ensures) (not-false _ (c .before .if2 .left)) (c .if3 .taken)
+    let units-fit = c .before .before in let counts-of = units-fit .before .before in
+    let entry = counts-of .before .before .before in
+    none (entry .args .order .now) (counts-of .counts-of .result .positions) (counts-of .counts-of .result .edges)
+    (counts-of .counts-of .result .racks) (counts-of .counts-of .ensures) (units-fit .units-fit .result) (units-fit .units-fit .ensures)
+    (not-false _ (c .before .if2 .left)) (c .if3 .taken)
 
 returns-4 : tie.Need-returns-4
 returns-4 c =
-    many (c .before .before .before .before .before .before .before .before .args .order .now) (c .before .before .before .before .before .counts-of .result .positions) (c .before .before .before .before .before .counts-of .result .edges) (c .before .before .before .before .before .counts-of .result .racks) (c .before .before .before .before .before .counts-of .ensures) (c .before .before .before .units-fit .result) (c .before .before .before .units-fit .ensures) (not-false _ (c .before .before .if2 .left)) (omega arith)
+    let else2 = c .before .before in let units-fit = else2 .before in let counts-of = units-fit .before .before in
+    let entry = counts-of .before .before .before in
+    many (entry .args .order .now) (counts-of .counts-of .result .positions) (counts-of .counts-of .result .edges)
+    (counts-of .counts-of .result .racks) (counts-of .counts-of .ensures) (units-fit .units-fit .result) (units-fit .units-fit .ensures)
+    (not-false _ (else2 .if2 .left)) (omega arith)
 
 units-clean-requires : tie.Need-units-clean-requires
 units-clean-requires c κs =
-    fitted (c .before .before .before .before .before .before .before .before .args .order .now) (c .before .before .before .before .before .counts-of .result .positions) (c .before .before .before .before .before .counts-of .result .edges) (c .before .before .before .before .before .counts-of .result .racks) (c .before .before .before .before .before .counts-of .ensures) (c .before .before .before .units-fit .result) (c .before .before .before .units-fit .ensures) (not-false _ (c .before .before .if2 .left))
+    let else2 = c .before .before in let units-fit = else2 .before in let counts-of = units-fit .before .before in
+    let entry = counts-of .before .before .before in
+    fitted (entry .args .order .now) (counts-of .counts-of .result .positions) (counts-of .counts-of .result .edges)
+    (counts-of .counts-of .result .racks) (counts-of .counts-of .ensures) (units-fit .units-fit .result) (units-fit .units-fit .ensures)
+    (not-false _ (else2 .if2 .left))
 
 returns-5 : tie.Need-returns-5
 returns-5 c =
-    padding (c .before .before .before .before .before .before .before .before .before .before .args .order .now) (c .before .before .before .before .before .before .before .counts-of .result .positions) (c .before .before .before .before .before .before .before .counts-of .result .edges) (c .before .before .before .before .before .before .before .counts-of .result .racks) (c .before .before .before .before .before .before .before .counts-of .ensures) (c .before .before .before .before .before .units-fit .result) (c .before .before .before .before .before .units-fit .ensures) (not-false _ (c .before .before .before .before .if2 .left)) (c .before .before .before .if3 .left) (omega arith) (c .before .units-clean .result) (c .before .units-clean .ensures) (not-true _ (c .if5 .taken))
+    let else3 = c .before .before .before in let else2 = else3 .before in let units-fit = else2 .before in
+    let counts-of = units-fit .before .before in let entry = counts-of .before .before .before in
+    padding (entry .args .order .now) (counts-of .counts-of .result .positions) (counts-of .counts-of .result .edges)
+    (counts-of .counts-of .result .racks) (counts-of .counts-of .ensures) (units-fit .units-fit .result) (units-fit .units-fit .ensures)
+    (not-false _ (else2 .if2 .left)) (else3 .if3 .left) (omega arith) (c .before .units-clean .result) (c .before .units-clean .ensures)
+    (not-true _ (c .if5 .taken))
 
 returns-6 : tie.Need-returns-6
 returns-6 c =
-    sound (c .before .before .before .before .before .before .before .before .before .before .args .order .now) (c .before .before .before .before .before .before .before .counts-of .result .positions) (c .before .before .before .before .before .before .before .counts-of .result .edges) (c .before .before .before .before .before .before .before .counts-of .result .racks) (c .before .before .before .before .before .before .before .counts-of .ensures) (c .before .before .before .before .before .units-fit .result) (c .before .before .before .before .before .units-fit .ensures) (not-false _ (c .before .before .before .before .if2 .left)) (c .before .before .before .if3 .left) (omega arith) (c .before .units-clean .result) (c .before .units-clean .ensures) (not-false _ (c .if5 .left))
+    let else3 = c .before .before .before in let else2 = else3 .before in let units-fit = else2 .before in
+    let counts-of = units-fit .before .before in let entry = counts-of .before .before .before in
+    sound (entry .args .order .now) (counts-of .counts-of .result .positions) (counts-of .counts-of .result .edges)
+    (counts-of .counts-of .result .racks) (counts-of .counts-of .ensures) (units-fit .units-fit .result) (units-fit .units-fit .ensures)
+    (not-false _ (else2 .if2 .left)) (else3 .if3 .left) (omega arith) (c .before .units-clean .result) (c .before .units-clean .ensures)
+    (not-false _ (c .if5 .left))
 
 pub read-head-spec : {M : Type 1} → statement M
 read-head-spec =

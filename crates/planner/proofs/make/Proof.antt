@@ -1,4 +1,5 @@
--- `planner::make` meets its contract: a refusal of the floor judge is passed up, and `Making` has the answers above its acceptance. Assumes nothing.
+-- `planner::make` meets its contract: a refusal of the floor judge is passed up, and `Making` has the answers above its
+-- acceptance. Assumes nothing.
 use Prim.Native.Nat.{ℕ}
 use mathlib.Core.Path.{_≡_, ap, sym, _∙_}
 use mathlib.Core.List.{List, [], _∷_}

@@ -24,7 +24,9 @@ element-copy-out-if1-2 : tie.Need-element-copy-out-if1-2 Inv-loop μ-loop
 element-copy-out-if1-2 c = omega arith
 
 returns : tie.Need-returns Inv-loop μ-loop
-returns c = says-no (λ all. c .if1 .taken (all (c .before .before .before .before .loop .p) (omega arith)))
+returns c =
+    let turn = c .before .before .before in let round = turn .before in
+    says-no (λ all. c .if1 .taken (all (round .loop .p) (omega arith)))
 
 add-p : tie.Need-add-p Inv-loop μ-loop
 add-p c = omega arith
@@ -34,8 +36,9 @@ loop-less c = omega arith
 
 loop-again : tie.Need-loop-again Inv-loop μ-loop
 loop-again c =
-    let a = c .before .before .before .before .before .args in
-    let l = c .before .before .before .before .loop in
+    let turn = c .before .before .before in let round = turn .before in let entry = round .before in
+    let a = entry .args in
+    let l = round .loop in
     (omega arith, alike-next (row (a .start .now)) (row (a .goal .now)) (l .p) (c .if1 .left) (l .inv .1))
 
 returns-2 : tie.Need-returns-2 Inv-loop μ-loop

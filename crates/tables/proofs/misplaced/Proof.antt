@@ -31,16 +31,30 @@ wide-requires : tie.Need-wide-requires Inv-loop μ-loop
 wide-requires c κs = search needs
 
 returns : tie.Need-returns Inv-loop μ-loop
-returns c = found (c .before .before .before .before .before .before .before .args .tail .now) (c .before .before .before .before .before .before .before .args .from) (c .before .before .before .before .before .before .before .args .m) (c .before .before .before .before .before .before .before .args .racks .now) (c .before .before .before .before .before .loop .i) (c .before .before .before .position-at .result) (c .before .wide .result) (c .before .before .before .before .before .loop .inv .1) (omega arith) (c .before .before .before .position-at .ensures .is) (c .before .wide .ensures .0) (c .if1 .taken)
+returns c =
+    let position-at = c .before .before .before in let round = position-at .before .before in
+    let entry = round .before .before in
+    found (entry .args .tail .now) (entry .args .from) (entry .args .m) (entry .args .racks .now) (round .loop .i)
+    (position-at .position-at .result) (c .before .wide .result) (round .loop .inv .1) (omega arith) (position-at .position-at .ensures .is)
+    (c .before .wide .ensures .0) (c .if1 .taken)
 
 loop-less : tie.Need-loop-less Inv-loop μ-loop
 loop-less c = omega arith
 
 loop-again : tie.Need-loop-again Inv-loop μ-loop
-loop-again c = (omega arith, left-next (c .before .before .before .before .before .before .before .args .tail .now) (c .before .before .before .before .before .before .before .args .from) (c .before .before .before .before .before .before .before .args .m) (c .before .before .before .before .before .before .before .args .racks .now) (c .before .before .before .before .before .loop .i) (c .before .before .before .position-at .result) (c .before .wide .result) (c .before .before .before .before .before .loop .inv .1) (omega arith) (c .before .before .before .position-at .ensures .is) (c .before .wide .ensures .0) (c .if1 .left))
+loop-again c =
+    let position-at = c .before .before .before in let round = position-at .before .before in
+    let entry = round .before .before in (
+      omega arith,
+      left-next (entry .args .tail .now) (entry .args .from) (entry .args .m) (entry .args .racks .now) (round .loop .i)
+          (position-at .position-at .result) (c .before .wide .result) (round .loop .inv .1) (omega arith)
+          (position-at .position-at .ensures .is) (c .before .wide .ensures .0) (c .if1 .left),
+    )
 
 returns-2 : tie.Need-returns-2 Inv-loop μ-loop
-returns-2 c = left-none (c .before .before .before .args .tail .now) (c .before .before .before .args .from) (c .before .before .before .args .m) (c .before .before .before .args .racks .now) (c .before .loop .i) (c .before .loop .inv .1) (omega arith)
+returns-2 c =
+    left-none (c .before .before .before .args .tail .now) (c .before .before .before .args .from) (c .before .before .before .args .m)
+    (c .before .before .before .args .racks .now) (c .before .loop .i) (c .before .loop .inv .1) (omega arith)
 
 pub misplaced-spec : {M : Type 1} → statement M
 misplaced-spec =

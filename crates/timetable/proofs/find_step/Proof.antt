@@ -18,7 +18,10 @@ enum-told c = search needs
 
 offset-of-requires : tie.Need-offset-of-requires
 offset-of-requires c κs =
-    let g = (number-gave (c .before .before .before .before .args .timetable .now) (c .before .before .before .before .args .number) _ (sym (c .before .before .read-number .ensures) ∙ ap answerOfReading (c .enum-told .given .1))) in
+    let read-number = c .before .before in let entry = read-number .before .before in
+    let g =
+    (number-gave (entry .args .timetable .now) (entry .args .number) _
+    (sym (read-number .read-number .ensures) ∙ ap answerOfReading (c .enum-told .given .1))) in
     (g .length-right, g .low, g .high)
 
 shared-slice-read-step-length : tie.Need-shared-slice-read-step-length
@@ -29,11 +32,19 @@ step-length-requires c κs = search needs
 
 returns : tie.Need-returns
 returns c =
-    found (c .before .before .before .before .before .before .before .args .timetable .now) (c .before .before .before .before .before .before .before .args .number) (number-gave (c .before .before .before .before .before .before .before .args .timetable .now) (c .before .before .before .before .before .before .before .args .number) _ (sym (c .before .before .before .before .before .read-number .ensures) ∙ ap answerOfReading (c .before .before .before .enum-told .given .1))) _ _ (c .before .before .offset-of .ensures .0) (c .step-length .ensures .size-is) _ _ (c .before .before .before .before .before .read-number .ensures) (ap answerOfReading (c .before .before .before .enum-told .given .1))
+    let offset-of = c .before .before in let enum-told = offset-of .before in
+    let read-number = enum-told .before .before in let entry = read-number .before .before in
+    found (entry .args .timetable .now) (entry .args .number)
+    (number-gave (entry .args .timetable .now) (entry .args .number) _
+    (sym (read-number .read-number .ensures) ∙ ap answerOfReading (enum-told .enum-told .given .1)))
+    _ _ (offset-of .offset-of .ensures .0) (c .step-length .ensures .size-is) _ _ (read-number .read-number .ensures)
+    (ap answerOfReading (enum-told .enum-told .given .1))
 
 returns-2 : tie.Need-returns-2
 returns-2 c =
-    not-found (c .before .before .before .before .before .args .timetable .now) (c .before .before .before .before .before .args .number) _ _ _ (c .before .before .before .read-number .ensures) (ap answerOfReading (c .before .reading .given .1))
+    let read-number = c .before .before .before in let entry = read-number .before .before in
+    not-found (entry .args .timetable .now) (entry .args .number) _ _ _ (read-number .read-number .ensures)
+    (ap answerOfReading (c .before .reading .given .1))
 
 pub find-step-spec : {M : Type 1} → statement M
 find-step-spec =

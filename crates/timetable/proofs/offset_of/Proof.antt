@@ -18,14 +18,20 @@ loop-holds c = (omega arith, omega arith, stands-first _ (c .before .pre .0))
 
 shared-slice-read-step-length : tie.Need-shared-slice-read-step-length Inv-loop μ-loop
 shared-slice-read-step-length c =
-    (stands-room (c .before .before .before .before .args .timetable .now) (c .before .before .loop .i - 1) (c .before .before .loop .at) (c .before .before .loop .inv .2) (omega arith)) .begins
+    let round = c .before .before in let entry = round .before .before in
+    (stands-room (entry .args .timetable .now) (round .loop .i - 1) (round .loop .at) (round .loop .inv .2) (omega arith)) .begins
 
 step-length-requires : tie.Need-step-length-requires Inv-loop μ-loop
 step-length-requires c κs = search needs
 
 add-at : tie.Need-add-at Inv-loop μ-loop
 add-at c =
-    omega (arith, (stands-room (c .before .before .before .before .before .args .timetable .now) (c .before .before .before .loop .i - 1) (c .before .before .before .loop .at) (c .before .before .before .loop .inv .2) (omega arith)) .ends, c .step-length .ensures .size-is)
+    let round = c .before .before .before in let entry = round .before .before in
+    omega (
+      arith,
+      (stands-room (entry .args .timetable .now) (round .loop .i - 1) (round .loop .at) (round .loop .inv .2) (omega arith)) .ends,
+      c .step-length .ensures .size-is,
+    )
 
 add-i : tie.Need-add-i Inv-loop μ-loop
 add-i c = omega arith
@@ -34,12 +40,17 @@ loop-less : tie.Need-loop-less Inv-loop μ-loop
 loop-less c = omega arith
 
 loop-again : tie.Need-loop-again Inv-loop μ-loop
-loop-again c =
-    (omega arith, omega arith, stands-on _ (c .before .before .before .loop .i) (c .before .before .before .loop .at) _ (omega arith) (omega arith) (c .before .before .before .loop .inv .2) (c .step-length .ensures .size-is))
+loop-again c = (
+  omega arith,
+  omega arith,
+  stands-on _ (c .before .before .before .loop .i) (c .before .before .before .loop .at) _ (omega arith) (omega arith)
+      (c .before .before .before .loop .inv .2) (c .step-length .ensures .size-is),
+)
 
 returns : tie.Need-returns Inv-loop μ-loop
 returns c =
-    stands-there (c .before .before .before .args .timetable .now) (c .before .before .before .args .number) (c .before .loop .i) (c .before .loop .at) (omega arith) (omega arith) (c .before .before .before .pre .2) (omega arith) (c .before .loop .inv .2)
+    stands-there (c .before .before .before .args .timetable .now) (c .before .before .before .args .number) (c .before .loop .i)
+    (c .before .loop .at) (omega arith) (omega arith) (c .before .before .before .pre .2) (omega arith) (c .before .loop .inv .2)
 
 pub offset-of-spec : {M : Type 1} → statement M
 offset-of-spec =

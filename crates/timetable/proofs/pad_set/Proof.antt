@@ -27,15 +27,22 @@ mul-pad-after c = search needs
 
 pad-after-requires : tie.Need-pad-after-requires
 pad-after-requires c κs =
-    pad-room (c .before .before .before .before .args .step .now) (c .before .before .before .before .pre) (c .wide .result) (c .wide .ensures .0)
+    let shared-slice-known = c .before .before .before in let entry = shared-slice-known .before in
+    pad-room (entry .args .step .now) (entry .pre) (c .wide .result) (c .wide .ensures .0)
 
 returns : tie.Need-returns
 returns c =
-    pad-there (c .before .before .before .before .before .before .args .step .now) (c .before .before .before .before .before .before .pre) (c .before .before .wide .result) (c .before .pad-after .result) (c .before .before .wide .ensures .0) (c .before .pad-after .ensures) (c .if1 .taken)
+    let wide = c .before .before in let shared-slice-known = wide .before .before .before in
+    let entry = shared-slice-known .before in
+    pad-there (entry .args .step .now) (entry .pre) (wide .wide .result) (c .before .pad-after .result) (wide .wide .ensures .0)
+    (c .before .pad-after .ensures) (c .if1 .taken)
 
 returns-2 : tie.Need-returns-2
 returns-2 c =
-    pad-clear (c .before .before .before .before .before .before .args .step .now) (c .before .before .before .before .before .before .pre) (c .before .before .wide .result) (c .before .pad-after .result) (c .before .before .wide .ensures .0) (c .before .pad-after .ensures) (omega arith)
+    let wide = c .before .before in let shared-slice-known = wide .before .before .before in
+    let entry = shared-slice-known .before in
+    pad-clear (entry .args .step .now) (entry .pre) (wide .wide .result) (c .before .pad-after .result) (wide .wide .ensures .0)
+    (c .before .pad-after .ensures) (omega arith)
 
 pub pad-set-spec : {M : Type 1} → statement M
 pad-set-spec =

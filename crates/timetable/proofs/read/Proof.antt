@@ -25,18 +25,29 @@ enum-told-2 c = search needs
 
 returns-2 : tie.Need-returns-2
 returns-2 c =
-    passed-up (c .before .before .before .before .before .before .args .timetable .now) (omega arith) (c .before .before .before .count-at-head .result) (c .before .before .before .count-at-head .ensures) _ (c .before .before .read-steps .ensures) _ _ (ap answerOfReading (c .enum-told2 .given .1))
+    let read-steps = c .before .before in let count-at-head = read-steps .before in
+    let entry = count-at-head .before .before .before in
+    passed-up (entry .args .timetable .now) (omega arith) (count-at-head .count-at-head .result) (count-at-head .count-at-head .ensures) _
+    (read-steps .read-steps .ensures) _ _ (ap answerOfReading (c .enum-told2 .given .1))
 
 spare-at-head-requires : tie.Need-spare-at-head-requires
 spare-at-head-requires c κs = search needs
 
 returns-3 : tie.Need-returns-3
 returns-3 c =
-    spare-set (c .before .before .before .before .before .before .before .before .args .timetable .now) (omega arith) (c .before .before .before .before .before .count-at-head .result) (c .before .before .before .before .before .count-at-head .ensures) _ (c .before .before .before .before .read-steps .ensures) _ (ap answerOfReading (c .before .before .enum-told .given .1)) (c .before .spare-at-head .result) (c .before .spare-at-head .ensures) (c .if2 .taken)
+    let enum-told = c .before .before in let read-steps = enum-told .before .before in
+    let count-at-head = read-steps .before in let entry = count-at-head .before .before .before in
+    spare-set (entry .args .timetable .now) (omega arith) (count-at-head .count-at-head .result) (count-at-head .count-at-head .ensures) _
+    (read-steps .read-steps .ensures) _ (ap answerOfReading (enum-told .enum-told .given .1)) (c .before .spare-at-head .result)
+    (c .before .spare-at-head .ensures) (c .if2 .taken)
 
 returns-4 : tie.Need-returns-4
 returns-4 c =
-    sound (c .before .before .before .before .before .before .before .before .args .timetable .now) (omega arith) (c .before .before .before .before .before .count-at-head .result) (c .before .before .before .before .before .count-at-head .ensures) _ (c .before .before .before .before .read-steps .ensures) _ (ap answerOfReading (c .before .before .enum-told .given .1)) (c .before .spare-at-head .result) (c .before .spare-at-head .ensures) (omega arith)
+    let enum-told = c .before .before in let read-steps = enum-told .before .before in
+    let count-at-head = read-steps .before in let entry = count-at-head .before .before .before in
+    sound (entry .args .timetable .now) (omega arith) (count-at-head .count-at-head .result) (count-at-head .count-at-head .ensures) _
+    (read-steps .read-steps .ensures) _ (ap answerOfReading (enum-told .enum-told .given .1)) (c .before .spare-at-head .result)
+    (c .before .spare-at-head .ensures) (omega arith)
 
 pub read-spec : {M : Type 1} → statement M
 read-spec =

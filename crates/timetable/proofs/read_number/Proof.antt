@@ -21,19 +21,26 @@ enum-told c = search needs
 returns : tie.Need-returns
 unfolding numberAnswer
 returns c =
-    c .before .before .read .ensures ∙ passUp-refused _ _ _ _ (sym (c .before .before .read .ensures) ∙ ap answerOfReading (c .enum-told .given .1))
+    c .before .before .read .ensures
+    ∙ passUp-refused _ _ _ _ (sym (c .before .before .read .ensures) ∙ ap answerOfReading (c .enum-told .given .1))
 
 returns-2 : tie.Need-returns-2
 returns-2 c =
-    step-zero (c .before .before .before .before .before .before .args .timetable .now) (c .before .before .before .before .before .before .args .number) (c .before .before .reading .given .0 .0) (c .before .before .reading .given .0 .1 .0) (ap answerOfReading (sym (c .before .before .reading .given .1)) ∙ c .before .before .before .before .read .ensures) (omega arith)
+    let reading = c .before .before in let read = reading .before .before in let entry = read .before .before in
+    step-zero (entry .args .timetable .now) (entry .args .number) (reading .reading .given .0 .0) (reading .reading .given .0 .1 .0)
+    (ap answerOfReading (sym (reading .reading .given .1)) ∙ read .read .ensures) (omega arith)
 
 returns-3 : tie.Need-returns-3
 returns-3 c =
-    step-above (c .before .before .before .before .before .before .before .args .timetable .now) (c .before .before .before .before .before .before .before .args .number) (c .before .before .before .reading .given .0 .0) (c .before .before .before .reading .given .0 .1 .0) (ap answerOfReading (sym (c .before .before .before .reading .given .1)) ∙ c .before .before .before .before .before .read .ensures) (omega arith)
+    let reading = c .before .before .before in let read = reading .before .before in let entry = read .before .before in
+    step-above (entry .args .timetable .now) (entry .args .number) (reading .reading .given .0 .0) (reading .reading .given .0 .1 .0)
+    (ap answerOfReading (sym (reading .reading .given .1)) ∙ read .read .ensures) (omega arith)
 
 returns-4 : tie.Need-returns-4
 returns-4 c =
-    step-there (c .before .before .before .before .before .before .before .args .timetable .now) (c .before .before .before .before .before .before .before .args .number) (c .before .before .before .reading .given .0 .0) (c .before .before .before .reading .given .0 .1 .0) (ap answerOfReading (sym (c .before .before .before .reading .given .1)) ∙ c .before .before .before .before .before .read .ensures) (c .before .if1 .left) (omega arith)
+    let reading = c .before .before .before in let read = reading .before .before in let entry = read .before .before in
+    step-there (entry .args .timetable .now) (entry .args .number) (reading .reading .given .0 .0) (reading .reading .given .0 .1 .0)
+    (ap answerOfReading (sym (reading .reading .given .1)) ∙ read .read .ensures) (c .before .if1 .left) (omega arith)
 
 pub read-number-spec : {M : Type 1} → statement M
 read-number-spec =

@@ -9,12 +9,14 @@ use Prim.Native.Nat.{_≤_, _-_}
 use native.Mathlib.Omega.{arith}
 use borrow.Author.Needs.{needs}
 use lib.ListN.{length}
-use Rattle.timetable.proofs.Reading.{Left, left-first, remembered, kept, past, runs-past, part-length, left-next, left-over, pads-set, left-none}
+use Rattle.timetable.proofs.Reading.{Left, left-first, remembered, kept, past, runs-past, part-length, left-next, left-over}
+use Rattle.timetable.proofs.Reading.{pads-set, left-none}
 use Rattle.timetable.proofs.read_steps.Statement.{statement}
 use Rattle.timetable.proofs.read_steps.Tie as tie
 
 abbrev Inv-loop : tie.InvT-loop
-Inv-loop timetable count at₀ moves₀ seen₀ i₀ at moves seen i = (i ≤ count) × (moves ≤ at) × (at ≤ length timetable) × Left timetable count at moves seen i
+Inv-loop timetable count at₀ moves₀ seen₀ i₀ at moves seen i =
+    (i ≤ count) × (moves ≤ at) × (at ≤ length timetable) × Left timetable count at moves seen i
 
 abbrev μ-loop : tie.MeasureT-loop
 μ-loop timetable count at₀ moves₀ seen₀ i₀ at moves seen i = count - i
@@ -24,7 +26,9 @@ loop-holds c = (omega arith, omega arith, omega arith, left-first _ _)
 
 returns : tie.Need-returns Inv-loop μ-loop
 returns c =
-    past (c .before .before .before .before .args .timetable .now) (c .before .before .before .before .args .count) (c .before .before .loop .at) (c .before .before .loop .moves) (c .before .before .loop .pad-seen) (c .before .before .loop .i) (c .before .before .loop .inv .3) (omega arith) (omega arith)
+    let round = c .before .before in let entry = round .before .before in
+    past (entry .args .timetable .now) (entry .args .count) (round .loop .at) (round .loop .moves) (round .loop .pad-seen) (round .loop .i)
+    (round .loop .inv .3) (omega arith) (omega arith)
 
 shared-slice-read-c : tie.Need-shared-slice-read-c Inv-loop μ-loop
 shared-slice-read-c c = omega arith
@@ -37,7 +41,10 @@ sub-if2 c = omega arith
 
 returns-2 : tie.Need-returns-2 Inv-loop μ-loop
 returns-2 c =
-    runs-past (c .before .before .before .before .before .before .before .args .timetable .now) (c .before .before .before .before .before .before .before .args .count) (c .before .before .before .before .before .loop .at) (c .before .before .before .before .before .loop .moves) (c .before .before .before .before .before .loop .pad-seen) (c .before .before .before .before .before .loop .i) (c .before .before .before .before .before .loop .inv .3) (omega arith) (getD (c .before .before .before .before .before .before .before .args .timetable .now) (c .before .before .before .before .before .loop .at) 0) (c .before .step-length .result) refl (c .before .step-length .ensures .size-is) (omega arith) (omega arith)
+    let else1 = c .before .before .before in let round = else1 .before .before in let entry = round .before .before in
+    runs-past (entry .args .timetable .now) (entry .args .count) (round .loop .at) (round .loop .moves) (round .loop .pad-seen)
+    (round .loop .i) (round .loop .inv .3) (omega arith) (getD (entry .args .timetable .now) (round .loop .at) 0)
+    (c .before .step-length .result) refl (c .before .step-length .ensures .size-is) (omega arith) (omega arith)
 
 add-next : tie.Need-add-next Inv-loop μ-loop
 add-next c = omega arith
@@ -53,7 +60,11 @@ part-pad-set-end c = omega arith
 
 pad-set-requires : tie.Need-pad-set-requires Inv-loop μ-loop
 pad-set-requires c κs =
-    part-length (c .before .before .before .before .before .before .before .before .args .timetable .now) (c .before .before .before .before .before .before .before .before .args .count) (c .before .before .before .before .before .before .loop .at) (c .before .before .before .before .before .before .loop .moves) (c .before .before .before .before .before .before .loop .pad-seen) (c .before .before .before .before .before .before .loop .i) (c .before .before .before .before .before .before .loop .inv .3) (omega arith) (getD (c .before .before .before .before .before .before .before .before .args .timetable .now) (c .before .before .before .before .before .before .loop .at) 0) (c .before .before .step-length .result) refl (c .before .before .step-length .ensures .size-is) (omega arith) (omega arith)
+    let step-length = c .before .before in let turn = step-length .before .before .before in let round = turn .before in
+    let entry = round .before .before in
+    part-length (entry .args .timetable .now) (entry .args .count) (round .loop .at) (round .loop .moves) (round .loop .pad-seen)
+    (round .loop .i) (round .loop .inv .3) (omega arith) (getD (entry .args .timetable .now) (round .loop .at) 0)
+    (step-length .step-length .result) refl (step-length .step-length .ensures .size-is) (omega arith) (omega arith)
 
 wide-requires : tie.Need-wide-requires Inv-loop μ-loop
 wide-requires c κs = search needs
@@ -68,29 +79,38 @@ loop-less : tie.Need-loop-less Inv-loop μ-loop
 loop-less c = omega arith
 
 loop-again : tie.Need-loop-again Inv-loop μ-loop
-loop-again c = (
-  omega arith,
-  omega arith,
-  omega arith,
-  left-next (c .before .before .before .before .before .before .before .before .before .before .before .args .timetable .now) (c .before .before .before .before .before .before .before .before .before .before .before .args .count) (c .before .before .before .before .before .before .before .before .before .loop .at) (c .before .before .before .before .before .before .before .before .before .loop .moves) (c .before .before .before .before .before .before .before .before .before .loop .pad-seen) (c .before .before .before .before .before .before .before .before .before .loop .i) (c .before .before .before .before .before .before .before .before .before .loop .inv .3) (omega arith) (c .wide .result) (c .before .before .before .before .before .step-length .result) (c .wide .ensures .0) (c .before .before .before .before .before .step-length .ensures .size-is ∙ ap stepLength (sym (c .wide .ensures .0))) (omega arith) (omega arith) (c .before .if3 .pad-seen)
-      (⊎-elim
-      (λ w. remembered _ (c .before .before .before .before .before .before .before .before .before .loop .pad-seen) (c .before .before .pad-set .result) (w .1) (w .0 .taken))
-      (λ w. kept _ (c .before .before .before .before .before .before .before .before .before .loop .pad-seen) (c .before .before .pad-set .result) (w .1) (w .0 .left))
-      (c .before .if3 .came)
-      ∙ ap (λ (b : Bool). c .before .before .before .before .before .before .before .before .before .loop .pad-seen || b) (c .before .before .pad-set .ensures)),
-)
+loop-again c =
+    let pad-set = c .before .before in let step-length = pad-set .before .before .before in
+    let turn = step-length .before .before .before in let round = turn .before in let entry = round .before .before in (
+      omega arith,
+      omega arith,
+      omega arith,
+      left-next (entry .args .timetable .now) (entry .args .count) (round .loop .at) (round .loop .moves) (round .loop .pad-seen)
+          (round .loop .i) (round .loop .inv .3) (omega arith) (c .wide .result) (step-length .step-length .result) (c .wide .ensures .0)
+          (step-length .step-length .ensures .size-is ∙ ap stepLength (sym (c .wide .ensures .0))) (omega arith) (omega arith)
+          (c .before .if3 .pad-seen)
+          (⊎-elim (λ w. remembered _ (round .loop .pad-seen) (pad-set .pad-set .result) (w .1) (w .0 .taken))
+          (λ w. kept _ (round .loop .pad-seen) (pad-set .pad-set .result) (w .1) (w .0 .left)) (c .before .if3 .came)
+          ∙ ap (λ (b : Bool). round .loop .pad-seen || b) (pad-set .pad-set .ensures)),
+    )
 
 returns-3 : tie.Need-returns-3 Inv-loop μ-loop
 returns-3 c =
-    left-over (c .before .before .before .before .args .timetable .now) (c .before .before .before .before .args .count) (c .before .before .loop .at) (c .before .before .loop .moves) (c .before .before .loop .pad-seen) (c .before .before .loop .i) (c .before .before .loop .inv .3) (omega arith) (omega arith)
+    let round = c .before .before in let entry = round .before .before in
+    left-over (entry .args .timetable .now) (entry .args .count) (round .loop .at) (round .loop .moves) (round .loop .pad-seen)
+    (round .loop .i) (round .loop .inv .3) (omega arith) (omega arith)
 
 returns-4 : tie.Need-returns-4 Inv-loop μ-loop
 returns-4 c =
-    pads-set (c .before .before .before .before .before .args .timetable .now) (c .before .before .before .before .before .args .count) (c .before .before .before .loop .at) (c .before .before .before .loop .moves) (c .before .before .before .loop .pad-seen) (c .before .before .before .loop .i) (c .before .before .before .loop .inv .3) (omega arith) (omega arith) (c .if5 .taken)
+    let round = c .before .before .before in let entry = round .before .before in
+    pads-set (entry .args .timetable .now) (entry .args .count) (round .loop .at) (round .loop .moves) (round .loop .pad-seen)
+    (round .loop .i) (round .loop .inv .3) (omega arith) (omega arith) (c .if5 .taken)
 
 returns-5 : tie.Need-returns-5 Inv-loop μ-loop
 returns-5 c =
-    left-none (c .before .before .before .before .before .args .timetable .now) (c .before .before .before .before .before .args .count) (c .before .before .before .loop .at) (c .before .before .before .loop .moves) (c .before .before .before .loop .pad-seen) (c .before .before .before .loop .i) (c .before .before .before .loop .inv .3) (omega arith) (omega arith) (c .if5 .left)
+    let round = c .before .before .before in let entry = round .before .before in
+    left-none (entry .args .timetable .now) (entry .args .count) (round .loop .at) (round .loop .moves) (round .loop .pad-seen)
+    (round .loop .i) (round .loop .inv .3) (omega arith) (omega arith) (c .if5 .left)
 
 pub read-steps-spec : {M : Type 1} → statement M
 read-steps-spec =

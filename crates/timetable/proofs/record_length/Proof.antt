@@ -36,7 +36,8 @@ sub-if3 c = omega arith
 
 returns-3 : tie.Need-returns-3 Inv-loop μ-loop
 returns-3 c =
-    runs-past _ _ _ _ (c .before .before .before .before .before .loop .inv .2) (omega arith) _ (c .before .step-length .ensures .size-is) (omega arith)
+    let else2 = c .before .before .before in let round = else2 .before .before in
+    runs-past _ _ _ _ (round .loop .inv .2) (omega arith) _ (c .before .step-length .ensures .size-is) (omega arith)
 
 add-end : tie.Need-add-end Inv-loop μ-loop
 add-end c = omega arith
@@ -48,11 +49,9 @@ loop-less : tie.Need-loop-less Inv-loop μ-loop
 loop-less c = omega arith
 
 loop-again : tie.Need-loop-again Inv-loop μ-loop
-loop-again c = (
-  omega arith,
-  omega arith,
-  passing-next _ _ _ _ (c .before .before .before .before .before .loop .inv .2) (omega arith) _ (c .before .step-length .ensures .size-is),
-)
+loop-again c =
+    let else2 = c .before .before .before in let round = else2 .before .before in
+    (omega arith, omega arith, passing-next _ _ _ _ (round .loop .inv .2) (omega arith) _ (c .before .step-length .ensures .size-is))
 
 returns-4 : tie.Need-returns-4 Inv-loop μ-loop
 returns-4 c = passing-last _ _ _ _ (c .before .loop .inv .2) (omega arith) (omega arith)

@@ -26,13 +26,16 @@ wide-requires c κs = search needs
 
 run-step-requires : tie.Need-run-step-requires
 run-step-requires c κs =
-    run-room (c .before .before .before .before .before .args .step .now) (c .before .wide .result) (c .before .wide .ensures .0) (c .before .before .before .before .before .pre)
+    let run-step-arg = c .before .before .before in let entry = run-step-arg .before .before in
+    run-room (entry .args .step .now) (c .before .wide .result) (c .before .wide .ensures .0) (entry .pre)
 
 returns : tie.Need-returns
 returns c =
-    let moves = run-is (c .before .before .before .before .before .before .args .step .now) (c .before .before .wide .result) (c .before .before .wide .ensures .0) in (
-      c .run-step .ensures .0 ∙ ap (legalStepOn (c .before .before .before .before .before .before .args .matrix .now) (c .before .before .before .before .before .before .args .racks .now)) moves,
-      c .run-step .ensures .1 ∙ ap (ranOn (c .before .before .before .before .before .before .args .matrix .now) (c .before .before .before .before .before .before .args .racks .now)) moves,
+    let wide = c .before .before in let shared-slice-known = wide .before .before .before in
+    let entry = shared-slice-known .before in
+    let moves = run-is (entry .args .step .now) (wide .wide .result) (wide .wide .ensures .0) in (
+      c .run-step .ensures .0 ∙ ap (legalStepOn (entry .args .matrix .now) (entry .args .racks .now)) moves,
+      c .run-step .ensures .1 ∙ ap (ranOn (entry .args .matrix .now) (entry .args .racks .now)) moves,
     )
 
 pub run-part-spec : {M : Type 1} → statement M

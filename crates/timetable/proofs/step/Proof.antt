@@ -28,16 +28,22 @@ part-result-end c = search needs
 
 returns : tie.Need-returns
 returns c =
-    let timetable = c .before .before .before .before .before .args .timetable in
-    let number = c .before .before .before .before .before .args .number in
-    let refused-there = sym (c .before .before .before .find-step .ensures) ∙ ap answerOfStep (c .before .enum-told .given .1) in
+    let find-step = c .before .before .before in let entry = find-step .before .before in
+    let timetable = entry .args .timetable in
+    let number = entry .args .number in
+    let refused-there = sym (find-step .find-step .ensures) ∙ ap answerOfStep (c .before .enum-told .given .1) in
     let bytes = given-none (timetable .now) number _ _ refused-there in
     let place = none-place (timetable .now) number _ _ refused-there (timetable .ptr) in
     (sym bytes, sym place)
 
 add-end : tie.Need-add-end
 add-end c =
-    omega (arith, end-within (c .before .before .before .before .before .args .timetable .now) (c .before .before .before .before .before .args .number) (c .before .found .given .0 .0) (c .before .found .given .0 .1 .0) (sym (c .before .before .before .find-step .ensures) ∙ ap answerOfStep (c .before .found .given .1)))
+    let found = c .before in let find-step = found .before .before in let entry = find-step .before .before in
+    omega (
+      arith,
+      end-within (entry .args .timetable .now) (entry .args .number) (found .found .given .0 .0) (found .found .given .0 .1 .0)
+          (sym (find-step .find-step .ensures) ∙ ap answerOfStep (found .found .given .1)),
+    )
 
 sub-result-2 : tie.Need-sub-result-2
 sub-result-2 c = search needs
@@ -47,15 +53,21 @@ part-result-start-2 c = search needs
 
 part-result-end-2 : tie.Need-part-result-end-2
 part-result-end-2 c =
-    omega (arith, end-within (c .before .before .before .before .before .args .timetable .now) (c .before .before .before .before .before .args .number) (c .before .found .given .0 .0) (c .before .found .given .0 .1 .0) (sym (c .before .before .before .find-step .ensures) ∙ ap answerOfStep (c .before .found .given .1)))
+    let found = c .before in let find-step = found .before .before in let entry = find-step .before .before in
+    omega (
+      arith,
+      end-within (entry .args .timetable .now) (entry .args .number) (found .found .given .0 .0) (found .found .given .0 .1 .0)
+          (sym (find-step .find-step .ensures) ∙ ap answerOfStep (found .found .given .1)),
+    )
 
 returns-2 : tie.Need-returns-2
 returns-2 c =
-    let timetable = c .before .before .before .before .before .before .args .timetable in
-    let number = c .before .before .before .before .before .before .args .number in
-    let at = c .before .before .found .given .0 .0 in
-    let n = c .before .before .found .given .0 .1 .0 in
-    let found-there = sym (c .before .before .before .before .find-step .ensures) ∙ ap answerOfStep (c .before .before .found .given .1) in
+    let found = c .before .before in let find-step = found .before .before in let entry = find-step .before .before in
+    let timetable = entry .args .timetable in
+    let number = entry .args .number in
+    let at = found .found .given .0 .0 in
+    let n = found .found .given .0 .1 .0 in
+    let found-there = sym (find-step .find-step .ensures) ∙ ap answerOfStep (found .found .given .1) in
     (part-given (timetable .now) number at n found-there, sym (given-place (timetable .now) number at n found-there (timetable .ptr)))
 
 pub step-spec : {M : Type 1} → statement M
