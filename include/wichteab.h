@@ -84,8 +84,8 @@ extern "C" {
  * Answers
  *
  * The low 8 bits of an answer are its number: 0 where the input is accepted, else one of the refusals
- * below, the lowest that applies (the first, where a function names an order of its own). The bits above are, for a refusal, its place, and where the input is
- * accepted what the function's own description says.
+ * below, the lowest that applies (the first, where a function names an order of its own). The bits above
+ * are, for a refusal, its place, and where the input is accepted what the function's own description says.
  *
  * Numbers may be added in later versions. A caller should treat a number that it does not know as a refusal.
  */

@@ -4,6 +4,7 @@
 --     short-read        reading the record of a short order gives it back, and 50 passes it
 --     every-short       it is accepted, in every buffer that holds the full record
 --     each-model        each model has one, without racks
+--     model-order       so each model's floor has an order with two vacancies: what the theorems suppose of an order holds of something
 -- Assumes nothing.
 use Prim.Native.Nat.{ℕ, _+_, _*_, _/_, _^_, _≤_, _<_}
 use mathlib.Core.Path.{_≡_, refl, sym, ap, ap₂, subst, _∙_}
@@ -17,18 +18,19 @@ use lib.Dec.{ltb}
 use Rattle.answers.specs.Answer.{accepted}
 use Rattle.field.specs.Bits.{bits, bitsOf, field, positions, positionBits, pad}
 use Rattle.field.proofs.BitLaws.{length-bits, field-at}
-use Rattle.field.proofs.RecordLaws.{positions-at, length-positionBits, bits-zero, bitsOf-toBytes, length-toBytes, padded-by}
+use Rattle.field.proofs.RecordLaws.{positions-at, length-positions, length-positionBits, bits-zero, bitsOf-toBytes, length-toBytes, padded-by}
 use Rattle.field.proofs.WholeBytes.{pad-after-whole}
-use Rattle.order.specs.Order.{some, repeats, wrongPlaces, wrongRacks}
+use Rattle.order.specs.Order.{Order, positionCount, rackCount, some, repeats, wrongPlaces, wrongRacks, startsOf, orderOf, edgeCount, floorOf}
 use Rattle.order.proofs.PlaceLaws.{places-below, below-more, few-places}
 use Rattle.models.specs.Grid.{unknownModel, modelFloor}
 use Rattle.models.specs.ShortOrder.{ShortOrder, shortBits, shortRecord, modelCode}
 use Rattle.models.specs.ShortOrder.{shortRacks, shortStarts, shortGoals, shortOf, wrongShort}
 use Rattle.models.specs.Expansion.{fullOrder, expanded, expandAnswer}
-use Rattle.models.specs.Theorems.{ShortChoice}
-use Rattle.models.proofs.GridLaws.{known-range, model-size, ModelSize}
+use Rattle.models.specs.Theorems.{ShortChoice, HasModel, WrittenOut}
+use Rattle.models.proofs.GridLaws.{known-range, model-size, ModelSize, model-biConnected}
 use Rattle.models.proofs.ExpansionLaws.{ShortFits, packed}
 use Rattle.models.proofs.ShortLaws.{shortBits-are, length-shortBits}
+use Rattle.models.proofs.Theorems.{written-out}
 
 -- the next run of bits joins those before it
 shift : {l : List ℕ} (p a q : List ℕ) → l ≡ p ++ (a ++ q) → l ≡ (p ++ a) ++ q
@@ -153,3 +155,32 @@ each-model k known =
       starts-right = unfold wrongPlaces some repeats in refl;
       goals-right = unfold wrongPlaces some repeats in refl;
     }
+
+pub model-order : (k : ℕ) → unknownModel k ≡ false
+    → let o = expanded (shortRecord (bare k)) in HasModel o k × (rackCount o + 2 ≤ positionCount o)
+model-order k known =
+    let count : length (startsOf o) ≡ rackCount o = unfold startsOf in length-positions o (24 + 12 * edgeCount o) (rackCount o) in
+    let racks : rackCount o ≡ 0 = sym count ∙ ap length starts-back in
+    let three = model-biConnected k known .three in
+    let n : positionCount o ≡ modelFloor k .positions = unfold floorOf in on-model .positions in
+    (on-model, omega arith)
+  where
+    c : ShortChoice (bare k)
+    c = each-model k known
+
+    s : List ℕ
+    s = shortRecord (bare k)
+
+    o : List ℕ
+    o = expanded s
+
+    out : WrittenOut s
+    out = written-out s (length o) _ (every-short (bare k) c (length o) (omega arith))
+
+    on-model : HasModel o k
+    on-model = subst (HasModel o) (model-read (bare k) c) (out .on-model)
+
+    starts-back : startsOf o ≡ []
+    starts-back =
+        let back : startsOf o ≡ shortStarts s = unfold orderOf fullOrder in ap (λ (x : Order). x .starts) (out .back) in
+        back ∙ starts-read (bare k) c

@@ -8,7 +8,6 @@
 --     written-out         what is written is well formed, on the model's floor, and reads back
 --     one-short           two accepted short orders that are written out as the same record are the same bytes
 --     short-never-turned, short-plannable    so 21 and 22 never apply to what is written, and with two vacancies it is planned
---     model-order         each model's floor has an order: the hypotheses above hold of something, for each of the five
 -- Assumes nothing.
 use Prim.Native.Nat.{ℕ, _+_, _≤_}
 use mathlib.Core.Path.{_≡_, refl, sym, ap, subst, _∙_}
