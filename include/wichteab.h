@@ -47,9 +47,9 @@ extern "C" {
  * Library and header come together and are of one version. The first number goes up where a caller may have
  * to change its code, the second where something was added (a function, a number), the third otherwise.
  */
-#define WICHTEAB_VERSION "1.0.0"
+#define WICHTEAB_VERSION "1.1.0"
 #define WICHTEAB_VERSION_MAJOR 1
-#define WICHTEAB_VERSION_MINOR 0
+#define WICHTEAB_VERSION_MINOR 1
 #define WICHTEAB_VERSION_PATCH 0
 
 /*
@@ -61,6 +61,10 @@ extern "C" {
  *   Order      n (positions) in 7 bits, e (edges) in 8, m (racks) in 7, two spare zero bits; e edges, each
  *              lower position first, strictly ascending; m starts; m goals; pad.
  *              Its length is 3 + (3 * (e + m) + 1) / 2 bytes, with the division rounding down.
+ *   Short order  model in 8 bits, m (racks) in 7, one zero bit; m starts; m goals; pad. It names the model of
+ *              its floor, a grid whose positions run row by row, with edges between side neighbours: model
+ *              1 is 2 rows by 3 columns, 2 is 3 by 4, 3 is 4 by 4, 4 is 4 by 5, 5 is 8 by 8.
+ *              Its length is 2 + (3 * m + 1) / 2 bytes. wichteab_order_expand writes it out as an order.
  *   Plan       k (moves) in 22 bits, two spare zero bits; k moves; pad.
  *              Its length is 3 + (3 * k + 1) / 2 bytes.
  *   Timetable  s (steps) in 22 bits, two spare zero bits; s steps. A step is one byte c, c moves ascending
@@ -80,8 +84,8 @@ extern "C" {
  * Answers
  *
  * The low 8 bits of an answer are its number: 0 where the input is accepted, else one of the refusals
- * below, the lowest that applies. The bits above are, for a refusal, its place, and where the input is
- * accepted what the function's own description says.
+ * below, the lowest that applies (the first, where a function names an order of its own). The bits above
+ * are, for a refusal, its place, and where the input is accepted what the function's own description says.
  *
  * Numbers may be added in later versions. A caller should treat a number that it does not know as a refusal.
  */
@@ -117,7 +121,12 @@ enum {
     WICHTEAB_TIMETABLE_GOAL = 43,    /* every step is legal, and then a rack is not at its goal. Place: the
                                         lowest such rack */
     WICHTEAB_TIMETABLE_BUFFER = 44,  /* the timetable buffer is shorter than 3 * k + 3 bytes */
-    WICHTEAB_STEP_NUMBER = 45        /* step 0, or a step above s, was requested */
+    WICHTEAB_STEP_NUMBER = 45,       /* step 0, or a step above s, was requested */
+
+    /* The short order, tested in the order 50, 51, 14, 52; place 0. */
+    WICHTEAB_SHORT_ORDER = 50,   /* its length, its spare bit or a pad bit is wrong */
+    WICHTEAB_MODEL_UNKNOWN = 51, /* its model is not 1 to 5 */
+    WICHTEAB_ORDER_BUFFER = 52   /* the order buffer is shorter than the full order */
 };
 
 /*
@@ -139,6 +148,18 @@ uint64_t wichteab_order_check(const uint8_t *order, size_t order_length);
  * least two positions are vacant. Refused: 10 to 14 and 20 to 22, place 0.
  */
 uint64_t wichteab_floor_check(const uint8_t *order, size_t order_length);
+
+/*
+ * wichteab_order_expand: writes a short order out as the order that it stands for.
+ *
+ * Takes a short order, which is only read, and a buffer for the order; WICHTEAB_ORDER_LONGEST bytes are enough
+ * for any. Accepted: wichteab_expanded_length gives the order's length, and the order is at the front of the
+ * buffer, on its model's floor, with the same starts and goals. It is well formed, and wichteab_floor_check
+ * never refuses it with 21 or 22: with two vacancies it is planned. No two short orders give one order.
+ * Refused: 50, 51, 14 and 52, the first that applies in this order, place 0.
+ */
+uint64_t wichteab_order_expand(const uint8_t *short_order, size_t short_order_length, uint8_t *buffer,
+                               size_t buffer_length);
 
 /*
  * wichteab_plan_make: writes a plan that brings every rack of the order to its goal.
@@ -237,6 +258,12 @@ static inline uint32_t wichteab_place(uint64_t answer)
     return (uint32_t)(answer >> 8);
 }
 
+/* Of wichteab_order_expand, accepted: the order's length in bytes. */
+static inline size_t wichteab_expanded_length(uint64_t answer)
+{
+    return (size_t)(answer >> 8);
+}
+
 /* Of wichteab_plan_check or wichteab_plan_make, accepted: the plan's moves. */
 static inline uint32_t wichteab_plan_moves(uint64_t answer)
 {
@@ -329,6 +356,12 @@ static inline const char *wichteab_reason(uint32_t number)
         return "The timetable buffer is too short: a plan of k moves needs 3 * k + 3 bytes.";
     case WICHTEAB_STEP_NUMBER:
         return "The timetable has no step of this number; its steps are counted from 1.";
+    case WICHTEAB_SHORT_ORDER:
+        return "The short order was cut short, other bytes follow it, or a spare or pad bit of it is set.";
+    case WICHTEAB_MODEL_UNKNOWN:
+        return "The short order names a floor model that is not sold.";
+    case WICHTEAB_ORDER_BUFFER:
+        return "The buffer for the order is too short for the full order.";
     default:
         return "Refused, for a reason that this header does not know.";
     }

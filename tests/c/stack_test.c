@@ -140,6 +140,14 @@ static void put_train(void)
     memcpy(timetable, step.bytes, timetable_length);
 }
 
+/* The largest model's short order without racks: 2 bytes. */
+static uint64_t order_expand(void)
+{
+    static const uint8_t short_order[2] = {5, 0};
+    static uint8_t full[WICHTEAB_ORDER_LONGEST];
+    return wichteab_order_expand(short_order, sizeof short_order, full, sizeof full);
+}
+
 static uint64_t order_check(void)
 {
     return wichteab_order_check(order.bytes, order_length);
@@ -255,6 +263,7 @@ static void run_all(void)
 int main(void)
 {
     uint64_t answer;
+    expect(wichteab_expanded_length(run(order_expand, "wichteab_order_expand")) == 171, "the largest model");
     begin_order(112, 62);
     put_grid();
     put_racks_turned_round();

@@ -44,6 +44,12 @@ pub enum Fault {
     TimetableBuffer,
     // Step 0, or a step above s, was requested.
     StepNumber,
+    // The short order's length, or a spare or pad bit of it, is wrong.
+    ShortOrder,
+    // The short order's model is unknown.
+    ModelUnknown,
+    // The order buffer is shorter than the full record.
+    OrderBuffer,
 }
 
 // Document 01's number of a fault.
@@ -77,6 +83,9 @@ fn case_number(fault: Fault) -> u64
         Fault::TimetableGoal => 43,
         Fault::TimetableBuffer => 44,
         Fault::StepNumber => 45,
+        Fault::ShortOrder => 50,
+        Fault::ModelUnknown => 51,
+        Fault::OrderBuffer => 52,
     }
 }
 

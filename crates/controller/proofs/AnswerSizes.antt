@@ -4,7 +4,7 @@
 --     NoCounts, OneCount, StepsMoves, OffsetLength    the counts that fit, by function
 --     refuse-sized, passUp-sized, judged-sized        an answer made of sized answers is sized
 --     misplaced-small, Stopping                       a misplaced rack and the place where a replay stops are at most one above the list
---     order-sized, floor-sized, planner-sized, made-sized, plan-sized, timetable-sized, maker-sized, step-sized
+--     order-sized, floor-sized, expand-sized, planner-sized, made-sized, plan-sized, timetable-sized, maker-sized, step-sized
 --                         so are the answers of each function
 -- Assumes nothing.
 use Prim.Native.Nat.{ℕ, zero, suc, _+_, _*_, _^_, _≤_, _<_}
@@ -34,6 +34,10 @@ use Rattle.motion.proofs.StepDecision.{legalStep?}
 use Rattle.motion.proofs.Test.{cond-either}
 use Rattle.motion.proofs.Lawful.{Stops, stops-some, stepFault-none, stepFault-small, replayMoves-stopped, replaySteps-stopped}
 use Rattle.floor.specs.FloorAnswer.{biConnected?, ring?, holds, floorAnswer}
+use Rattle.models.specs.Grid.{unknownModel}
+use Rattle.models.specs.ShortOrder.{modelCode, wrongShort}
+use Rattle.models.specs.Expansion.{fullOrder, expanded, expandAnswer}
+use Rattle.models.proofs.ExpansionLaws.{expanded-small}
 use Rattle.plan.specs.Plan.{moveCount, planMoves, wrongPlanLength, planPaddingSet, planAnswer}
 use Rattle.planner.specs.Planner.{refusals, PlanMade, turned-down, made}
 use Rattle.planner.proofs.PlannerLaws.{moves-few}
@@ -145,6 +149,15 @@ floor-sized o =
     (λ _. refuse-sized (not (holds (biConnected? (floorOf o)))) 21 0 _ tt tt (lit< tt)
     (λ _. refuse-sized (holds (ring? (floorOf o))) 22 0 _ tt tt (lit< tt)
     (λ _. accepts no-counts))))
+
+pub expand-sized : (s : List ℕ) (n : ℕ) → Sized OneCount (expandAnswer s n)
+unfolding expandAnswer
+expand-sized s n =
+    refuse-sized (wrongShort s) 50 0 _ tt tt (lit< tt)
+    (λ _. refuse-sized (unknownModel (modelCode s)) 51 0 _ tt tt (lit< tt)
+    (λ known. refuse-sized (wrongRacks (fullOrder s)) 14 0 _ tt tt (lit< tt)
+    (λ _. refuse-sized (ltb n (length (expanded s))) 52 0 _ tt tt (lit< tt)
+    (λ _. accepts (one-count (omega (arith, expanded-small s known)))))))
 
 pub planner-sized : (o : List ℕ) (b : ℕ) → Sized NoCounts (refusals o b)
 unfolding refusals

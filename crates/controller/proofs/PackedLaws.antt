@@ -5,7 +5,7 @@
 --     packed-back               so does the answer that has them
 --     tells                     the one law: the number of a sized answer tells it
 --     told-apart                one number tells one answer
---     nothing-packs, plan-moves-pack, made-steps-pack, steps-moves-pack, offset-length-packs    each packing of `Packed`
+--     nothing-packs, record-length-packs, plan-moves-pack, made-steps-pack, steps-moves-pack, offset-length-packs    each packing of `Packed`
 --     uncounted-sized, uncounted-same    an answer without its counts is sized, and has the same number where no counts are given
 -- Assumes nothing.
 use Prim.Native.Nat.{ℕ, _*_, _/_, _%_, _^_, _<_}
@@ -20,6 +20,7 @@ use Rattle.controller.specs.Unpacked.{
   numberIn,
   placeIn,
   nothingOf,
+  recordLengthOf,
   planMovesOf,
   madeStepsOf,
   stepsAndMovesOf,
@@ -72,6 +73,15 @@ nothing-packs = record { room = λ v f. omega arith; read = read }
   where
     read : (v : List ℕ) → NoCounts v → nothingOf (nothing v * 256) ≡ v
     read [] no-counts = refl
+
+pub record-length-packs : Packs oneCount recordLengthOf OneCount
+record-length-packs = record { room = room; read = read }
+  where
+    room : (v : List ℕ) → OneCount v → oneCount v < 2 ^ 56
+    room (k ∷ []) (one-count few) = omega arith
+
+    read : (v : List ℕ) → OneCount v → recordLengthOf (oneCount v * 256) ≡ v
+    read (k ∷ []) (one-count few) = let k-is : k * 256 / 2 ^ 8 ≡ k = omega arith in ap (λ (x : ℕ). x ∷ []) k-is
 
 pub plan-moves-pack : Packs oneCount planMovesOf OneCount
 plan-moves-pack = record { room = room; read = read }

@@ -2,7 +2,7 @@
 -- quotient by 2 ^ k, a mask of k ones the remainder by 2 ^ k, a cast to uint32_t the remainder by 2 ^ 32; size_t is as wide as the number.
 --
 --     numberIn r, placeIn r        wichteab_number, wichteab_place
---     nothingOf r, planMovesOf r, madeStepsOf r, stepsAndMovesOf r, offsetAndLengthOf r    what a caller reads of an accepted answer
+--     nothingOf r, recordLengthOf r, planMovesOf r, madeStepsOf r, stepsAndMovesOf r, offsetAndLengthOf r    what a caller reads of an accepted answer
 --     takenApart values r          the answer that a caller makes of the number r: its number, and then its place or what `values` reads
 --     uncounted a                  the answer a, without the counts of an accepted input
 --     Tells rest values a r        the number r tells the answer a: it is the answer, packed, and taken apart it is the answer again
@@ -26,6 +26,10 @@ placeIn r = r / 2 ^ 8 % 2 ^ 32
 -- "Accepted: the answer is 0."
 abbrev pub nothingOf : ℕ → List ℕ
 nothingOf r = []
+
+-- wichteab_expanded_length: (size_t)(answer >> 8)
+abbrev pub recordLengthOf : ℕ → List ℕ
+recordLengthOf r = r / 2 ^ 8 ∷ []
 
 -- wichteab_plan_moves: (uint32_t)(answer >> 8)
 abbrev pub planMovesOf : ℕ → List ℕ

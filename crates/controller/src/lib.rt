@@ -3,6 +3,7 @@
 // or for the last two functions a length.
 use answers::Fault;
 use floor::FloorVerdict;
+use models::ExpandVerdict;
 use order::OrderVerdict;
 use plan::PlanVerdict;
 use planner::PlannerVerdict;
@@ -15,6 +16,7 @@ ghost use Rattle.answers.specs.Answer.{Answer, refusedBy};
 ghost use Rattle.order.specs.Order.{orderAnswer};
 ghost use Rattle.order.specs.RecordLength.{wholeOrderLength};
 ghost use Rattle.floor.specs.FloorAnswer.{floorAnswer};
+ghost use Rattle.models.specs.Expansion.{expandAnswer, bufferAfter as orderBufferAfter};
 ghost use Rattle.plan.specs.Plan.{planAnswer};
 ghost use Rattle.planner.specs.Planner.{PlanMade};
 ghost use Rattle.scheduling.specs.Maker.{makerAnswer, bufferAfter};
@@ -22,7 +24,7 @@ ghost use Rattle.timetable.specs.Timetable.{timetableAnswer, stepAnswer};
 ghost use Rattle.timetable.specs.RecordLength.{wholeTimetableLength};
 ghost use Rattle.controller.specs.Packed.{packed, nothing, oneCount, stepsAndMoves, lengthAndOffset};
 ghost use Rattle.controller.specs.Unpacked.{Tells, uncounted, nothingOf, planMovesOf, madeStepsOf, stepsAndMovesOf};
-ghost use Rattle.controller.specs.Unpacked.{offsetAndLengthOf};
+ghost use Rattle.controller.specs.Unpacked.{offsetAndLengthOf, recordLengthOf};
 
 // A refusal as one number.
 fn refusal(fault: Fault, place: u32) -> u64
@@ -50,6 +52,18 @@ pub extern "C" fn wichteab_floor_check(order: &[u8]) -> u64
     match floor::check(order) {
         FloorVerdict::Accepted(_) => 0,
         FloorVerdict::Refused(fault, place) => refusal(fault, place),
+    }
+}
+
+// Writes a short order out as a full one to the front of the buffer, judged by 50, 51, 14 and 52. Accepted, it gives the full order's length.
+#[no_mangle]
+pub extern "C" fn wichteab_order_expand(short: &[u8], buffer: &mut [u8]) -> u64
+    ensures { λ r. ⌜ Tells oneCount recordLengthOf (expandAnswer (now (short .entry)) (length (now (buffer .entry)))) r ⌝ }
+    ensures { λ _. ⌜ now (buffer .exit) ≡ orderBufferAfter (now (short .entry)) (now (buffer .entry)) ⌝ }
+{
+    match models::expand(short, buffer) {
+        ExpandVerdict::Accepted(length) => (length as u64) * 256,
+        ExpandVerdict::Refused(fault, place) => refusal(fault, place),
     }
 }
 

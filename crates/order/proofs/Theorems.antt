@@ -31,7 +31,7 @@ not-true true e = refl
 not-true false e = sym e
 
 -- the edges of two floors that join the same positions are the same list
-same-edges : (F G : Floor) → wrongEdges F ≡ false → wrongEdges G ≡ false → BelowPairs 64 (F .edges) → BelowPairs 64 (G .edges)
+pub same-edges : (F G : Floor) → wrongEdges F ≡ false → wrongEdges G ≡ false → BelowPairs 64 (F .edges) → BelowPairs 64 (G .edges)
     → ((a b : ℕ) → joined F a b ≡ joined G a b) → F .edges ≡ G .edges
 unfolding wrongEdges
 same-edges F G f g bf bg h =

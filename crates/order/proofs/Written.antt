@@ -36,7 +36,7 @@ pub record SoundOrder (o : Order) : Type 0 where
   pub goals-right : wrongPlaces (o .floor .positions) (o .goals) ≡ false
 
 -- an edge that is not bad has both positions below n
-edges-below : (n : ℕ) (l : List (ℕ × ℕ)) → n ≤ 64 → some (badEdge n) l ≡ false → BelowPairs 64 l
+pub edges-below : (n : ℕ) (l : List (ℕ × ℕ)) → n ≤ 64 → some (badEdge n) l ≡ false → BelowPairs 64 l
 unfolding some badEdge
 edges-below n [] h e = none₂
 edges-below n (p ∷ l) h e =

@@ -212,7 +212,7 @@ fn place_sound(tail: &[u8], n: usize, from: usize, m: usize, table: &mut [u8; 64
 }
 
 // 14, of the starts and then of the goals, with the tables of both.
-fn racks_sound(
+pub fn racks_sound(
     tail: &[u8],
     n: usize,
     e: usize,

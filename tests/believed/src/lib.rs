@@ -11,16 +11,18 @@ use std::path::Path;
 
 /// The contracts that a C caller or a user of the programs relies on, and demand 3's: every definition that these files
 /// cite. Of the timetable program's crate it is the program's own contract.
-const CONTRACTS: [(&str, &[&str]); 4] = [
+const CONTRACTS: [(&str, &[&str]); 5] = [
     ("crates/controller/src/lib.rt", &[]),
     ("crates/delivery/src/lib.rt", &[]),
+    ("crates/order_program/src/lib.rt", &[]),
     ("crates/plan_program/src/lib.rt", &[]),
     ("crates/text/src/lib.rt", &["programText", "Wrote"]),
 ];
 
 /// The records that the main theorems state; of a file without names, all of it.
-const THEOREMS: [(&str, &[&str]); 6] = [
+const THEOREMS: [(&str, &[&str]); 7] = [
     ("crates/order/specs/Theorems.antt", &[]),
+    ("crates/models/specs/Theorems.antt", &[]),
     ("crates/plan/specs/Solutions.antt", &[]),
     ("crates/timetable/specs/Solutions.antt", &[]),
     ("crates/motion/specs/LegalStep.antt", &[]),

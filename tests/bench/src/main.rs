@@ -8,6 +8,7 @@ use compare::orders;
 use compare::plans;
 use compare::proved;
 use compare::random::Random;
+use compare::short_orders::{self, MODELS};
 use compare::timetables;
 use compare::write::Order;
 use std::hint::black_box;
@@ -22,6 +23,7 @@ fn main() {
     println!("Buffers that are written are cleared to zero before each call, outside the measured time.");
     println!("{:<16} {:<44} {:>12} {:>12} {:>6}", "function", "input", "proved", "second", "ratio");
     order_check();
+    order_expand();
     floor_check();
     breakdown();
     plan_check();
@@ -103,6 +105,30 @@ fn order_check() {
         || many.iter().map(|order| proved::order_check(order)).sum(),
         || many.iter().map(|order| second(order)).sum(),
     );
+}
+
+fn order_expand() {
+    let mut random = Random::new(0xBE_0007);
+    for (model, rows, columns) in MODELS {
+        let n = rows * columns;
+        let short = short_orders::short_order(&mut random, model, n, n - 2).record();
+        let mut proved_buffer = [0; 576];
+        let mut second_buffer = [0; 576];
+        compare_speed(
+            "order_expand",
+            &format!("model {model}, {rows} by {columns}, {} racks", n - 2),
+            20_000,
+            || proved::order_expand(black_box(&short), &mut proved_buffer),
+            || {
+                let full = second::models::expand(black_box(&short), second_buffer.len());
+                let answer = full.map(|record| {
+                    second_buffer[..record.len()].copy_from_slice(&record);
+                    record.len() as u32
+                });
+                compare::packed::count(answer)
+            },
+        );
+    }
 }
 
 fn floor_check() {

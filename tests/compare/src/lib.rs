@@ -12,6 +12,7 @@
 //! | `floors`     | floors of every shape                                              |
 //! | `breakdowns` | the proved breakdown of a floor                                    |
 //! | `orders`     | orders on them, and damage                                         |
+//! | `short_orders` | short orders, and damage                                         |
 //! | `racks`      | an arrangement, random moves and random steps on it                |
 //! | `cases`      | an order and a record for it, sound or damaged                     |
 //! | `plans`      | plans, and damage                                                  |
@@ -31,6 +32,7 @@ pub mod programs;
 pub mod proved;
 pub mod racks;
 pub mod random;
+pub mod short_orders;
 pub mod tally;
 pub mod timetables;
 pub mod write;

@@ -31,6 +31,12 @@ mod symbols {
             buffer: *mut u8,
             buffer_length: usize,
         ) -> u64;
+        pub fn wichteab_order_expand(
+            short_order: *const u8,
+            short_order_length: usize,
+            buffer: *mut u8,
+            buffer_length: usize,
+        ) -> u64;
         pub fn wichteab_order_length(bytes: *const u8, length: usize) -> u64;
         pub fn wichteab_timetable_length(bytes: *const u8, length: usize) -> u64;
         pub fn wichteab_inspect_breakdown(
@@ -99,6 +105,17 @@ pub fn timetable_make(order: &[u8], plan: &[u8], buffer: &mut [u8]) -> u64 {
 
 pub fn timetable_step(timetable: &[u8], number: u64) -> u64 {
     unsafe { symbols::wichteab_timetable_step(timetable.as_ptr(), timetable.len(), number) }
+}
+
+pub fn order_expand(short_order: &[u8], buffer: &mut [u8]) -> u64 {
+    unsafe {
+        symbols::wichteab_order_expand(
+            short_order.as_ptr(),
+            short_order.len(),
+            buffer.as_mut_ptr(),
+            buffer.len(),
+        )
+    }
 }
 
 pub fn order_length(bytes: &[u8]) -> u64 {

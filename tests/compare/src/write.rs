@@ -69,6 +69,30 @@ impl Order {
     }
 }
 
+/// The fields of a short order record.
+#[derive(Clone, Default)]
+pub struct ShortOrder {
+    pub model: u8,
+    pub starts: Vec<u8>,
+    pub goals: Vec<u8>,
+    pub spare: u8,
+    pub pad: u8,
+}
+
+impl ShortOrder {
+    pub fn record(&self) -> Vec<u8> {
+        let mut bits = Bits::default();
+        bits.put(usize::from(self.model), 8);
+        bits.put(self.starts.len(), 7);
+        bits.put(usize::from(self.spare), 1);
+        for &place in self.starts.iter().chain(&self.goals) {
+            bits.put(usize::from(place), 6);
+        }
+        bits.pad(self.pad);
+        bits.bytes
+    }
+}
+
 /// The fields of a plan record.
 #[derive(Clone, Default)]
 pub struct Plan {

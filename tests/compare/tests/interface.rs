@@ -9,7 +9,7 @@ use std::path::{Path, PathBuf};
 use compare::floors::{self, Floor};
 use compare::packed;
 use compare::proved;
-use compare::write::Order;
+use compare::write::{Order, ShortOrder};
 use second::program::timetable_program;
 
 /// A file of the repository.
@@ -51,7 +51,7 @@ fn the_headers_numbers_are_the_faults_of_the_code() {
     let mut expected: BTreeMap<String, u32> =
         faults.iter().map(|(name, &number)| (upper_snake(name), number)).collect();
     expected.insert("ACCEPTED".to_string(), 0);
-    assert!(faults.len() >= 19, "only {} faults were found", faults.len());
+    assert!(faults.len() >= 22, "only {} faults were found", faults.len());
     assert_eq!(numbers(&text("include/wichteab.h"), "WICHTEAB_", " = "), expected);
 }
 
@@ -72,10 +72,27 @@ fn four_by_four() -> Order {
     Order { n, edges, starts, goals, spare: 0, pad: 0 }
 }
 
+/// Model 2, 3 by 4 positions: racks 1 to 10 stand at 0 to 9, and rack 6 is called from position 5 to the corner 11.
+fn depot() -> ShortOrder {
+    let starts: Vec<u8> = (0..10).collect();
+    let mut goals = starts.clone();
+    goals[5] = 11;
+    ShortOrder { model: 2, starts, goals, spare: 0, pad: 0 }
+}
+
+/// The full order that it stands for.
+fn depot_in_full() -> Order {
+    let Floor { n, edges } = floors::grid(3, 4);
+    let ShortOrder { starts, goals, .. } = depot();
+    Order { n, edges, starts, goals, spare: 0, pad: 0 }
+}
+
 #[test]
 fn the_orders_in_examples_are_the_records_of_their_fields() {
     assert_eq!(file("examples/casebook.order"), casebook().record());
     assert_eq!(file("examples/four_by_four.order"), four_by_four().record());
+    assert_eq!(file("examples/depot.short"), depot().record());
+    assert_eq!(second::models::expand(&depot().record(), 576), Ok(depot_in_full().record()));
 }
 
 /// The proved planner's plan, judged by the second implementation.
@@ -106,9 +123,12 @@ fn what_examples_run_prints() {
         let timetable = timetable_program(&[record.clone(), plan(&record)].concat());
         format!("{name}\n{}\n{timetable}", described(order))
     };
-    let expected =
-        [one("examples/casebook.order", &casebook()), one("examples/four_by_four.order", &four_by_four())]
-            .join("\n");
+    let expected = [
+        one("examples/casebook.order", &casebook()),
+        one("examples/four_by_four.order", &four_by_four()),
+        one("examples/depot.short", &depot_in_full()),
+    ]
+    .join("\n");
     assert!(text("examples/run.expected") == expected, "examples/run.expected is due to read:\n{expected}");
 }
 

@@ -16,12 +16,14 @@
 //! | `breakdown` | Breakdown and planning            |                    |
 //! | `planning`  | Breakdown and planning, demand 3  | 23                 |
 //! | `program`   | Programs                          |                    |
+//! | `models`    | request (a), floors by model code | 50, 51, 14, 52     |
 #![forbid(unsafe_code)]
 
 pub mod answer;
 pub mod breakdown;
 pub mod floor;
 pub mod making;
+pub mod models;
 pub mod motion;
 pub mod order;
 pub mod plan;

@@ -1,7 +1,8 @@
-//! "Programs": what the two programs print for an input.
+//! "Programs": what the programs print for an input.
 
 use crate::answer::Refusal;
 use crate::making;
+use crate::models;
 use crate::order;
 use crate::plan;
 use crate::planning;
@@ -13,14 +14,14 @@ const READ: usize = 65_536;
 /// "The plan program … lends 65,536 bytes (so n up to 17)"; "The timetable program … lends 65,536 bytes".
 const LENT: usize = 65_536;
 
-/// The family word: "10 to 19 order, 20 to 29 floor, 30 to 39 plan, 40 to 49 timetable".
+/// The family word: "10 to 19 order, 20 to 29 floor, 30 to 39 plan, 40 to 49 timetable". Any other number is of none.
 fn family(number: u8) -> &'static str {
     match number / 10 {
         1 => "order",
         2 => "floor",
         3 => "plan",
         4 => "timetable",
-        _ => panic!("{number} has no family"),
+        _ => "other",
     }
 }
 
@@ -59,6 +60,15 @@ pub fn timetable_program(input: &[u8]) -> String {
     match making::make(order, plan, &mut buffer) {
         Err(refused) => refusal(refused),
         Ok(s) => lines(s, &buffer),
+    }
+}
+
+/// What the order program writes for a short order: "It is written out as a full order". No order is longer than 576
+/// bytes, so that its buffer is long enough.
+pub fn order_program(input: &[u8]) -> Vec<u8> {
+    match models::expand(&input[..input.len().min(READ)], 576) {
+        Err(refused) => refusal(refused).into_bytes(),
+        Ok(record) => record,
     }
 }
 

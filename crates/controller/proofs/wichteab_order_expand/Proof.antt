@@ -1,0 +1,67 @@
+-- `controller::wichteab_order_expand` meets its contract: the verdict's answer, packed, and the buffer as it is left. Assumes nothing.
+use mathlib.Core.Path.{ap, sym, _∙_}
+use native.Mathlib.Omega.{arith}
+use lib.ListN.{length}
+use Rattle.models.specs.Expansion.{answerOf}
+use Rattle.models.proofs.ExpansionLaws.{accepted-length}
+use Rattle.controller.specs.Packed.{packed, oneCount}
+use Rattle.controller.proofs.AnswerSizes.{expand-sized}
+use Rattle.controller.proofs.PackedLaws.{tells, record-length-packs}
+use borrow.Author.Needs.{needs}
+use Rattle.controller.proofs.wichteab_order_expand.Statement.{statement}
+use Rattle.controller.proofs.wichteab_order_expand.Tie as tie
+
+expand-requires : tie.Need-expand-requires
+expand-requires c κs = search needs
+
+enum-known-length : tie.Need-enum-known-length
+enum-known-length c = search needs
+
+mul-result : tie.Need-mul-result
+mul-result c =
+    let found = c .before in
+    let call = found .before .before .before .before in
+    let a = call .before .before .before .before .args in
+    let is = ap answerOf (sym (found .length .given .1)) ∙ call .expand .ensures .0 in
+    let small = accepted-length (a .short .now) (length (a .buffer .now)) (found .length .given .0 .0) is in
+    record { fits = omega arith }
+
+enum-known-fault : tie.Need-enum-known-fault
+enum-known-fault c = search needs
+
+refusal-requires : tie.Need-refusal-requires
+refusal-requires c κs = search needs
+
+same-length : tie.Need-same-length
+same-length c = search needs
+
+returns : tie.Need-returns
+returns c =
+    let found = c .before in
+    let made = found .before .before .before .before .expand .ensures in
+    let is = ap answerOf (sym (found .length .given .1)) ∙ made .0 in
+    (tells record-length-packs (expand-sized _ _) (ap (packed oneCount) is), made .1)
+
+same-length-2 : tie.Need-same-length-2
+same-length-2 c = search needs
+
+returns-2 : tie.Need-returns-2
+returns-2 c =
+    let found = c .before .before in
+    let made = found .before .before .before .before .expand .ensures in
+    let is = ap answerOf (sym (found .fault .given .1)) ∙ made .0 in
+    (tells record-length-packs (expand-sized _ _) (c .refusal .ensures ∙ ap (packed oneCount) is), made .1)
+
+pub wichteab-order-expand-spec : {M : Type 1} → statement M
+wichteab-order-expand-spec =
+    tie.close
+    (tie.spec
+    expand-requires
+    enum-known-length
+    mul-result
+    enum-known-fault
+    refusal-requires
+    same-length
+    returns
+    same-length-2
+    returns-2)

@@ -1,0 +1,10 @@
+pub mod Certificate
+pub mod GridLaws
+pub mod NeighbourLaws
+pub mod PutLaws
+pub mod ExpansionLaws
+pub mod ShortLaws
+pub mod JudgeLaws
+pub mod WrittenOut
+pub mod Theorems
+pub mod EveryShort
