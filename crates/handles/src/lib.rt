@@ -10,13 +10,12 @@ ghost use mathlib.Core.Path.{_≡_};
 ghost use Prim.Native.Nat.{_+_, _-_, _*_, _≤_, _<_};
 ghost use lib.ListN.{length};
 ghost use Rattle.graph.specs.Rows.{Edge, Rows};
-ghost use Rattle.breakdown.specs.Breakdown.{Between};
 ghost use Rattle.breakdown.specs.Part.{Places};
 ghost use Rattle.breakdown.specs.Answer.{BreaksDown};
 ghost use Rattle.shunting.specs.Journey.{row, Room, Space, Trip};
 ghost use Rattle.shunting.specs.Cleared.{Vacancy};
 ghost use Rattle.shunting.specs.Table.{Table};
-ghost use Rattle.handles.specs.Lane.{BesideEnd, After, PlaceAt, Copied, Agreed, Filled};
+ghost use Rattle.handles.specs.Lane.{BesideEnd, After, Copied, Agreed, Filled};
 ghost use Rattle.handles.specs.Lane.{LaneOn, LaneBeside, LaneClosed, LaneStage, LanePlacing, LaneFetched, LaneStacked, LaneKept};
 ghost use Rattle.handles.specs.Lane.{nextRack, InLane, LaneOpen, LaneCarriable, LaneCarried, LaneSettled};
 
@@ -120,22 +119,6 @@ fn carry(
     shunting::undo(0, logged, state, log, tail)
 }
 
-// The place at which p stands, of the places from s up to e.
-fn place_of(order: &[u8; 64], s: usize, e: usize, p: usize) -> usize
-    requires { ⌜ e ≤ 64 ⌝ }
-    requires { ⌜ Between (row (now order)) s e p ⌝ }
-    ensures { λ r. ⌜ PlaceAt (row (now (order .entry))) s e p r ⌝ }
-{
-    let mut i = s;
-    while i + 1 < e {
-        if field::wide(order[i]) == p {
-            return i;
-        }
-        i += 1;
-    }
-    i
-}
-
 // The rack that comes next for the handle: the goal has it at the last place that is not stacked for.
 fn next_rack(lane: Lane, k: usize, goal: &[u8; 64]) -> u8
     requires { ⌜ Places (row (lane .order)) (lane .end) ⌝ }
@@ -216,7 +199,7 @@ fn fetch(
     if sets::has(stage, at) {
         return open;
     }
-    let q = place_of(&order, s, lane.end, at);
+    let q = breakdown::place_of(&order, s, lane.end, at);
     carry(rows, lane, q, open, log, tail)
 }
 

@@ -3,6 +3,8 @@
 use Prim.Native.Nat.{ℕ, _+_, _-_, _*_, _≤_}
 use mathlib.Core.Path.{_≡_, refl, _∙_}
 use native.Mathlib.Omega.{arith}
+use Rattle.breakdown.specs.Breakdown.{Between}
+use Rattle.breakdown.proofs.PlaceLaws.{place-at}
 use Rattle.shunting.specs.Journey.{row}
 use Rattle.shunting.specs.Cleared.{Vacancy}
 use Rattle.shunting.proofs.JourneyLaws.{trip-none, trip-more, trip-append, room-less, room-then}
@@ -144,18 +146,23 @@ returns-2 c =
       ),
     )
 
+-- The rack stands inside the handle.
+module _ (c : tie.After-order3) where
+  abbrev again : tie.After-where-is2
+  again = let other = c .before in other .before .before
+
+  inside : Between (row (lane again .order)) (lane again .start) (lane again .end) (again .where-is2 .result)
+  inside =
+      let p = entry again .pre in
+      let from = again .where-is2 in
+      let away = fails (c .before .before .has2 .ensures) (c .before .if2 .left) in
+      fetch-place (p .0) (p .1 .0) _ (part again .part .ensures) (placing again) (p .1 .1 .1 .1 .0) (from .result) (from .ensures .inside)
+      (is again) away
+
 place-of-requires : tie.Need-place-of-requires
 place-of-requires c κs =
-    let other = c .before in
-    let tested = other .before in
-    let at = tested .before in
-    let p = entry at .pre in
-    let from = at .where-is2 in
-    let away = fails (tested .has2 .ensures) (other .if2 .left) in (
-      handle-places (p .1 .0) (p .0 .small) .most,
-      fetch-place (p .0) (p .1 .0) _ (part at .part .ensures) (placing at) (p .1 .1 .1 .1 .0) (from .result) (from .ensures .inside)
-          (is at) away,
-    )
+    let p = entry (again c) .pre in
+    (p .1 .0 .handle .inner, handle-places (p .1 .0) (p .0 .small) .most)
 
 carry-requires : tie.Need-carry-requires
 carry-requires c κs =
@@ -164,7 +171,7 @@ carry-requires c κs =
     let p = entry at .pre in
     let asked = p .1 .1 .1 in
     let o = opened at .open-end .ensures in
-    let q = place .place-of .ensures in
+    let q = place-at (place .place-of .ensures) (inside (place .before)) in
     let can : LaneCarriable (lane at) (place .place-of .result) (racks at) = record {
       table = placing at .table;
       vacant = o .1 .1 .0;
@@ -187,13 +194,13 @@ returns-3 c =
     let p = entry at .pre in
     let near = p .1 .1 .0 in
     let o = opened at .open-end .ensures in
-    let q = place .place-of in
+    let q = place-at (place .place-of .ensures) (inside (place .before)) in
     let moved = carry .carry .ensures in
     let table = table-went (p .0 .inside) (moved .0 .went) (placing at .table) in (
       trip-more _ (bound at) (trip-append (o .0) (moved .0)),
       (
         fetch-carried (p .0) (p .1 .0) _ (part at .part .ensures) (placing at) (p .1 .1 .1 .1 .0) (lane at .beside) (at .where-is2 .result)
-            (q .result) (near .there) (near .right) (is at) (q .ensures .is) (o .1 .1 .0 .end) (moved .1 .0) table,
+            (place .place-of .result) (near .there) (near .right) (is at) (q .is) (o .1 .1 .0 .end) (moved .1 .0) table,
         moved .1 .1 ∙ o .1 .1 .1,
       ),
     )
