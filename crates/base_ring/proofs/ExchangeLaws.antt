@@ -37,7 +37,6 @@ use Rattle.graph.specs.Walk.{Symmetric}
 use Rattle.graph.specs.Rows.{Edge, Rows}
 use Rattle.breakdown.specs.Part.{Part}
 use Rattle.shunting.specs.declared.State.{State}
-use Rattle.shunting.specs.Went.{Same}
 use Rattle.shunting.specs.Went.Back.{done}
 use Rattle.shunting.proofs.WentLaws.{same-refl}
 use Rattle.shunting.specs.Journey.{row, relogged, onto, Trip, Journey, JourneyOn}

@@ -23,7 +23,7 @@ use Rattle.breakdown.specs.Answer.{BreaksDown}
 use Rattle.breakdown.specs.declared.Breakdown.{Breakdown as Parts}
 use Rattle.base_ring.specs.declared.Circle.{Circle}
 use Rattle.base_ring.specs.Circle.{place, On, BaseRing}
-use Rattle.base_ring.specs.From.{round, ringFrom, circleOf}
+use Rattle.base_ring.specs.From.{round, circleOf}
 
 module _ (at : ℕ → ℕ) (size : ℕ) where
   pub length-round : (k z : ℕ) → length (round at size z k) ≡ k

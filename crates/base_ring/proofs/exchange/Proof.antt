@@ -11,7 +11,8 @@ use Rattle.shunting.proofs.JourneyLaws.{room-less, space-then, space-less}
 use Rattle.shunting.proofs.TableLaws.{table-went}
 use Rattle.base_ring.specs.Circle.{OnRing}
 use Rattle.base_ring.specs.Moves.{asideMoves, nextMoves}
-use Rattle.base_ring.proofs.ExchangeLaws.{aside-rest, rack-on, exchange-swappable, exchange-moves, exchange-most, Swapping, exchange-made}
+use Rattle.base_ring.proofs.ExchangeLaws.{aside-rest, rack-on, exchange-swappable, exchange-moves, exchange-most}
+use Rattle.base_ring.proofs.ExchangeLaws.{Swapping, exchange-made}
 use Rattle.base_ring.proofs.exchange.Statement.{statement}
 use Rattle.base_ring.proofs.exchange.Tie as tie
 

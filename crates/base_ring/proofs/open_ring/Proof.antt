@@ -1,10 +1,9 @@
 -- `base_ring::open_ring` meets its contract.
 -- Assumes nothing.
-use Prim.Native.Nat.{_+_, _-_}
 use mathlib.Core.Path.{_∙_}
 use native.Mathlib.Omega.{arith}
 use borrow.Author.Needs.{needs}
-use Rattle.shunting.proofs.JourneyLaws.{trip-append, trip-anew, fits-then, fits-less, fits-anew}
+use Rattle.shunting.proofs.JourneyLaws.{trip-append, trip-anew, fits-then, fits-anew}
 use Rattle.shunting.proofs.TableLaws.{table-went}
 use Rattle.base_ring.specs.Moves.{openMoves}
 use Rattle.base_ring.proofs.RingLaws.{circle-small, circle-places, ring-below, ring-reaches, ring-reaches-without}

@@ -159,7 +159,8 @@ clear-requires c κs =
           λ q x. among-floor on near (has free q .0 x .there),
           (
             carry-reaches on near (asked .0 .from) more (asked .1 .0 .held) (l .inv .0) next (p .0 .symmetric) (λ q x. has free q .1 x),
-            fits-then (fits-anew (n (at t) * rounds (at t) + (n (at t) - 1)) (omega arith) (omega arith) (asked .1 .1)) (l .inv .1 .journey),
+            fits-then (fits-anew (n (at t) * rounds (at t) + (n (at t) - 1)) (omega arith) (omega arith) (asked .1 .1))
+                (l .inv .1 .journey),
           ),
         ),
       ),

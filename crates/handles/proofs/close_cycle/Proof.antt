@@ -1,7 +1,6 @@
 -- `handles::close_cycle` meets its contract.
 -- Assumes nothing.
 use native.Mathlib.Omega.{arith}
-use borrow.Author.Needs.{needs}
 use lib.ListN.{length-replicate}
 use Prim.Native.Nat.{ℕ, _+_, _-_, _≤_}
 use Rattle.handles.proofs.CycleLaws.{lane-floor, lane-places, left-below, right-below, route-short, closed}
