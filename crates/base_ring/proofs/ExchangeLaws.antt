@@ -37,7 +37,6 @@ use Rattle.graph.specs.Walk.{Symmetric}
 use Rattle.graph.specs.Rows.{Edge, Rows}
 use Rattle.breakdown.specs.Part.{Part}
 use Rattle.shunting.specs.declared.State.{State}
-use Rattle.shunting.specs.Went.{Same}
 use Rattle.shunting.specs.Went.Back.{done}
 use Rattle.shunting.proofs.WentLaws.{same-refl}
 use Rattle.shunting.specs.Journey.{row, relogged, onto, Trip, Journey, JourneyOn}
@@ -53,7 +52,7 @@ use Rattle.base_ring.specs.declared.Circle.{Circle}
 use Rattle.base_ring.specs.Circle.{place, On, BaseRing, OnRing, TwoOnRing, RestHeld, Open, Aside, Ready, swapped, Exchanged}
 use Rattle.base_ring.specs.Moves.{asideMoves, nextMoves}
 use Rattle.base_ring.specs.Swap.{Swappable, Joined, Swapped}
-use Rattle.base_ring.proofs.RingLaws.{on-surely, circle-on, circle-apart, circle-off, circle-beside, held-open}
+use Rattle.base_ring.proofs.RingLaws.{on-surely, circle-on, circle-apart, circle-small, circle-off, circle-beside, held-open}
 use Rattle.base_ring.proofs.RingLaws.{ring-has, ring-on, ring-vacancy}
 
 -- a rack of a table that stands where one on the ring does
@@ -70,9 +69,6 @@ module _ {g : List ℕ} {c : Circle} (rows : Rows (c .positions) g) (circle : Ba
   on-beside : (p : ℕ) → On c p → p ≢ c .beside
   on-beside p on e = circle-off circle (subst (On c) e on)
 
-  small-place : (i : ℕ) → i < c .size → place c i < 64
-  small-place i l = let x = circle .below i l in let s = rows .small in omega arith
-
   small-beside : c .beside < 64
   small-beside = let x = circle-beside rows circle in let s = rows .small in omega arith
 
@@ -82,7 +78,7 @@ module _ {g : List ℕ} {c : Circle} (rows : Rows (c .positions) g) (circle : Ba
         let l = three in
         record {
           leaves = small-beside;
-          enters = small-place 0 (omega arith);
+          enters = circle-small rows circle 0 (omega arith);
           held = held-open circle o (c .beside) (circle-beside rows circle) (circle-off circle);
           vacant = o .zero;
         }
@@ -126,7 +122,7 @@ module _ {g : List ℕ} {c : Circle} (rows : Rows (c .positions) g) (circle : Ba
           aside-again =
               let l = three in
               record {
-                leaves = small-place 0 (omega arith);
+                leaves = circle-small rows circle 0 (omega arith);
                 enters = small-beside;
                 held = λ e. rack .rack (sym (brought .there ∙ stands .there) ∙ e);
                 vacant =
@@ -225,9 +221,9 @@ module _ {g : List ℕ} {c : Circle} (rows : Rows (c .positions) g) (circle : Ba
     exchange-swappable =
         let l = three in
         record {
-          passes = small-place 0 (omega arith);
-          first = small-place 1 (omega arith);
-          waits = small-place (c .size - 1) (omega arith);
+          passes = circle-small rows circle 0 (omega arith);
+          first = circle-small rows circle 1 (omega arith);
+          waits = circle-small rows circle (c .size - 1) (omega arith);
           second = small-beside;
           a-v = circle-apart circle 1 (c .size - 1) (omega arith) (omega arith) (omega arith);
           a-b = circle .off 1 (omega arith);

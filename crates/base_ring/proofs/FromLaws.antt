@@ -1,7 +1,5 @@
 -- Laws of the base ring in its order from a place on.
 --
---     placeFrom-here, placeFrom-next, placeFrom-end    the search for a place, turn by turn
---     placeOf-in, placeOf-is    it finds a place of the ring, and where x is on it, the place of x
 --     length-round, round-next, round-at    how many positions; one more of them; the one at place i
 --     laid-none, laid-next      the row of 64 with nothing laid, and with one position more
 --     circle-right          the breakdown's ring from the left end of its first handle on is a base ring
@@ -9,7 +7,6 @@
 -- Assumes nothing.
 use Prim.Native.Nat.{ℕ, zero, suc, _+_, _-_, _%_, _≤_, _<_}
 use mathlib.Core.Path.{_≡_, refl, sym, ap, subst, _∙_}
-use mathlib.Core.Bool.{Bool, cond}
 use mathlib.Core.List.{List, [], _∷_, _++_}
 use mathlib.Core.Logic.{_↔_, _≢_, by-cases}
 use native.Mathlib.Decide.{ℕ-discrete, decLt}
@@ -18,63 +15,15 @@ use native.Mathlib.Numerals.{add-one}
 use native.Mathlib.Omega.{arith}
 use lib.ListN.{length, set, replicate}
 use lib.Seq.{set-at, append-snoc}
-use borrow.Author.Tests.{eq-eqb, ne-eqb}
-use Rattle.breakdown.specs.Breakdown.{Among, Breakdown}
+use Rattle.breakdown.specs.Breakdown.{Among, Between, Breakdown}
+use Rattle.breakdown.specs.Part.{placeOf}
+use Rattle.breakdown.proofs.PlaceLaws.{placeOf-in, placeOf-is}
 use Rattle.shunting.specs.Journey.{row}
 use Rattle.breakdown.specs.Answer.{BreaksDown}
 use Rattle.breakdown.specs.declared.Breakdown.{Breakdown as Parts}
 use Rattle.base_ring.specs.declared.Circle.{Circle}
 use Rattle.base_ring.specs.Circle.{place, On, BaseRing}
-use Rattle.base_ring.specs.From.{placeFrom, placeOf, round, ringFrom, circleOf}
-
-module _ (at : ℕ → ℕ) (x : ℕ) where
-  here : (i k : ℕ) → at i ≡ x → placeFrom at x i (suc k) ≡ i
-  unfolding placeFrom
-  here i k e = ap (λ (t : Bool). cond t i (placeFrom at x (i + 1) k)) (eq-eqb (at i) x e)
-
-  on : (i k : ℕ) → at i ≢ x → placeFrom at x i (suc k) ≡ placeFrom at x (i + 1) k
-  unfolding placeFrom
-  on i k e = ap (λ (t : Bool). cond t i (placeFrom at x (i + 1) k)) (ne-eqb (at i) x e)
-
-  -- the search stands at place i of a ring of that size
-  left : (size i : ℕ) → i + 1 < size → size - 1 - i ≡ suc (size - 1 - (i + 1))
-  left size i l = omega arith
-
-  pub placeFrom-here : (size i : ℕ) → i + 1 < size → at i ≡ x → placeFrom at x i (size - 1 - i) ≡ i
-  placeFrom-here size i l e = ap (placeFrom at x i) (left size i l) ∙ here i (size - 1 - (i + 1)) e
-
-  pub placeFrom-next : (size i : ℕ) → i + 1 < size → at i ≢ x
-      → placeFrom at x (i + 1) (size - 1 - (i + 1)) ≡ placeFrom at x i (size - 1 - i)
-  placeFrom-next size i l e = sym (ap (placeFrom at x i) (left size i l) ∙ on i (size - 1 - (i + 1)) e)
-
-  pub placeFrom-end : (size i : ℕ) → size ≤ i + 1 → placeFrom at x i (size - 1 - i) ≡ i
-  unfolding placeFrom
-  placeFrom-end size i l = let none : size - 1 - i ≡ 0 = omega arith in ap (placeFrom at x i) none
-
-  within : (k i : ℕ) → placeFrom at x i k ≤ i + k
-  unfolding placeFrom
-  within zero i = omega arith
-  within (suc k) i =
-      by-cases (ℕ-discrete (at i) x)
-      (λ e. let y = here i k e in omega arith)
-      (λ e. let y = on i k e in let z = within k (i + 1) in omega arith)
-
-  found : (k i j : ℕ) → i ≤ j → j ≤ i + k → at j ≡ x → at (placeFrom at x i k) ≡ x
-  unfolding placeFrom
-  found zero i j low high e = let same : i ≡ j = omega arith in ap at same ∙ e
-  found (suc k) i j low high e =
-      by-cases (ℕ-discrete (at i) x)
-      (λ y. ap at (here i k y) ∙ y)
-      (λ y. ap at (on i k y) ∙ found k (i + 1) j (later (λ z. y (ap at z ∙ e))) (omega arith) e)
-    where
-      later : i ≢ j → i + 1 ≤ j
-      later n = omega arith
-
-  pub placeOf-in : (size : ℕ) → 0 < size → placeOf at size x < size
-  placeOf-in size some = let y = within (size - 1) 0 in omega arith
-
-  pub placeOf-is : (size : ℕ) → (i : ℕ) × (i < size) × (at i ≡ x) → at (placeOf at size x) ≡ x
-  placeOf-is size y = let l = y .1 in found (size - 1) 0 (y .0) (omega arith) (omega arith) (y .2)
+use Rattle.base_ring.specs.From.{round, circleOf}
 
 module _ (at : ℕ → ℕ) (size : ℕ) where
   pub length-round : (k z : ℕ) → length (round at size z k) ≡ k
@@ -236,26 +185,26 @@ module _ {n handles size z x : ℕ} {E : ℕ → ℕ → Type 0} {at start left 
 
 module _ (n : ℕ) {E : ℕ → ℕ → Type 0} (b : Parts) (broken : BreaksDown n E b) where
   -- the left end of the first handle is on the ring
-  first-end : (i : ℕ) × (i < b .ring) × (row (b .order) i ≡ row (b .left) 0)
+  first-end : Between (row (b .order)) 0 (b .ring) (row (b .left) 0)
   first-end =
       let end = broken .handle 0 (handled broken) .left in
       let before = end .before in
       let begins = broken .begins in
-      (end .place, omega arith, end .is)
+      record { place = end .place; from = omega arith; before = omega arith; is = end .is }
 
-  z-in : placeOf (row (b .order)) (b .ring) (row (b .left) 0) < b .ring
-  z-in = let l = first-end .1 in placeOf-in (row (b .order)) (row (b .left) 0) (b .ring) (omega arith)
+  z-in : placeOf (row (b .order)) 0 (b .ring) (row (b .left) 0) < b .ring
+  z-in = let l = first-end .before in placeOf-in (row (b .order)) (row (b .left) 0) 0 (b .ring) (omega arith)
 
   laid : (i : ℕ) → i < b .ring
-      → place (circleOf n b) i ≡ row (b .order) ((placeOf (row (b .order)) (b .ring) (row (b .left) 0) + i) % b .ring)
+      → place (circleOf n b) i ≡ row (b .order) ((placeOf (row (b .order)) 0 (b .ring) (row (b .left) 0) + i) % b .ring)
   laid i l =
-      round-at (row (b .order)) (b .ring) (b .ring) (placeOf (row (b .order)) (b .ring) (row (b .left) 0)) i
+      round-at (row (b .order)) (b .ring) (b .ring) (placeOf (row (b .order)) 0 (b .ring) (row (b .left) 0)) i
       (replicate (64 - b .ring) 0) l
 
   pub circle-right : BaseRing E (circleOf n b)
   circle-right =
-      from-circle (circleOf n b .at) broken z-in (placeOf-is (row (b .order)) (row (b .left) 0) (b .ring) first-end) laid refl
+      from-circle (circleOf n b .at) broken z-in (placeOf-is (row (b .order)) (row (b .left) 0) 0 (b .ring) first-end) laid refl
 
   pub circle-same : (p : ℕ) → Among (row (b .order)) (b .ring) p ↔ On (circleOf n b) p
   circle-same =
-      from-same (circleOf n b .at) broken z-in (placeOf-is (row (b .order)) (row (b .left) 0) (b .ring) first-end) laid refl
+      from-same (circleOf n b .at) broken z-in (placeOf-is (row (b .order)) (row (b .left) 0) 0 (b .ring) first-end) laid refl

@@ -4,6 +4,7 @@
 --     on-surely            a position that is not off the ring is on it
 --     circle-on, circle-apart    each place is on the ring; two places are different positions
 --     circle-below         a position of the ring is one of the floor
+--     circle-small, circle-places    so it is below 64
 --     circle-off, circle-beside  `beside` is not on the ring, and is a position of the floor
 --     circle-robust        the ring is whole, and stays so without any one position
 --     robust-same          two sets with the same positions stay whole together
@@ -30,7 +31,7 @@ use Rattle.graph.specs.Connected.{Robust}
 use Rattle.graph.proofs.ConnectedLaws.{whole-same}
 use Rattle.graph.specs.Rows.{Edge, Rows}
 use Rattle.breakdown.specs.Breakdown.{Among}
-use Rattle.breakdown.specs.Part.{Part}
+use Rattle.breakdown.specs.Part.{Places, Part}
 use Rattle.breakdown.proofs.StageLaws as stage
 use Rattle.shunting.specs.Cleared.{Reaches, Vacancy}
 use Rattle.shunting.specs.Table.{Table}
@@ -117,6 +118,12 @@ module _ {E : ℕ → ℕ → Type 0} {c : Circle} (circle : BaseRing E c) where
       (circle .distinct 0 1 (omega arith) (omega arith)) (o .zero) (o .one) l v)
 
 module _ {g : List ℕ} {c : Circle} (rows : Rows (c .positions) g) (circle : BaseRing (Edge g) c) where
+  pub circle-small : (i : ℕ) → i < c .size → place c i < 64
+  circle-small i l = let x = circle .below i l in let s = rows .small in omega arith
+
+  pub circle-places : Places (place c) (c .size)
+  circle-places = let s = rows .small in let less = circle .less in record { most = omega arith; below = circle-small }
+
   pub circle-beside : c .beside < c .positions
   circle-beside = rows .inside (place c 0) (c .beside) (circle .beside) .1
 

@@ -11,7 +11,7 @@ ghost use Rattle.shunting.specs.Journey.{row, Fits, Room, Space, Trip, Journey,
 ghost use Rattle.shunting.specs.Turned.{Passed};
 ghost use Rattle.shunting.specs.Table.{Table};
 ghost use Rattle.base_ring.specs.Circle.{BaseRing, OnRing, TwoOnRing, RestHeld, Open, Aside, Ready, Exchanged, RestSettled, Ringing};
-ghost use Rattle.base_ring.specs.From.{placeOf, ringFrom, circleOf};
+ghost use Rattle.base_ring.specs.From.{ringFrom, circleOf};
 ghost use Rattle.base_ring.specs.Moves.{asideMoves, nextMoves, exchangeMoves, openMoves, ringMoves};
 ghost use Rattle.base_ring.specs.Swap.{PassableBy, JoinsBy, Swappable, Joined, Swapped};
 
@@ -241,27 +241,12 @@ pub fn settle_ring(
     state
 }
 
-// The place at which x stands on the base ring.
-fn place_on(order: &[u8; 64], size: usize, x: usize) -> usize
-    requires { ⌜ (0 < size) × (size ≤ 64) ⌝ }
-    ensures { λ r. ⌜ r ≡ placeOf (row (now (order .entry))) size x ⌝ }
-{
-    let mut i: usize = 0;
-    while i + 1 < size {
-        if field::wide(order[i]) == x {
-            return i;
-        }
-        i += 1;
-    }
-    i
-}
-
 // The base ring of a breakdown from x on, in the order round it.
 fn ring_from(order: &[u8; 64], size: usize, x: usize) -> [u8; 64]
     requires { ⌜ (0 < size) × (size ≤ 64) ⌝ }
     ensures { λ r. ⌜ r ≡ ringFrom (now (order .entry)) size x ⌝ }
 {
-    let z = place_on(order, size, x);
+    let z = breakdown::place_of(order, 0, size, x);
     let mut circle = [0u8; 64];
     let mut j: usize = 0;
     while j < size {

@@ -9,3 +9,4 @@ pub mod CountLaws
 pub mod Examples
 pub mod StageLaws
 pub mod PartLaws
+pub mod PlaceLaws

@@ -1,7 +1,7 @@
 // The breakdown of a floor into a base ring and handles, shortest first.
 use graph::Route;
 ghost use mathlib.Core.Path.{_≡_};
-ghost use Prim.Native.Nat.{_+_, _<_};
+ghost use Prim.Native.Nat.{_+_, _≤_, _<_};
 ghost use Rattle.sets.specs.Sets.{Has};
 ghost use Rattle.graph.specs.Connected.{Except, Below, BiConnected};
 ghost use Rattle.graph.specs.Rows.{Edge, Rows};
@@ -9,7 +9,7 @@ ghost use Rattle.graph.specs.Nearest.{Nearest};
 ghost use Rattle.breakdown.specs.Choice.{RingWay, Before, Better, RingChoice, HandleChoice, Size, RingSize};
 ghost use Rattle.breakdown.specs.Building.{row, Settled, Fresh, Extended, BuildingOf};
 ghost use Rattle.breakdown.specs.Answer.{HandledOf, AnswerOf};
-ghost use Rattle.breakdown.specs.Part.{Places, Part};
+ghost use Rattle.breakdown.specs.Part.{Places, Part, placeOf};
 
 // Two joined positions, and how many positions the way has that leads on from the second. A size of 0 is no pair.
 struct Pair {
@@ -309,4 +309,19 @@ pub fn part(order: &[u8; 64], from: usize, to: usize) -> u64
         i += 1;
     }
     set
+}
+
+// The place at which p stands, of the places from s up to e; the last of them where it stands at none.
+pub fn place_of(order: &[u8; 64], s: usize, e: usize, p: usize) -> usize
+    requires { ⌜ (s < e) × (e ≤ 64) ⌝ }
+    ensures { λ r. ⌜ r ≡ placeOf (row (now (order .entry))) s e p ⌝ }
+{
+    let mut i = s;
+    while i + 1 < e {
+        if field::wide(order[i]) == p {
+            return i;
+        }
+        i += 1;
+    }
+    i
 }

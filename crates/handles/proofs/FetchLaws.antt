@@ -4,6 +4,7 @@
 --     square-less, square-three, square-four, square-most    n * n against n * (n - 1), n * (n - 3), 4 * n and 4096
 --     fetch-bound              two clearings and a carrying are within the bound
 --     place-bound              opening, fetching, bringing, clearing and turning are
+--     place-room, place-fits, place-trip    so there is room for each of them, and all are one trip
 --     lane-four                a floor with a handle has four positions
 --     end-below, end-inside    the region without y, as a set, is on the floor, and inside the region
 --     end-reaches              from v a walk inside it leads to a vacancy
@@ -20,6 +21,7 @@ use mathlib.Core.Logic.{_↔_, _≢_, by-cases, inl, inr, ⊎-elim}
 use native.Mathlib.Decide.{decLt}
 use native.Mathlib.Nat.{mul-suc, mul-le-mul}
 use native.Mathlib.Omega.{arith}
+use lib.ListN.{length}
 use Rattle.sets.specs.Sets.{Has}
 use Rattle.graph.specs.Connected.{Except}
 use Rattle.graph.proofs.WalkLaws.{walk-inside}
@@ -28,6 +30,9 @@ use Rattle.breakdown.specs.Breakdown.{Among, Between}
 use Rattle.breakdown.specs.Part.{Part}
 use Rattle.breakdown.proofs.StageLaws.{Both, whole-right}
 use Rattle.shunting.specs.Went.{Same}
+use Rattle.shunting.specs.declared.State.{State}
+use Rattle.shunting.specs.Journey.{relogged, Fits, Room, Trip}
+use Rattle.shunting.proofs.JourneyLaws.{trip-more, trip-append, trip-anew, fits-anew, room-less, room-then}
 use Rattle.shunting.specs.Undone.{carried}
 use Rattle.shunting.proofs.BackLaws.{carried-there, carried-other}
 use Rattle.shunting.specs.Cleared.{Inside, Reaches, Vacancy, Cleared}
@@ -67,6 +72,28 @@ fetch-bound n l = let e = square-three n (omega arith) in omega arith
 
 pub place-bound : (n : ℕ) → 3 < n → (n - 1) + (2 * (n * n) + (n * (n - 1) + ((n - 1) + n))) ≤ 4 * (n * n)
 place-bound n l = let e = square-less n (omega arith) in let f = square-four n l in omega arith
+
+-- the stage is opened, and then a rack fetched; the rest begins the log anew
+module _ {g : List ℕ} {n : ℕ} {x x₁ : State} {t t₁ : List ℕ} (four : 3 < n) (opened : Trip g (n - 1) x t x₁ t₁) where
+  pub place-room : {l l₁ : List ℕ} → Room x l t (4 * (n * n)) → length l₁ ≡ length l → Room x₁ l₁ t₁ (2 * (n * n))
+  place-room room log = let bound = place-bound n four in room-then (room-less ((n - 1) + 2 * (n * n)) (omega arith) room) log opened
+
+  module _ {x₂ : State} {t₂ : List ℕ} (fetched : Trip g (2 * (n * n)) x₁ t₁ x₂ t₂) where
+    pub place-fits : {l l₂ : List ℕ} → n ≤ 64 → Room x l t (4 * (n * n)) → length l₂ ≡ length l
+        → Fits (relogged x₂ 0) l₂ t₂ (n * (n - 1) + ((n - 1) + n))
+    place-fits small room log =
+        let rest = n * (n - 1) + ((n - 1) + n) in
+        let bound = place-bound n four in
+        let square = square-less n (omega arith) in
+        let most = square-most n small in
+        fits-anew rest (omega arith) (omega arith)
+        (room-then (room-less ((n - 1) + 2 * (n * n) + rest) (omega arith) room) log (trip-append opened fetched))
+
+    pub place-trip : {c : ℕ} {x₃ : State} {t₃ : List ℕ} → c ≤ n * (n - 1) + ((n - 1) + n) → Trip g c (relogged x₂ 0) t₂ x₃ t₃
+        → Trip g (4 * (n * n)) x t x₃ t₃
+    place-trip less rest =
+        let bound = place-bound n four in
+        trip-more (4 * (n * n)) (omega arith) (trip-append opened (trip-append fetched (trip-anew rest)))
 
 module _ {n : ℕ} {g : List ℕ} {at : ℕ → ℕ} {s e u v : ℕ} (rows : Rows n g) (lane : HandleOn n (Edge g) at s e u v) where
   pub lane-four : 3 < n

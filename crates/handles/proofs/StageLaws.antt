@@ -1,6 +1,5 @@
 -- Laws of a handle's places, and of the stage that it stands on.
 --
---     Sought, sought-next, sought-last    the state of `place_of`: p stands at none of the places from s up to i
 --     copied-none, copied-next, copied-all    the state of `copy_places`: no position is copied; one more; fewer than are
 --     agreed-next            the state of `is_settled`: one place more holds what the goal has there
 --     among-between, between-among    the stage as the places from 0 on
@@ -34,20 +33,7 @@ use Rattle.breakdown.proofs.StageLaws.{Both, whole-right}
 use Rattle.shunting.specs.Journey.{row}
 use Rattle.shunting.specs.Cleared.{VacantBelow, Reaches, Vacancy}
 use Rattle.shunting.specs.Table.{Table}
-use Rattle.handles.specs.Lane.{HandleOn, PlaceAt, Copied, Agreed, Placing}
-
-abbrev pub Sought : (ℕ → ℕ) → ℕ → ℕ → ℕ → Type 0
-Sought at s p i = (j : ℕ) → s ≤ j → j < i → at j ≢ p
-
-pub sought-next : (at : ℕ → ℕ) (s p i : ℕ) → at i ≢ p → Sought at s p i → Sought at s p (i + 1)
-sought-next at s p i other so j le l = by-cases (ℕ-discrete j i) (λ e z. other (ap at (sym e) ∙ z)) (λ e. so j le (omega arith))
-
-pub sought-last : (at : ℕ → ℕ) (s p i e : ℕ) → s ≤ i → i < e → e ≤ i + 1 → Sought at s p i → Between at s e p → PlaceAt at s e p i
-sought-last at s p i e le lt done so x =
-    let l = x .before in
-    by-cases (ℕ-discrete (x .place) i)
-    (λ z. record { from = le; before = lt; is = ap at (sym z) ∙ x .is })
-    (λ z. absurd (so (x .place) (x .from) (omega arith) (x .is)))
+use Rattle.handles.specs.Lane.{HandleOn, Copied, Agreed, Placing}
 
 pub copied-none : (from : ℕ → ℕ) (first to : ℕ) (old : ℕ → ℕ) → Copied from first to old old 0
 copied-none from first to old = record { copied = λ i l. absurd (none l); before = λ i l. refl }

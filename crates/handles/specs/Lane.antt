@@ -5,7 +5,6 @@
 --     BesideEnd E at s u v y    y is a position of the stage beside the right end v that is neither end
 --     Closed n E at s e u v cycle size    the handle's inner positions from u's side on, then a way from v to u through the stage: a cycle
 --     After at e v i r          r is the position after place i of the handle: the next place's, or its right end
---     PlaceAt at s e p i        p stands at place i of the places from s up to e
 --     Copied from first to old new j    of `from` j places, from `first` on, are copied to those from `to` on; those before stay
 --     Agreed at T h s e         the places from s up to e hold what they have in the goal T
 --     Filled at T s n           the places from s up to n have a rack in the goal T
@@ -65,11 +64,6 @@ pub record Closed (n : ℕ) (E : ℕ → ℕ → Type 0) (at : ℕ → ℕ) (s e
 pub record After (at : ℕ → ℕ) (e v i r : ℕ) : Type 0 where
   pub inner : i + 1 < e → r ≡ at (i + 1)
   pub last : e ≤ i + 1 → r ≡ v
-
-pub record PlaceAt (at : ℕ → ℕ) (s e p i : ℕ) : Type 0 where
-  pub from : s ≤ i
-  pub before : i < e
-  pub is : at i ≡ p
 
 pub record Copied (from : ℕ → ℕ) (first to : ℕ) (old new : ℕ → ℕ) (j : ℕ) : Type 0 where
   pub copied : (i : ℕ) → i < j → new (to + i) ≡ from (first + i)

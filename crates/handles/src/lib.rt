@@ -10,15 +10,15 @@ ghost use mathlib.Core.Path.{_≡_};
 ghost use Prim.Native.Nat.{_+_, _-_, _*_, _≤_, _<_};
 ghost use lib.ListN.{length};
 ghost use Rattle.graph.specs.Rows.{Edge, Rows};
-ghost use Rattle.breakdown.specs.Breakdown.{Between};
 ghost use Rattle.breakdown.specs.Part.{Places};
 ghost use Rattle.breakdown.specs.Answer.{BreaksDown};
 ghost use Rattle.shunting.specs.Journey.{row, Room, Space, Trip};
 ghost use Rattle.shunting.specs.Cleared.{Vacancy};
 ghost use Rattle.shunting.specs.Table.{Table};
-ghost use Rattle.handles.specs.Lane.{BesideEnd, After, PlaceAt, Copied, Agreed, Filled};
+ghost use Rattle.handles.specs.Lane.{BesideEnd, After, Copied, Agreed, Filled};
 ghost use Rattle.handles.specs.Lane.{LaneOn, LaneBeside, LaneClosed, LaneStage, LanePlacing, LaneFetched, LaneStacked, LaneKept};
 ghost use Rattle.handles.specs.Lane.{nextRack, InLane, LaneOpen, LaneCarriable, LaneCarried, LaneSettled};
+ghost use Rattle.handles.specs.Moves.{endMoves, carryMoves, fetchMoves, placeMoves, laneMoves};
 
 // A handle: the row of the breakdown, how many positions the floor has, the places of the row from `start` up to `end` at which the
 // handle's inner positions stand, its ends, `left` beside the first of them and `right` beside the last, and a position of the stage beside
@@ -92,9 +92,8 @@ fn carry(
     requires { ⌜ LaneBeside (Edge (now rows)) lane ⌝ }
     requires { ⌜ InLane lane q ⌝ }
     requires { ⌜ LaneCarriable lane q (row (state .racks)) ⌝ }
-    requires { ⌜ Room state (now log) (now tail) (2 * (lane .positions * (lane .positions - 3)) + 1) ⌝ }
-    ensures { λ r. ⌜ Trip (now (rows .entry)) (2 * (lane .positions * (lane .positions - 3)) + 1)
-        state (now (tail .entry)) r (now (tail .exit)) ⌝ }
+    requires { ⌜ Room state (now log) (now tail) (carryMoves (lane .positions)) ⌝ }
+    ensures { λ r. ⌜ Trip (now (rows .entry)) (carryMoves (lane .positions)) state (now (tail .entry)) r (now (tail .exit)) ⌝ }
     ensures { λ r. ⌜ LaneCarried lane q (row (state .racks)) (row (r .racks)) ⌝ }
     ensures { λ _. ⌜ length (now (log .exit)) ≡ length (now (log .entry)) ⌝ }
 {
@@ -118,22 +117,6 @@ fn carry(
     let logged = state.logged;
     state = shunting::make_move(right, beside, state, log, tail);
     shunting::undo(0, logged, state, log, tail)
-}
-
-// The place at which p stands, of the places from s up to e.
-fn place_of(order: &[u8; 64], s: usize, e: usize, p: usize) -> usize
-    requires { ⌜ e ≤ 64 ⌝ }
-    requires { ⌜ Between (row (now order)) s e p ⌝ }
-    ensures { λ r. ⌜ PlaceAt (row (now (order .entry))) s e p r ⌝ }
-{
-    let mut i = s;
-    while i + 1 < e {
-        if field::wide(order[i]) == p {
-            return i;
-        }
-        i += 1;
-    }
-    i
 }
 
 // The rack that comes next for the handle: the goal has it at the last place that is not stacked for.
@@ -160,8 +143,8 @@ fn open_end(
     requires { ⌜ LaneOn (Edge (now rows)) lane ⌝ }
     requires { ⌜ LaneBeside (Edge (now rows)) lane ⌝ }
     requires { ⌜ LaneStacked lane k (row (state .racks)) ⌝ }
-    requires { ⌜ Room state (now log) (now tail) (2 * (lane .positions - 1)) ⌝ }
-    ensures { λ r. ⌜ Trip (now (rows .entry)) (2 * (lane .positions - 1)) state (now (tail .entry)) r (now (tail .exit)) ⌝ }
+    requires { ⌜ Room state (now log) (now tail) (endMoves (lane .positions)) ⌝ }
+    ensures { λ r. ⌜ Trip (now (rows .entry)) (endMoves (lane .positions)) state (now (tail .entry)) r (now (tail .exit)) ⌝ }
     ensures { λ r. ⌜ LaneKept lane k (row (state .racks)) (row (r .racks)) ⌝ }
     ensures { λ r. ⌜ LaneOpen lane (row (r .racks)) ⌝ }
     ensures { λ _. ⌜ length (now (log .exit)) ≡ length (now (log .entry)) ⌝ }
@@ -196,8 +179,8 @@ fn fetch(
     requires { ⌜ LanePlacing lane (row (now goal)) k (row (state .racks)) ⌝ }
     requires { ⌜ k < lane .end - lane .start ⌝ }
     requires { ⌜ Vacancy (LaneStage lane) (row (state .racks)) ⌝ }
-    requires { ⌜ Room state (now log) (now tail) (2 * (lane .positions * lane .positions)) ⌝ }
-    ensures { λ r. ⌜ Trip (now (rows .entry)) (2 * (lane .positions * lane .positions)) state (now (tail .entry)) r (now (tail .exit)) ⌝ }
+    requires { ⌜ Room state (now log) (now tail) (fetchMoves (lane .positions)) ⌝ }
+    ensures { λ r. ⌜ Trip (now (rows .entry)) (fetchMoves (lane .positions)) state (now (tail .entry)) r (now (tail .exit)) ⌝ }
     ensures { λ r. ⌜ LaneFetched lane (row (now (goal .entry))) k (row (r .racks)) ⌝ }
     ensures { λ _. ⌜ length (now (log .exit)) ≡ length (now (log .entry)) ⌝ }
 {
@@ -216,7 +199,7 @@ fn fetch(
     if sets::has(stage, at) {
         return open;
     }
-    let q = place_of(&order, s, lane.end, at);
+    let q = breakdown::place_of(&order, s, lane.end, at);
     carry(rows, lane, q, open, log, tail)
 }
 
@@ -238,8 +221,8 @@ fn place(
     requires { ⌜ LaneClosed (Edge (now rows)) lane cycle ⌝ }
     requires { ⌜ LanePlacing lane (row (now goal)) k (row (state .racks)) ⌝ }
     requires { ⌜ k < lane .end - lane .start ⌝ }
-    requires { ⌜ Room state (now log) (now tail) (4 * (lane .positions * lane .positions)) ⌝ }
-    ensures { λ r. ⌜ Trip (now (rows .entry)) (4 * (lane .positions * lane .positions)) state (now (tail .entry)) r (now (tail .exit)) ⌝ }
+    requires { ⌜ Room state (now log) (now tail) (placeMoves (lane .positions)) ⌝ }
+    ensures { λ r. ⌜ Trip (now (rows .entry)) (placeMoves (lane .positions)) state (now (tail .entry)) r (now (tail .exit)) ⌝ }
     ensures { λ r. ⌜ LanePlacing lane (row (now (goal .entry))) (k + 1) (row (r .racks)) ⌝ }
     ensures { λ _. ⌜ length (now (log .exit)) ≡ length (now (log .entry)) ⌝ }
 {
@@ -344,9 +327,8 @@ fn settle_handle(
     requires { ⌜ Rows (lane .positions) (now rows) ⌝ }
     requires { ⌜ LaneOn (Edge (now rows)) lane ⌝ }
     requires { ⌜ LanePlacing lane (row (now goal)) 0 (row (state .racks)) ⌝ }
-    requires { ⌜ Room state (now log) (now tail) ((lane .end - lane .start) * (4 * (lane .positions * lane .positions))) ⌝ }
-    ensures { λ r. ⌜ Trip (now (rows .entry)) ((lane .end - lane .start) * (4 * (lane .positions * lane .positions)))
-        state (now (tail .entry)) r (now (tail .exit)) ⌝ }
+    requires { ⌜ Room state (now log) (now tail) (laneMoves lane) ⌝ }
+    ensures { λ r. ⌜ Trip (now (rows .entry)) (laneMoves lane) state (now (tail .entry)) r (now (tail .exit)) ⌝ }
     ensures { λ r. ⌜ LaneSettled lane (row (now (goal .entry))) (row (r .racks)) ⌝ }
     ensures { λ _. ⌜ length (now (log .exit)) ≡ length (now (log .entry)) ⌝ }
 {

@@ -33,8 +33,9 @@ use Rattle.shunting.proofs.JourneyLaws.{moved-trip, trip-append}
 use Rattle.shunting.specs.Turned.{Movable}
 use Rattle.shunting.specs.Table.{Table}
 use Rattle.shunting.proofs.TableExamples.{none-after, start, goal, start-table, goal-table}
+use Rattle.breakdown.specs.Part.{placeFrom}
 use Rattle.base_ring.specs.Circle.{Open}
-use Rattle.base_ring.specs.From.{placeFrom, round, circleOf}
+use Rattle.base_ring.specs.From.{round, circleOf}
 use Rattle.handles.proofs.Examples.{log, tail, state, space, four-long, breakdown}
 use Rattle.solving.specs.Moves.{settleMoves, solveMoves}
 use Rattle.solving.specs.Shift.{aimed, TwoPositions, Shift}

@@ -1,13 +1,14 @@
 -- `base_ring::bring_aside` meets its contract.
 -- Assumes nothing.
+use Prim.Native.Nat.{ℕ}
+use mathlib.Core.List.{List}
 use native.Mathlib.Omega.{arith}
 use borrow.Author.Needs.{needs}
-use Rattle.graph.specs.Rows.{Edge}
-use Rattle.shunting.specs.Journey.{row}
+use Rattle.shunting.specs.Journey.{row, Journey}
 use Rattle.shunting.specs.Table.{Table}
 use Rattle.shunting.proofs.JourneyLaws.{journey-append, fits-less, fits-then}
 use Rattle.shunting.proofs.TableLaws.{table-went}
-use Rattle.base_ring.proofs.RingLaws.{circle-below, ring-below, ring-robust}
+use Rattle.base_ring.proofs.RingLaws.{circle-below, circle-places, ring-below, ring-robust}
 use Rattle.base_ring.proofs.ExchangeLaws.{aside-movable, aside-on, aside-bringable, aside-again, aside-done}
 use Rattle.base_ring.proofs.bring_aside.Statement.{statement}
 use Rattle.base_ring.proofs.bring_aside.Tie as tie
@@ -25,6 +26,24 @@ stepped c = let known = c .before .before .before in known .before .before
 abbrev found : tie.After-bring → tie.After-where-is
 found c = c .before .before .before
 
+-- The rack beside place 0 has stepped onto the ring: what was asked for, the journey, and the table.
+module _ (c : tie.After-make-move) where
+  abbrev start : tie.Start
+  start = entry (parted c)
+
+  abbrev log : List ℕ
+  log = let mutable = c .make-move .last .1 .1 .1 in mutable .0
+
+  abbrev tail : List ℕ
+  tail = let mutable = c .make-move .last .1 .1 .1 in mutable .1 .0
+
+  step : Journey (start .args .rows .now) 1 (start .args .state) (start .args .log .now) (start .args .tail .now)
+      (c .make-move .result) log tail
+  step = c .make-move .ensures .0 _ (start .pre .0 .symmetric _ _ (start .pre .1 .0 .beside))
+
+  table : Table (start .args .circle .positions) (row (c .make-move .result .racks))
+  table = table-went (start .pre .0 .inside) (step .trip .went) (start .pre .1 .1 .0 .table)
+
 array-read-x : tie.Need-array-read-x
 array-read-x c = search needs
 
@@ -32,11 +51,7 @@ cast-x : tie.Need-cast-x
 cast-x c = search needs
 
 part-requires : tie.Need-part-requires
-part-requires c κs =
-    let start = c .before .before .before in
-    let small = start .pre .0 .small in
-    let less = start .pre .1 .0 .less in
-    record { most = omega arith; below = λ i l. let x = start .pre .1 .0 .below i l in omega arith }
+part-requires c κs = let p = c .before .before .before .pre in circle-places (p .0) (p .1 .0)
 
 make-move-requires : tie.Need-make-move-requires
 make-move-requires c κs =
@@ -47,7 +62,7 @@ where-is-requires : tie.Need-where-is-requires
 where-is-requires c κs =
     let tail = c .before .before .before in
     let moved = tail .before in
-    let p = entry (parted moved) .pre in
+    let p = start moved .pre in
     let on = aside-on (p .0) (p .1 .0) (p .1 .1 .0) (p .1 .1 .1 .0) (moved .make-move .ensures .1) in
     (p .0 .small, (on .at, record { inside = circle-below (p .1 .0) (on .at) (on .on); there = on .there }))
 
@@ -55,21 +70,17 @@ bring-requires : tie.Need-bring-requires
 bring-requires c κs =
     let at = c .before .before in
     let moved = stepped at in
-    let part = parted moved .part in
-    let p = entry (parted moved) .pre in
-    let rows = p .0 in
-    let circle = p .1 .0 in
-    let m = moved .make-move .ensures in
-    let go = m .0 (entry (parted moved) .args .rows .now) (rows .symmetric _ _ (circle .beside)) in
-    let table = table-went (rows .inside) (go .trip .went) (p .1 .1 .0 .table) in (
-      rows,
+    let ring = parted moved .part .ensures in
+    let p = start moved .pre in
+    let m = moved .make-move .ensures .1 in (
+      p .0,
       (
-        ring-below rows circle _ (part .ensures),
+        ring-below (p .0) (p .1 .0) _ ring,
         (
-          ring-robust rows circle _ (part .ensures),
+          ring-robust (p .0) (p .1 .0) _ ring,
           (
-            aside-bringable rows circle (p .1 .1 .0) (p .1 .1 .1 .0) (m .1) _ _ (part .ensures) table (at .where-is .ensures),
-            fits-less _ (omega arith) (fits-then (p .1 .1 .1 .1) go),
+            aside-bringable (p .0) (p .1 .0) (p .1 .1 .0) (p .1 .1 .1 .0) m _ _ ring (table moved) (at .where-is .ensures),
+            fits-less _ (omega arith) (fits-then (p .1 .1 .1 .1) (step moved)),
           ),
         ),
       ),
@@ -81,16 +92,12 @@ make-move-requires-2 c κs =
     let brought = known .before .before in
     let at = found brought in
     let moved = stepped at in
-    let part = parted moved .part in
-    let p = entry (parted moved) .pre in
-    let rows = p .0 in
-    let circle = p .1 .0 in
-    let m = moved .make-move .ensures in
-    let b = brought .bring .ensures in
-    let go = m .0 (entry (parted moved) .args .rows .now) (rows .symmetric _ _ (circle .beside)) in
-    let table = table-went (rows .inside) (go .trip .went) (p .1 .1 .0 .table) in (
-      aside-again rows circle (p .1 .1 .0) (p .1 .1 .1 .0) (m .1) _ _ (part .ensures) table (at .where-is .ensures) (b .1),
-      fits-then (fits-then (p .1 .1 .1 .1) go) (b .0),
+    let ring = parted moved .part .ensures in
+    let p = start moved .pre in
+    let m = moved .make-move .ensures .1 in
+    let b = brought .bring .ensures in (
+      aside-again (p .0) (p .1 .0) (p .1 .1 .0) (p .1 .1 .1 .0) m _ _ ring (table moved) (at .where-is .ensures) (b .1),
+      fits-then (fits-then (p .1 .1 .1 .1) (step moved)) (b .0),
     )
 
 same-length : tie.Need-same-length
@@ -103,18 +110,13 @@ returns c =
     let brought = known .before .before in
     let at = found brought in
     let moved = stepped at in
-    let part = parted moved .part in
-    let p = entry (parted moved) .pre in
-    let rows = p .0 in
-    let circle = p .1 .0 in
-    let m = moved .make-move .ensures in
+    let p = start moved .pre in
+    let ring = parted moved .part .ensures in
+    let m = moved .make-move .ensures .1 in
     let b = brought .bring .ensures in
-    let o = aside .make-move2 .ensures in
-    let g = entry (parted moved) .args .rows .now in
-    let go = m .0 g (rows .symmetric _ _ (circle .beside)) in
-    let table = table-went (rows .inside) (go .trip .went) (p .1 .1 .0 .table) in (
-      journey-append go (journey-append (b .0) (o .0 g (circle .beside))),
-      aside-done rows circle (p .1 .1 .0) (p .1 .1 .1 .0) (m .1) _ _ (part .ensures) table (at .where-is .ensures) (b .1) (o .1),
+    let o = aside .make-move2 .ensures in (
+      journey-append (step moved) (journey-append (b .0) (o .0 _ (p .1 .0 .beside))),
+      aside-done (p .0) (p .1 .0) (p .1 .1 .0) (p .1 .1 .1 .0) m _ _ ring (table moved) (at .where-is .ensures) (b .1) (o .1),
     )
 
 pub bring-aside-spec : {M : Type 1} → statement M

@@ -5,7 +5,7 @@ use native.Mathlib.Omega.{arith}
 use borrow.Author.Needs.{needs}
 use Rattle.shunting.proofs.JourneyLaws.{journey-append, fits-less, fits-then}
 use Rattle.shunting.proofs.TableLaws.{table-went}
-use Rattle.base_ring.proofs.RingLaws.{circle-below, held-same, ring-below, ring-robust}
+use Rattle.base_ring.proofs.RingLaws.{circle-below, circle-small, circle-places, held-same, ring-below, ring-robust}
 use Rattle.base_ring.proofs.RingLaws.{ring-reaches-without, ring-reaches-last}
 use Rattle.base_ring.proofs.ExchangeLaws.{next-bringable, next-outside, next-held-still, next-outside-still, next-done}
 use Rattle.base_ring.proofs.bring_next.Statement.{statement}
@@ -52,11 +52,7 @@ cast-last : tie.Need-cast-last
 cast-last c = search needs
 
 part-requires : tie.Need-part-requires
-part-requires c κs =
-    let start = c .before .before .before in
-    let small = start .pre .0 .small in
-    let less = start .pre .1 .0 .less in
-    record { most = omega arith; below = λ i l. let x = start .pre .1 .0 .below i l in omega arith }
+part-requires c κs = let p = c .before .before .before .pre in circle-places (p .0) (p .1 .0)
 
 where-is-requires : tie.Need-where-is-requires
 where-is-requires c κs =
@@ -88,10 +84,8 @@ bring-requires c κs =
 without-requires : tie.Need-without-requires
 without-requires c κs =
     let p = entry (parted (found (c .before .before))) .pre in
-    let small = p .0 .small in
     let three = p .1 .0 .three in
-    let x = p .1 .0 .below 1 (omega arith) in
-    omega arith
+    circle-small (p .0) (p .1 .0) 1 (omega arith)
 
 clear-requires : tie.Need-clear-requires
 clear-requires c κs =
@@ -126,10 +120,8 @@ without-requires-2 : tie.Need-without-requires-2
 without-requires-2 c κs =
     let without = held (c .before .before) in
     let p = entry (parted (found (brought without))) .pre in
-    let small = p .0 .small in
     let three = p .1 .0 .three in
-    let x = p .1 .0 .below 0 (omega arith) in
-    omega arith
+    circle-small (p .0) (p .1 .0) 0 (omega arith)
 
 clear-requires-2 : tie.Need-clear-requires-2
 clear-requires-2 c κs =

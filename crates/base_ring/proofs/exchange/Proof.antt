@@ -1,12 +1,18 @@
 -- `base_ring::exchange` meets its contract.
 -- Assumes nothing.
-use Prim.Native.Nat.{_+_, _*_}
+use Prim.Native.Nat.{ℕ, _+_, _*_, _≤_}
+use mathlib.Core.List.{List}
 use native.Mathlib.Omega.{arith}
 use borrow.Author.Needs.{needs}
-use Rattle.shunting.proofs.JourneyLaws.{journey-append, trip-append, trip-more, fits-then, fits-anew, room-less, space-then, space-less}
+use Rattle.shunting.specs.Journey.{row, relogged, Fits}
+use Rattle.shunting.specs.Table.{Table}
+use Rattle.shunting.proofs.JourneyLaws.{journey-append, trip-append, trip-more, fits-then, fits-anew}
+use Rattle.shunting.proofs.JourneyLaws.{room-less, space-then, space-less}
 use Rattle.shunting.proofs.TableLaws.{table-went}
+use Rattle.base_ring.specs.Circle.{OnRing}
 use Rattle.base_ring.specs.Moves.{asideMoves, nextMoves}
-use Rattle.base_ring.proofs.ExchangeLaws.{aside-rest, rack-on, exchange-swappable, exchange-moves, exchange-most, exchange-made}
+use Rattle.base_ring.proofs.ExchangeLaws.{aside-rest, rack-on, exchange-swappable, exchange-moves, exchange-most}
+use Rattle.base_ring.proofs.ExchangeLaws.{Swapping, exchange-made}
 use Rattle.base_ring.proofs.exchange.Statement.{statement}
 use Rattle.base_ring.proofs.exchange.Tie as tie
 
@@ -19,6 +25,31 @@ aside c = let known = c .before .before .before in known .before .before
 
 abbrev ready : tie.After-swap → tie.After-bring-next
 ready c = let known = c .before .before .before in known .before .before
+
+-- The first rack is aside: the table, where the second rack is, and that all moves before the swap fit the log.
+module _ (c : tie.After-bring-aside) where
+  abbrev start : tie.Start
+  start = entry c
+
+  abbrev n : ℕ
+  n = start .args .circle .positions
+
+  table : Table n (row (c .bring-aside .result .racks))
+  table = table-went (start .pre .0 .inside) (c .bring-aside .ensures .0 .trip .went) (start .pre .1 .1 .0 .table)
+
+  second : OnRing (start .args .circle) (start .args .b) (row (c .bring-aside .result .racks))
+  second =
+      let p = start .pre in
+      let two = p .1 .1 .1 .0 in
+      rack-on (p .0) (p .1 .0) (p .1 .1 .0) (two .first) (c .bring-aside .ensures .1) table (two .differ) (two .second)
+
+  fits : (d : ℕ) → d ≤ asideMoves n + nextMoves n + 6
+      → Fits (relogged (start .args .state) 0) (start .args .log .now) (start .args .tail .now) d
+  fits d few =
+      let less = start .pre .1 .0 .less in
+      let all = exchange-moves n (omega arith) in
+      let most = exchange-most n (start .pre .0 .small) in
+      fits-anew _ (omega arith) (omega arith) (start .pre .1 .1 .1 .1)
 
 array-read-x : tie.Need-array-read-x
 array-read-x c = search needs
@@ -56,73 +87,54 @@ bring-next-requires : tie.Need-bring-next-requires
 bring-next-requires c κs =
     let known = c .before .before in
     let first = known .before .before in
-    let p = entry first .pre in
-    let n = entry first .args .circle .positions in
-    let rows = p .0 in
-    let circle = p .1 .0 in
-    let two = p .1 .1 .1 .0 in
-    let less = circle .less in
+    let p = start first .pre in
     let m = first .bring-aside .ensures in
-    let table = table-went (rows .inside) (m .0 .trip .went) (p .1 .1 .0 .table) in
-    let all = exchange-moves n (omega arith) in
-    let most = exchange-most n (rows .small) in (
-      rows,
-      (
-        circle,
-        (
-          table,
-          (
-            aside-rest rows circle (p .1 .1 .0) (two .first) (m .1),
-            (
-              rack-on rows circle (p .1 .1 .0) (two .first) (m .1) table (two .differ) (two .second),
-              fits-then (fits-anew (asideMoves n + nextMoves n) (omega arith) (omega arith) (p .1 .1 .1 .1)) (m .0),
-            ),
-          ),
-        ),
-      ),
-    )
+    let rest = aside-rest (p .0) (p .1 .0) (p .1 .1 .0) (p .1 .1 .1 .0 .first) (m .1) in
+    let room = fits-then (fits first (asideMoves (n first) + nextMoves (n first)) (omega arith)) (m .0) in
+    (p .0, (p .1 .0, (table first, (rest, (second first, room)))))
 
 swap-requires : tie.Need-swap-requires
 swap-requires c κs =
     let known = c .before .before in
-    let second = known .before .before in
-    let first = aside second in
-    let p = entry first .pre in
-    let n = entry first .args .circle .positions in
-    let rows = p .0 in
-    let circle = p .1 .0 in
-    let two = p .1 .1 .1 .0 in
-    let less = circle .less in
+    let next = known .before .before in
+    let first = aside next in
+    let p = start first .pre in
     let m = first .bring-aside .ensures in
-    let o = second .bring-next .ensures in
-    let table = table-went (rows .inside) (m .0 .trip .went) (p .1 .1 .0 .table) in
-    let on = rack-on rows circle (p .1 .1 .0) (two .first) (m .1) table (two .differ) (two .second) in
-    let all = exchange-moves n (omega arith) in
-    let most = exchange-most n (rows .small) in (
-      exchange-swappable rows circle (two .first) on (m .1) (o .1),
-      fits-then (fits-anew (asideMoves n + nextMoves n + 6) (omega arith) (omega arith) (p .1 .1 .1 .1)) (journey-append (m .0) (o .0)),
+    let o = next .bring-next .ensures in (
+      exchange-swappable (p .0) (p .1 .0) (p .1 .1 .1 .0 .first) (second first) (m .1) (o .1),
+      fits-then (fits first (asideMoves (n first) + nextMoves (n first) + 6) (omega arith)) (journey-append (m .0) (o .0)),
     )
+
+-- The two racks are swapped: what is left is to take back the moves before.
+module _ (c : tie.After-swap) where
+  abbrev args : tie.Start
+  args = entry (aside (ready c))
+
+  abbrev mutable : List ℕ × List ℕ
+  mutable = let last = c .swap .last .1 .1 .1 in (last .1 .1 .0, last .1 .1 .1 .0)
+
+  made : Swapping (args .args .rows .now) (args .args .circle .positions) (args .args .a) (args .args .b) (args .args .state)
+      (args .args .log .now) (args .args .tail .now) (ready c .bring-next .result) (c .swap .result) (mutable .0) (mutable .1)
+  made =
+      let p = args .pre in
+      let m = aside (ready c) .bring-aside .ensures in
+      let o = ready c .bring-next .ensures in
+      let u = c .swap .ensures in
+      exchange-made (args .args .state) (p .0) (p .1 .0) (p .1 .1 .0) (p .1 .1 .1 .0) (m .0) (m .1) (o .0) (o .1) (u .0) (u .1)
 
 undo-requires : tie.Need-undo-requires
 undo-requires c κs =
     let known = c .before .before in
     let third = known .before .before in
-    let second = ready third in
-    let first = aside second in
-    let p = entry first .pre in
-    let a = entry first .args in
-    let m = first .bring-aside .ensures in
-    let o = second .bring-next .ensures in
-    let u = third .swap .ensures in
-    let made = exchange-made (a .state) (p .0) (p .1 .0) (p .1 .1 .0) (p .1 .1 .1 .0) (m .0) (m .1) (o .0) (o .1) (u .0) (u .1) in
-    let few = made .few in
-    let most = exchange-most (a .circle .positions) (p .0 .small) in
-    let nn = a .circle .positions * a .circle .positions in
-    let room = room-less (2 * nn + 6 + 2 * nn) (omega arith) (p .1 .1 .1 .1) in (
+    let s = args third in
+    let few = made third .few in
+    let most = exchange-most (s .args .circle .positions) (s .pre .0 .small) in
+    let nn = s .args .circle .positions * s .args .circle .positions in
+    let room = room-less (2 * nn + 6 + 2 * nn) (omega arith) (s .pre .1 .1 .1 .1) in (
       record { ordered = omega arith; within = omega arith },
       (
-        (a .rows .now, made .past, _, made .undoing),
-        space-less _ (omega arith) (space-then (record { racks = room .racks; room = room .room }) (made .trip)),
+        (s .args .rows .now, made third .past, _, made third .undoing),
+        space-less _ (omega arith) (space-then (record { racks = room .racks; room = room .room }) (made third .trip)),
       ),
     )
 
@@ -134,17 +146,9 @@ returns c =
     let back = c .before .before in
     let known = back .before .before .before in
     let third = known .before .before in
-    let second = ready third in
-    let first = aside second in
-    let p = entry first .pre in
-    let a = entry first .args in
-    let m = first .bring-aside .ensures in
-    let o = second .bring-next .ensures in
-    let u = third .swap .ensures in
-    let made = exchange-made (a .state) (p .0) (p .1 .0) (p .1 .1 .0) (p .1 .1 .1 .0) (m .0) (m .1) (o .0) (o .1) (u .0) (u .1) in
-    let few = made .few in
-    let undone = back .undo .ensures (a .rows .now) (made .past) _ (made .undoing) in
-    (trip-more _ (omega arith) (trip-append (made .trip) (undone .0)), (undone .1, made .log))
+    let few = made third .few in
+    let undone = back .undo .ensures _ _ _ (made third .undoing) in
+    (trip-more _ (omega arith) (trip-append (made third .trip) (undone .0)), (undone .1, made third .log))
 
 pub exchange-spec : {M : Type 1} → statement M
 exchange-spec =

@@ -1,13 +1,12 @@
 -- `base_ring::open_ring` meets its contract.
 -- Assumes nothing.
-use Prim.Native.Nat.{_+_, _-_}
 use mathlib.Core.Path.{_∙_}
 use native.Mathlib.Omega.{arith}
 use borrow.Author.Needs.{needs}
-use Rattle.shunting.proofs.JourneyLaws.{trip-append, trip-anew, fits-then, fits-less, fits-anew}
+use Rattle.shunting.proofs.JourneyLaws.{trip-append, trip-anew, fits-then, fits-anew}
 use Rattle.shunting.proofs.TableLaws.{table-went}
 use Rattle.base_ring.specs.Moves.{openMoves}
-use Rattle.base_ring.proofs.RingLaws.{ring-below, ring-reaches, ring-reaches-without}
+use Rattle.base_ring.proofs.RingLaws.{circle-small, circle-places, ring-below, ring-reaches, ring-reaches-without}
 use Rattle.base_ring.proofs.SettleLaws.{open-rest, open-first, open-done}
 use Rattle.base_ring.proofs.open_ring.Statement.{statement}
 use Rattle.base_ring.proofs.open_ring.Tie as tie
@@ -35,11 +34,7 @@ cast-next : tie.Need-cast-next
 cast-next c = search needs
 
 part-requires : tie.Need-part-requires
-part-requires c κs =
-    let start = c .before .before .before in
-    let small = start .pre .0 .small in
-    let less = start .pre .1 .0 .less in
-    record { most = omega arith; below = λ i l. let x = start .pre .1 .0 .below i l in omega arith }
+part-requires c κs = let p = c .before .before .before .pre in circle-places (p .0) (p .1 .0)
 
 clear-requires : tie.Need-clear-requires
 clear-requires c κs =
@@ -66,10 +61,8 @@ clear-requires c κs =
 without-requires : tie.Need-without-requires
 without-requires c κs =
     let p = entry (parted (c .before .before)) .pre in
-    let small = p .0 .small in
     let three = p .1 .0 .three in
-    let x = p .1 .0 .below 0 (omega arith) in
-    omega arith
+    circle-small (p .0) (p .1 .0) 0 (omega arith)
 
 clear-requires-2 : tie.Need-clear-requires-2
 clear-requires-2 c κs =

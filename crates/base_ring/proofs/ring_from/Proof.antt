@@ -6,9 +6,11 @@ use mathlib.Core.Path.{_≡_, ap, _∙_}
 use native.Mathlib.Nat.{le-trans, mod-lt}
 use native.Mathlib.Omega.{arith}
 use lib.ListN.{replicate}
+use Rattle.breakdown.specs.Part.{placeOf}
+use Rattle.breakdown.proofs.PlaceLaws.{placeOf-in}
 use Rattle.shunting.specs.Journey.{row}
-use Rattle.base_ring.specs.From.{round, placeOf}
-use Rattle.base_ring.proofs.FromLaws.{placeOf-in, laid-none, laid-next}
+use Rattle.base_ring.specs.From.{round}
+use Rattle.base_ring.proofs.FromLaws.{laid-none, laid-next}
 use Rattle.base_ring.proofs.ring_from.Statement.{statement}
 use Rattle.base_ring.proofs.ring_from.Tie as tie
 
@@ -21,22 +23,22 @@ Inv-loop order size x z circle₀ j₀ circle j = (j ≤ size) × (circle ≡ La
 abbrev μ-loop : tie.MeasureT-loop
 μ-loop order size x z circle₀ j₀ circle j = size - j
 
-place-on-requires : tie.Need-place-on-requires Inv-loop μ-loop
-place-on-requires c κs = c .pre
+place-of-requires : tie.Need-place-of-requires Inv-loop μ-loop
+place-of-requires c κs = c .pre
 
 loop-holds : tie.Need-loop-holds Inv-loop μ-loop
-loop-holds c = let a = c .before .args in (omega arith, laid-none (row (a .order .now)) (a .size) (c .place-on .result))
+loop-holds c = let a = c .before .args in (omega arith, laid-none (row (a .order .now)) (a .size) (c .place-of .result))
 
 -- the place that was found is on the ring
-on-ring : (order : List ℕ) (size x z : ℕ) → z ≡ placeOf (row order) size x → (0 < size) × (size ≤ 64) → z < size
-on-ring order size x z is p = let y = placeOf-in (row order) x size (p .0) in omega arith
+on-ring : (order : List ℕ) (size x z : ℕ) → z ≡ placeOf (row order) 0 size x → (0 < size) × (size ≤ 64) → z < size
+on-ring order size x z is p = let y = placeOf-in (row order) x 0 size (p .0) in omega arith
 
 add-circle : tie.Need-add-circle Inv-loop μ-loop
 add-circle c =
     let s = c .before .before .before in
     let a = s .args in
     let small = s .pre .1 in
-    let z = c .before .before .place-on in
+    let z = c .before .before .place-of in
     let in-ring = on-ring (a .order .now) (a .size) (a .x) (z .result) (z .ensures) (s .pre) in
     omega arith
 
@@ -48,14 +50,14 @@ element-copy-out-circle c = let p = c .before .before .before .pre in le-trans (
 
 array-write-circle : tie.Need-array-write-circle Inv-loop μ-loop
 array-write-circle c =
-    let after-place-on = c .before .before .before in
-    let entry = after-place-on .before in
+    let after-place-of = c .before .before .before in
+    let entry = after-place-of .before in
     let s = entry .pre .1 in let l = c .before .loop-test .taken in omega arith
 
 add-j : tie.Need-add-j Inv-loop μ-loop
 add-j c =
-    let after-place-on = c .before .before .before in
-    let entry = after-place-on .before in
+    let after-place-of = c .before .before .before in
+    let entry = after-place-of .before in
     let s = entry .pre .1 in let l = c .before .loop-test .taken in omega arith
 
 loop-less : tie.Need-loop-less Inv-loop μ-loop
@@ -64,10 +66,10 @@ loop-less c = let l = c .before .loop-test .taken in omega arith
 loop-again : tie.Need-loop-again Inv-loop μ-loop
 loop-again c =
     let at-loop = c .before .before in
-    let after-place-on = at-loop .before in
-    let entry = after-place-on .before in
+    let after-place-of = at-loop .before in
+    let entry = after-place-of .before in
     let small = entry .pre .1 in
-    let z = after-place-on .place-on .result in
+    let z = after-place-of .place-of .result in
     let l = at-loop .loop in
     let less = c .before .loop-test .taken in
     (omega arith, laid-next (row (entry .args .order .now)) (entry .args .size) z (l .j) (l .circle) (omega arith) (l .inv .1))
@@ -77,7 +79,7 @@ returns c =
     let s = c .before .before .before in
     let o = s .args .order .now in
     let size = s .args .size in
-    let z = c .before .before .place-on in
+    let z = c .before .before .place-of in
     let l = c .before .loop in
     let low = l .inv .0 in
     let high = c .loop-test .left in
@@ -90,7 +92,7 @@ ring-from-spec =
     (tie.spec
     Inv-loop
     μ-loop
-    place-on-requires
+    place-of-requires
     loop-holds
     add-circle
     rem-circle

@@ -1,16 +1,22 @@
 -- `handles::carry` meets its contract. The invariant: the record `Carrying`, and the journey so far, which avoids the position
 -- beside the right end.
 -- Assumes nothing.
-use Prim.Native.Nat.{_+_, _-_, _*_}
-use mathlib.Core.Path.{refl, sym, _∙_}
-use mathlib.Core.Logic.{_≢_}
+use Prim.Native.Nat.{ℕ, _+_, _-_, _*_, _≤_}
+use mathlib.Core.Path.{_≡_, refl, sym, _∙_}
+use mathlib.Core.List.{List, []}
+use mathlib.Core.Logic.{_↔_, _≢_}
 use native.Mathlib.Omega.{arith}
-use Rattle.shunting.specs.Journey.{row, JourneyIn}
+use Rattle.sets.specs.Sets.{Has}
+use Rattle.breakdown.specs.Part.{Places}
+use Rattle.shunting.specs.declared.State.{State}
+use Rattle.shunting.specs.Journey.{row, onto, Journey, JourneyIn}
+use Rattle.shunting.specs.Undone.{carried, Undoing}
 use Rattle.shunting.proofs.JourneyLaws.{trip-append, trip-more, trip-anew, journey-append, fits-then, fits-anew, fits-space}
 use Rattle.shunting.proofs.JourneyLaws.{journey-in-none, journey-in-append, journey-in-more, journey-in-less, journey-in-one}
 use Rattle.shunting.proofs.TableLaws.{table-went}
+use Rattle.handles.specs.declared.Lane.{Lane}
 use Rattle.handles.proofs.StageLaws.{handle-places}
-use Rattle.handles.proofs.CarryLaws.{carry-rounds, carry-all, carry-few, free-has, Carrying, among-more, among-floor, off}
+use Rattle.handles.proofs.CarryLaws.{carry-rounds, carry-all, carry-few, Free, free-has, Carrying, among-more, among-floor, off}
 use Rattle.handles.proofs.CarryLaws.{carrying-begin, carry-edge, carry-next, carry-reaches, carry-movable, carrying-step}
 use Rattle.handles.proofs.CarryLaws.{carry-last, carry-away, carry-undoing, carry-entries, carry-space}
 use Rattle.handles.proofs.carry.Statement.{statement}
@@ -24,106 +30,137 @@ Inv-loop rows q log₀ tail₀ order n end right beside upper state₀ i₀ log 
 abbrev μ-loop : tie.MeasureT-loop
 μ-loop rows q log₀ tail₀ order n end right beside upper state₀ i₀ log tail state i = end - i
 
+-- The places behind each call, and the entry.
+abbrev entered : tie.At-loop Inv-loop μ-loop → tie.Start Inv-loop μ-loop
+entered c = let order = c .before .before .before in order .before .before .before
+
+abbrev turn : tie.After-without2 Inv-loop μ-loop → tie.In-loop Inv-loop μ-loop
+turn c = let after = c .before in after .before .before
+
+abbrev held : tie.After-clear Inv-loop μ-loop → tie.After-without2 Inv-loop μ-loop
+held c = c .before .before .before
+
+abbrev cleared : tie.After-make-move Inv-loop μ-loop → tie.After-clear Inv-loop μ-loop
+cleared c = let known = c .before .before .before in known .before .before
+
+abbrev arrived : tie.After-make-move2 Inv-loop μ-loop → tie.After-loop Inv-loop μ-loop
+arrived c = c .before .before .before
+
+-- The rack is at place i, or at the right end: the handle, and how few moves were made.
+module _ (c : tie.At-loop Inv-loop μ-loop) where
+  abbrev start : tie.Start Inv-loop μ-loop
+  start = entered c
+
+  abbrev lane : Lane
+  lane = start .args .lane
+
+  abbrev n : ℕ
+  n = lane .positions
+
+  abbrev rounds : ℕ
+  rounds = c .loop .i - start .args .q
+
+  three : 3 ≤ start .args .q
+  three = let s = start .pre .1 .0 .three in let from = start .pre .1 .1 .1 .0 .from in omega arith
+
+  places : Places (row (lane .order)) (lane .end)
+  places = handle-places (start .pre .1 .0) (start .pre .0 .small)
+
+  few : n * (n - 3) ≤ 3904
+  few = carry-few n (start .pre .0 .small)
+
+  made : n * rounds ≤ n * (n - 3)
+  made =
+      let most = c .loop .inv .0 .most in
+      let within = start .pre .1 .0 .within in
+      carry-all n (c .loop .i) (start .args .q) (omega arith) three
+
+-- The rack is at place i, a turn begins: it is one round more.
+module _ (c : tie.In-loop Inv-loop μ-loop) where
+  abbrev at : tie.At-loop Inv-loop μ-loop
+  at = c .before
+
+  round : n at * rounds at + ((n at - 1) + 1) ≡ n at * (at .loop .i + 1 - start at .args .q)
+  round =
+      let within = start at .pre .1 .0 .within in
+      let more = c .loop-test .taken in
+      carry-rounds (n at) (at .loop .i) (start at .args .q) (at .loop .inv .0 .from) (omega arith)
+
+  next-made : n at * (at .loop .i + 1 - start at .args .q) ≤ n at * (n at - 3)
+  next-made =
+      let within = start at .pre .1 .0 .within in
+      let more = c .loop-test .taken in
+      carry-all (n at) (at .loop .i + 1) (start at .args .q) (omega arith) (three at)
+
+-- What may move while the next position is cleared.
+module _ (c : tie.After-without2 Inv-loop μ-loop) where
+  abbrev here : tie.At-loop Inv-loop μ-loop
+  here = at (turn c)
+
+  has : (p : ℕ) → Has (c .without2 .result) p ↔ Free (row (lane here .order)) (lane here .end) (lane here .beside) (here .loop .i) p
+  has =
+      let without = here .before in
+      free-has _ _ _ (without .before .part .ensures) (without .without .ensures) (c .without2 .ensures)
+
 part-requires : tie.Need-part-requires Inv-loop μ-loop
-part-requires c κs =
-    let entry = c .before .before .before in
-    handle-places (entry .pre .1 .0) (entry .pre .0 .small)
+part-requires c κs = let p = c .before .before .before .pre in handle-places (p .1 .0) (p .0 .small)
 
 without-requires : tie.Need-without-requires Inv-loop μ-loop
 without-requires c κs =
-    let after-order = c .before .before in
-    let entry = after-order .before .before in
-    let small = entry .pre .0 .small in
-    let on = entry .pre .1 .0 in
-    let near = entry .pre .1 .1 .0 in
-    let below = among-floor on near (among-more on near (near .there)) in
+    let order = c .before .before in
+    let p = order .before .before .pre in
+    let small = p .0 .small in
+    let near = p .1 .1 .0 in
+    let below = among-floor (p .1 .0) near (among-more (p .1 .0) near (near .there)) in
     omega arith
 
 loop-holds : tie.Need-loop-holds Inv-loop μ-loop
 loop-holds c =
-    let after-order = c .before .before .before in
-    let entry = after-order .before .before in
-    let a = entry .args in
-    let asked = entry .pre .1 .1 .1 in
+    let order = c .before .before .before in
+    let p = order .before .before .pre in
+    let asked = p .1 .1 .1 in
     let can = asked .1 .0 in (
-      carrying-begin (entry .pre .1 .0) (entry .pre .1 .1 .0) (asked .0 .before) (can .table) (can .vacant .end) (can .vacant .beside),
-      journey-in-more (a .lane .positions * (a .q - a .q)) (omega arith) (journey-in-none _ _ _),
+      carrying-begin (p .1 .0) (p .1 .1 .0) (asked .0 .before) (can .table) (can .vacant .end) (can .vacant .beside),
+      journey-in-more _ (omega arith) (journey-in-none _ _ _),
     )
 
 array-read-here : tie.Need-array-read-here Inv-loop μ-loop
-array-read-here c =
-    let test = c in
-    let after-part = test .before .before .before in
-    let after-order = after-part .before .before in
-    let entry = after-order .before .before in
-    let most = handle-places (entry .pre .1 .0) (entry .pre .0 .small) .most in
-    let more = test .loop-test .taken in
-    omega arith
+array-read-here c = let most = places (at c) .most in let more = c .loop-test .taken in omega arith
 
 cast-here : tie.Need-cast-here Inv-loop μ-loop
-cast-here c =
-    let test = c in
-    let turn = test .before in
-    let after-order2 = turn .before .before .before in
-    let entry = after-order2 .before .before .before in
-    let below = handle-places (entry .pre .1 .0) (entry .pre .0 .small) .below (turn .loop .i) (test .loop-test .taken) in
-    omega arith
+cast-here c = let below = places (at c) .below (at c .loop .i) (c .loop-test .taken) in omega arith
 
 after-requires : tie.Need-after-requires Inv-loop μ-loop
-after-requires c κs =
-    let test = c .before in
-    let after-part = test .before .before .before in
-    let after-order = after-part .before .before in
-    let entry = after-order .before .before in
-    (test .loop-test .taken, handle-places (entry .pre .1 .0) (entry .pre .0 .small) .most)
+after-requires c κs = (c .before .loop-test .taken, places (at (c .before)) .most)
 
 without-requires-2 : tie.Need-without-requires-2 Inv-loop μ-loop
 without-requires-2 c κs =
-    let test = c .before .before in
-    let turn = test .before in
-    let after-order2 = turn .before .before .before in
-    let entry = after-order2 .before .before .before in
-    handle-places (entry .pre .1 .0) (entry .pre .0 .small) .below (turn .loop .i) (test .loop-test .taken)
+    let t = c .before .before in
+    places (at t) .below (at t .loop .i) (t .loop-test .taken)
 
 clear-requires : tie.Need-clear-requires Inv-loop μ-loop
 clear-requires c κs =
-    let after-without2 = c .before .before in
-    let after-after = after-without2 .before in
-    let test = after-after .before .before in
-    let turn = test .before in
-    let after-without = turn .before in
-    let after-part = after-without .before in
-    let after-order = after-part .before .before in
-    let entry = after-order .before .before in
-    let rows = entry .pre .0 in
-    let small = rows .small in
-    let on = entry .pre .1 .0 in
-    let near = entry .pre .1 .1 .0 in
-    let asked = entry .pre .1 .1 .1 in
-    let from = asked .0 .from in
-    let held = asked .1 .0 .held in
-    let n = entry .args .lane .positions in
-    let q = entry .args .q in
-    let l = turn .loop in
-    let state = l .inv .0 in
-    let low = state .from in
-    let more = test .loop-test .taken in
-    let within = on .within in
-    let three = on .three in
-    let up = carry-rounds n (l .i) q low (omega arith) in
-    let all = carry-all n (l .i + 1) q (omega arith) (omega arith) in
-    let few = carry-few n small in
-    let next = after-after .after .ensures in
-    let part = after-part .part .ensures in
-    let has = free-has {i = l .i} _ _ _ part (after-without .without .ensures) (after-without2 .without2 .ensures) in (
-      rows,
+    let free = c .before .before in
+    let t = turn free in
+    let l = at t .loop in
+    let p = start (at t) .pre in
+    let on = p .1 .0 in
+    let near = p .1 .1 .0 in
+    let asked = p .1 .1 .1 in
+    let more = t .loop-test .taken in
+    let next = free .before .after .ensures in
+    let up = round t in
+    let all = next-made t in
+    let most = few (at t) in (
+      p .0,
       (
-        among-floor on near (carry-next on near from more held state next .there),
+        among-floor on near (carry-next on near (asked .0 .from) more (asked .1 .0 .held) (l .inv .0) next .there),
         (
-          λ p x. among-floor on near (has p .0 x .there),
+          λ q x. among-floor on near (has free q .0 x .there),
           (
-            carry-reaches on near from more held state next (rows .symmetric) (λ p x. has p .1 x),
-            fits-then (fits-anew (n * (l .i - q) + (n - 1)) (omega arith) (omega arith) (asked .1 .1)) (l .inv .1 .journey),
+            carry-reaches on near (asked .0 .from) more (asked .1 .0 .held) (l .inv .0) next (p .0 .symmetric) (λ q x. has free q .1 x),
+            fits-then (fits-anew (n (at t) * rounds (at t) + (n (at t) - 1)) (omega arith) (omega arith) (asked .1 .1))
+                (l .inv .1 .journey),
           ),
         ),
       ),
@@ -131,206 +168,136 @@ clear-requires c κs =
 
 make-move-requires : tie.Need-make-move-requires Inv-loop μ-loop
 make-move-requires c κs =
-    let step3 = c .before .before .before in
-    let after-clear = step3 .before in
-    let after-without2 = after-clear .before .before .before in
-    let after-after = after-without2 .before in
-    let test = after-after .before .before in
-    let turn = test .before in
-    let after-without = turn .before in
-    let after-part = after-without .before in
-    let after-order = after-part .before .before in
-    let entry = after-order .before .before in
-    let small = entry .pre .0 .small in
-    let on = entry .pre .1 .0 in
-    let near = entry .pre .1 .1 .0 in
-    let asked = entry .pre .1 .1 .1 in
-    let from = asked .0 .from in
-    let held = asked .1 .0 .held in
-    let n = entry .args .lane .positions in
-    let q = entry .args .q in
-    let l = turn .loop in
-    let state = l .inv .0 in
-    let low = state .from in
-    let more = test .loop-test .taken in
-    let within = on .within in
-    let three = on .three in
-    let up = carry-rounds n (l .i) q low (omega arith) in
-    let all = carry-all n (l .i + 1) q (omega arith) (omega arith) in
-    let few = carry-few n small in
-    let part = after-part .part .ensures in
-    let has = free-has {i = l .i} _ _ _ part (after-without .without .ensures) (after-without2 .without2 .ensures) in
-    let cl = after-clear .clear .ensures in (
-      carry-movable on near from more held state (after-after .after .ensures) (λ p x. has p .0 x) (cl .1) small,
-      fits-then (fits-anew (n * (l .i - q) + (n - 1) + 1) (omega arith) (omega arith) (asked .1 .1))
+    let known = c .before .before in
+    let clear = known .before .before in
+    let free = held clear in
+    let t = turn free in
+    let l = at t .loop in
+    let p = start (at t) .pre in
+    let asked = p .1 .1 .1 in
+    let cl = clear .clear .ensures in
+    let up = round t in
+    let all = next-made t in
+    let most = few (at t) in (
+      carry-movable (p .1 .0) (p .1 .1 .0) (asked .0 .from) (t .loop-test .taken) (asked .1 .0 .held) (l .inv .0)
+          (free .before .after .ensures) (λ q x. has free q .0 x) (cl .1) (p .0 .small),
+      fits-then (fits-anew (n (at t) * rounds (at t) + (n (at t) - 1) + 1) (omega arith) (omega arith) (asked .1 .1))
           (journey-append (l .inv .1 .journey) (cl .0 .journey)),
     )
 
 add-i : tie.Need-add-i Inv-loop μ-loop
 add-i c =
-    let after-make-move = c .before .before in
-    let step5 = after-make-move .before .before .before in
-    let after-clear = step5 .before .before in
-    let after-without2 = after-clear .before .before .before in
-    let test = after-without2 .before .before .before in
-    let after-part = test .before .before .before in
-    let after-order = after-part .before .before in
-    let entry = after-order .before .before in
-    let more = test .loop-test .taken in
-    let most = handle-places (entry .pre .1 .0) (entry .pre .0 .small) .most in
+    let t = turn (held (cleared (c .before .before))) in
+    let more = t .loop-test .taken in
+    let most = places (at t) .most in
     omega arith
 
 loop-less : tie.Need-loop-less Inv-loop μ-loop
-loop-less c =
-    let after-make-move = c .before .before in
-    let step5 = after-make-move .before .before .before in
-    let after-clear = step5 .before .before in
-    let after-without2 = after-clear .before .before .before in
-    let test = after-without2 .before .before .before in
-    let more = test .loop-test .taken in
-    omega arith
+loop-less c = let more = turn (held (cleared (c .before .before))) .loop-test .taken in omega arith
 
 loop-again : tie.Need-loop-again Inv-loop μ-loop
 loop-again c =
-    let after-make-move = c .before .before in
-    let step5 = after-make-move .before .before .before in
-    let after-clear = step5 .before .before in
-    let after-without2 = after-clear .before .before .before in
-    let after-after = after-without2 .before in
-    let test = after-after .before .before in
-    let turn = test .before in
-    let after-without = turn .before in
-    let after-part = after-without .before in
-    let after-order = after-part .before .before in
-    let entry = after-order .before .before in
-    let rows = entry .pre .0 in
-    let small = rows .small in
-    let on = entry .pre .1 .0 in
-    let near = entry .pre .1 .1 .0 in
-    let asked = entry .pre .1 .1 .1 in
-    let from = asked .0 .from in
-    let held = asked .1 .0 .held in
-    let n = entry .args .lane .positions in
-    let q = entry .args .q in
-    let y = entry .args .lane .beside in
-    let l = turn .loop in
-    let state = l .inv .0 in
-    let low = state .from in
-    let more = test .loop-test .taken in
-    let within = on .within in
-    let up = carry-rounds n (l .i) q low (omega arith) in
-    let next = after-after .after .ensures in
-    let part = after-part .part .ensures in
-    let has = free-has {i = l .i} _ _ _ part (after-without .without .ensures) (after-without2 .without2 .ensures) in
-    let cl = after-clear .clear .ensures in
-    let m = after-make-move .make-move .ensures in
-    let can = carry-movable on near from more held state next (λ p x. has p .0 x) (cl .1) small in
-    let go = m .0 _ (carry-edge on near from more held state next) in
-    let clear = journey-in-less {Q = λ p. y ≢ p} (λ p x z. has p .0 x .other (sym z)) (cl .0) in
+    let move = c .before .before in
+    let clear = cleared move in
+    let free = held clear in
+    let t = turn free in
+    let l = at t .loop in
+    let p = start (at t) .pre in
+    let rows = p .0 in
+    let on = p .1 .0 in
+    let near = p .1 .1 .0 in
+    let from = p .1 .1 .1 .0 .from in
+    let rack = p .1 .1 .1 .1 .0 .held in
+    let low = l .inv .0 .from in
+    let more = t .loop-test .taken in
+    let next = free .before .after .ensures in
+    let cl = clear .clear .ensures in
+    let m = move .make-move .ensures in
+    let can = carry-movable on near from more rack (l .inv .0) next (λ q x. has free q .0 x) (cl .1) (rows .small) in
+    let go = m .0 _ (carry-edge on near from more rack (l .inv .0) next) in
+    let way = journey-in-less {Q = λ q. lane (at t) .beside ≢ q} (λ q x z. has free q .0 x .other (sym z)) (cl .0) in
     let leaves = off on near (near .there) (l .i) (omega arith) more in
-    let free = carry-next on near from more held state next in
-    let move = journey-in-one {P = λ p. y ≢ p} _ _ can (m .1) leaves (λ z. free .other (sym z)) go in
-    let table = table-went (rows .inside) (go .trip .went) (table-went (rows .inside) (cl .0 .journey .trip .went) (state .table)) in (
-      carrying-step on near from more held state next (λ p x. has p .0 x) (cl .1) table (m .1),
-      journey-in-more (n * (l .i + 1 - q)) (omega arith) (journey-in-append (l .inv .1) (journey-in-append clear move)),
+    let enters = carry-next on near from more rack (l .inv .0) next .other in
+    let one = journey-in-one {P = λ q. lane (at t) .beside ≢ q} _ _ can (m .1) leaves (λ z. enters (sym z)) go in
+    let table = table-went (rows .inside) (go .trip .went) (table-went (rows .inside) (cl .0 .journey .trip .went) (l .inv .0 .table)) in
+    let up = round t in (
+      carrying-step on near from more rack (l .inv .0) next (λ q x. has free q .0 x) (cl .1) table (m .1),
+      journey-in-more _ (omega arith) (journey-in-append (l .inv .1) (journey-in-append way one)),
     )
 
 make-move-requires-2 : tie.Need-make-move-requires-2 Inv-loop μ-loop
 make-move-requires-2 c κs =
-    let test = c .before .before in
-    let turn = test .before in
-    let after-order2 = turn .before .before .before in
-    let entry = after-order2 .before .before .before in
-    let small = entry .pre .0 .small in
-    let on = entry .pre .1 .0 in
-    let asked = entry .pre .1 .1 .1 in
-    let from = asked .0 .from in
-    let n = entry .args .lane .positions in
-    let q = entry .args .q in
-    let l = turn .loop in
-    let most = l .inv .0 .most in
-    let within = on .within in
-    let three = on .three in
-    let all = carry-all n (l .i) q (omega arith) (omega arith) in
-    let few = carry-few n small in (
-      carry-last on (entry .pre .1 .1 .0) (asked .1 .0 .held) (test .loop-test .left) (l .inv .0) small,
-      fits-then (fits-anew (n * (l .i - q) + 1) (omega arith) (omega arith) (asked .1 .1)) (l .inv .1 .journey),
+    let done = c .before .before in
+    let turns = done .before in
+    let l = turns .loop in
+    let p = start turns .pre in
+    let asked = p .1 .1 .1 in
+    let all = made turns in
+    let most = few turns in (
+      carry-last (p .1 .0) (p .1 .1 .0) (asked .1 .0 .held) (done .loop-test .left) (l .inv .0) (p .0 .small),
+      fits-then (fits-anew (n turns * rounds turns + 1) (omega arith) (omega arith) (asked .1 .1)) (l .inv .1 .journey),
     )
+
+-- The rack is moved beside the right end: what is left is to take back the rest.
+module _ (c : tie.After-make-move2 Inv-loop μ-loop) where
+  abbrev end : tie.At-loop Inv-loop μ-loop
+  end = arrived c .before
+
+  abbrev log : List ℕ
+  log = let mutable = c .make-move2 .last .1 .1 .1 in mutable .0
+
+  abbrev tail : List ℕ
+  tail = let mutable = c .make-move2 .last .1 .1 .1 in mutable .1 .0
+
+  abbrev before : State
+  before = end .loop .state
+
+  abbrev home : ℕ → ℕ
+  home = let h = row (start end .args .state .racks) in carried (h (row (lane end .order) (start end .args .q))) (lane end .beside) h
+
+  go : Journey (start end .args .rows .now) 1 before (end .loop .log) (end .loop .tail) (c .make-move2 .result) log tail
+  go = c .make-move2 .ensures .0 _ (start end .pre .1 .1 .0 .edge)
+
+  undoing : Undoing (start end .args .rows .now) (c .make-move2 .result .racks) log 0 (before .logged)
+      (onto (end .loop .inv .1 .journey .trip .moves) []) home
+  undoing =
+      let p = start end .pre in
+      let rack = p .1 .1 .1 .1 .0 .held in
+      let away = carry-away (p .1 .0) (p .1 .1 .0) rack (arrived c .loop-test .left) (end .loop .inv .0) (c .make-move2 .ensures .1) in
+      carry-undoing refl _ _ (p .0 .symmetric) (end .loop .inv .1) go away
 
 undo-requires : tie.Need-undo-requires Inv-loop μ-loop
 undo-requires c κs =
-    let after-tail3 = c .before .before .before in
-    let after-make-move2 = after-tail3 .before in
-    let test = after-make-move2 .before .before .before in
-    let turn = test .before in
-    let after-order2 = turn .before .before .before in
-    let entry = after-order2 .before .before .before in
-    let rows = entry .pre .0 in
-    let small = rows .small in
-    let on = entry .pre .1 .0 in
-    let near = entry .pre .1 .1 .0 in
-    let asked = entry .pre .1 .1 .1 in
-    let from = asked .0 .from in
-    let n = entry .args .lane .positions in
-    let q = entry .args .q in
-    let l = turn .loop in
-    let most = l .inv .0 .most in
-    let within = on .within in
-    let three = on .three in
-    let all = carry-all n (l .i) q (omega arith) (omega arith) in
-    let few = carry-few n small in
-    let m = after-make-move2 .make-move2 .ensures in
-    let go = m .0 _ (near .edge) in
-    let away = carry-away on near (asked .1 .0 .held) (test .loop-test .left) (l .inv .0) (m .1) in
-    let space = fits-space (fits-anew (2 * (n * (n - 3)) + 1) (omega arith) (omega arith) (asked .1 .1)) in (
-      carry-entries refl (omega arith) (l .inv .1 .journey),
-      (
-        (_, _, _, carry-undoing refl _ _ (rows .symmetric) (l .inv .1) go away),
-        carry-space refl space (omega arith) (l .inv .1 .journey) go,
-      ),
-    )
+    let known = c .before .before in
+    let move = known .before .before in
+    let turns = end move in
+    let journey = turns .loop .inv .1 .journey in
+    let all = made turns in
+    let most = few turns in
+    let room = start turns .pre .1 .1 .1 .1 .1 in
+    let space = fits-space (fits-anew (2 * (n turns * (n turns - 3)) + 1) (omega arith) (omega arith) room) in
+    (carry-entries refl (omega arith) journey, ((_, _, _, undoing move), carry-space refl space (omega arith) journey (go move)))
 
 same-length : tie.Need-same-length Inv-loop μ-loop
 same-length c =
-    let after-undo = c .before .before in
-    let step5 = after-undo .before .before .before in
-    let after-make-move2 = step5 .before .before in
-    let test = after-make-move2 .before .before .before in
-    let turn = test .before in
-    after-undo .undo .kept .1 .1 .1 .1 .0
-    ∙ after-make-move2 .make-move2 .kept .1 .1 .1 .1 .0
-    ∙ turn .loop .inv .1 .journey .trip .tail
+    let undo = c .before .before in
+    let known = undo .before .before .before in
+    let move = known .before .before in
+    undo .undo .kept .1 .1 .1 .1 .0 ∙ move .make-move2 .kept .1 .1 .1 .1 .0 ∙ end move .loop .inv .1 .journey .trip .tail
 
 returns : tie.Need-returns Inv-loop μ-loop
 returns c =
-    let after-undo = c .before .before in
-    let step5 = after-undo .before .before .before in
-    let after-make-move2 = step5 .before .before in
-    let test = after-make-move2 .before .before .before in
-    let turn = test .before in
-    let after-order2 = turn .before .before .before in
-    let entry = after-order2 .before .before .before in
-    let rows = entry .pre .0 in
-    let on = entry .pre .1 .0 in
-    let near = entry .pre .1 .1 .0 in
-    let asked = entry .pre .1 .1 .1 in
-    let from = asked .0 .from in
-    let n = entry .args .lane .positions in
-    let q = entry .args .q in
-    let l = turn .loop in
-    let most = l .inv .0 .most in
-    let within = on .within in
-    let three = on .three in
-    let all = carry-all n (l .i) q (omega arith) (omega arith) in
-    let journey = l .inv .1 .journey in
+    let undo = c .before .before in
+    let known = undo .before .before .before in
+    let move = known .before .before in
+    let turns = end move in
+    let journey = turns .loop .inv .1 .journey in
+    let all = made turns in
     let some = journey .trip .few in
     let logged = journey .logged in
-    let m = after-make-move2 .make-move2 .ensures in
-    let go = m .0 _ (near .edge) in
-    let away = carry-away on near (asked .1 .0 .held) (test .loop-test .left) (l .inv .0) (m .1) in
-    let back = after-undo .undo .ensures _ _ _ (carry-undoing refl _ _ (rows .symmetric) (l .inv .1) go away) in (
-      trip-anew (trip-more (2 * (n * (n - 3)) + 1) (omega arith) (trip-append (journey .trip) (trip-append (go .trip) (back .0)))),
-      (back .1, go .log ∙ journey .log),
+    let back = undo .undo .ensures _ _ _ (undoing move) in (
+      trip-anew (trip-more _ (omega arith) (trip-append (journey .trip) (trip-append (go move .trip) (back .0)))),
+      (back .1, go move .log ∙ journey .log),
     )
 
 pub carry-spec : {M : Type 1} → statement M

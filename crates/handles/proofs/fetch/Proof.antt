@@ -1,11 +1,16 @@
 -- `handles::fetch` meets its contract.
 -- Assumes nothing.
-use Prim.Native.Nat.{_+_, _-_, _*_}
-use mathlib.Core.Path.{refl, _∙_}
+use Prim.Native.Nat.{ℕ, _+_, _-_, _*_, _≤_}
+use mathlib.Core.Path.{_≡_, refl, _∙_}
 use native.Mathlib.Omega.{arith}
-use borrow.Author.Needs.{needs}
+use Rattle.breakdown.specs.Breakdown.{Between}
+use Rattle.breakdown.proofs.PlaceLaws.{place-at}
+use Rattle.shunting.specs.Journey.{row}
+use Rattle.shunting.specs.Cleared.{Vacancy}
 use Rattle.shunting.proofs.JourneyLaws.{trip-none, trip-more, trip-append, room-less, room-then}
 use Rattle.shunting.proofs.TableLaws.{table-went}
+use Rattle.handles.specs.declared.Lane.{Lane}
+use Rattle.handles.specs.Lane.{LaneStage, LanePlacing, LaneCarriable, nextRack}
 use Rattle.handles.proofs.StageLaws.{handle-places}
 use Rattle.handles.proofs.CycleLaws.{lane-floor, lane-places}
 use Rattle.handles.proofs.PlaceLaws.{rack-there}
@@ -13,237 +18,190 @@ use Rattle.handles.proofs.FetchLaws.{fails, fetch-bound, lane-four, fet
 use Rattle.handles.proofs.fetch.Statement.{statement}
 use Rattle.handles.proofs.fetch.Tie as tie
 
+-- The places behind each call, and the entry.
+abbrev start : tie.After-next-rack → tie.Start
+start c = c .before .before .before
+
+abbrev named : tie.After-part → tie.After-next-rack
+named c = c .before .before
+
+abbrev parted : tie.After-where-is → tie.After-part
+parted c = c .before .before .before
+
+abbrev sought : tie.After-open-end → tie.After-where-is
+sought c = let away = c .before .before .before in away .before .before
+
+abbrev opened : tie.After-where-is2 → tie.After-open-end
+opened c = let racks = c .before .before in racks .before .before .before
+
+abbrev found : tie.After-place-of → tie.After-where-is2
+found c = let away = c .before .before in away .before .before
+
+-- The end is open, and the rack looked for again: racks stay stacked, it is the one that comes next, and the bound has room for the rest.
+module _ (c : tie.After-where-is2) where
+  abbrev part : tie.After-part
+  part = parted (sought (opened c))
+
+  abbrev entry : tie.Start
+  entry = start (named part)
+
+  abbrev n : ℕ
+  n = entry .args .lane .positions
+
+  abbrev lane : Lane
+  lane = entry .args .lane
+
+  abbrev goal : ℕ → ℕ
+  goal = row (entry .args .goal .now)
+
+  abbrev racks : ℕ → ℕ
+  racks = row (opened c .open-end .result .racks)
+
+  placing : LanePlacing lane goal (entry .args .k) racks
+  placing = opened c .open-end .ensures .1 .0 _ (entry .pre .1 .1 .1 .0)
+
+  is : racks (c .where-is2 .result) ≡ nextRack lane goal (entry .args .k)
+  is = c .where-is2 .ensures .there ∙ named part .next-rack .ensures
+
+  bound : 2 * (n - 1) + (2 * (n * (n - 3)) + 1) ≤ 2 * (n * n)
+  bound = fetch-bound n (lane-four (entry .pre .0) (entry .pre .1 .0))
+
 next-rack-requires : tie.Need-next-rack-requires
 next-rack-requires c κs =
-    let entry = c .before .before in
-    (handle-places (entry .pre .1 .0) (entry .pre .0 .small), entry .pre .1 .1 .1 .1 .0)
+    let p = c .before .before .pre in
+    (handle-places (p .1 .0) (p .0 .small), p .1 .1 .1 .1 .0)
 
 part-requires : tie.Need-part-requires
-part-requires c κs =
-    let after-order = c .before .before in
-    let entry = after-order .before .before in
-    lane-places (entry .pre .0) (entry .pre .1 .0)
+part-requires c κs = let p = start (c .before) .pre in lane-places (p .0) (p .1 .0)
 
 where-is-requires : tie.Need-where-is-requires
 where-is-requires c κs =
-    let after-order2 = c .before .before .before in
-    let after-next-rack = after-order2 .before in
-    let entry = after-next-rack .before .before .before in
-    let rows = entry .pre .0 in
-    let asked = entry .pre .1 .1 .1 in
-    (rows .small, rack-there rows (entry .pre .1 .0) (asked .0) (asked .1 .0) (after-next-rack .next-rack .ensures))
+    let name = named (c .before .before) in
+    let p = start name .pre in
+    (p .0 .small, rack-there (p .0) (p .1 .0) (p .1 .1 .1 .0) (p .1 .1 .1 .1 .0) (name .next-rack .ensures))
 
 has-requires : tie.Need-has-requires
 has-requires c κs =
-    let after-part = c .before .before .before in
-    let after-order = after-part .before .before .before in
-    let entry = after-order .before .before in
-    lane-floor (entry .pre .0) (entry .pre .1 .0) (c .where-is .result) (c .where-is .ensures .inside)
+    let p = start (named (parted c)) .pre in
+    lane-floor (p .0) (p .1 .0) (c .where-is .result) (c .where-is .ensures .inside)
 
 returns : tie.Need-returns
 returns c =
-    let after-has = c .before in
-    let after-where-is = after-has .before in
-    let after-part = after-where-is .before .before .before in
-    let after-next-rack = after-part .before .before in
-    let entry = after-next-rack .before .before .before in
-    let n = entry .args .lane .positions in
-    let asked = entry .pre .1 .1 .1 in
-    let from = after-where-is .where-is in
-    let is = from .ensures .there ∙ after-next-rack .next-rack .ensures in
-    let there = after-has .has .ensures .0 (c .if1 .taken) in
-    let part = after-part .part .ensures in (
-      trip-more (2 * (n * n)) (omega arith) (trip-none _ _),
-      (
-        fetch-already (entry .pre .0) (entry .pre .1 .0) _ part (asked .0) (asked .1 .0) (from .result) is there (asked .1 .1 .0),
-        refl,
-      ),
+    let first = c .before .before in
+    let name = named (parted first) in
+    let p = start name .pre in
+    let asked = p .1 .1 .1 in
+    let from = first .where-is in
+    let is = from .ensures .there ∙ name .next-rack .ensures in
+    let there = c .before .has .ensures .0 (c .if1 .taken) in
+    let stage = parted first .part .ensures in (
+      trip-more _ (omega arith) (trip-none _ _),
+      (fetch-already (p .0) (p .1 .0) _ stage (asked .0) (asked .1 .0) (from .result) is there (asked .1 .1 .0), refl),
     )
 
 open-end-requires : tie.Need-open-end-requires
 open-end-requires c κs =
-    let after-has = c .before .before .before in
-    let after-racks = after-has .before .before .before in
-    let after-next-rack = after-racks .before .before .before in
-    let entry = after-next-rack .before .before .before in
-    let rows = entry .pre .0 in
-    let on = entry .pre .1 .0 in
-    let asked = entry .pre .1 .1 .1 in
+    let away = c .before .before in
+    let entry = start (named (parted (away .before .before))) in
+    let p = entry .pre in
+    let asked = p .1 .1 .1 in
     let n = entry .args .lane .positions in
-    let bound = fetch-bound n (lane-four rows on) in
-    (rows, (on, (entry .pre .1 .1 .0, ((_, asked .0), room-less (2 * (n - 1)) (omega arith) (asked .1 .1 .1)))))
+    let bound = fetch-bound n (lane-four (p .0) (p .1 .0)) in
+    (p .0, (p .1 .0, (p .1 .1 .0, ((_, asked .0), room-less (2 * (n - 1)) (omega arith) (asked .1 .1 .1)))))
 
 where-is-requires-2 : tie.Need-where-is-requires-2
 where-is-requires-2 c κs =
-    let after-moved = c .before in
-    let after-open-end = after-moved .before .before .before in
-    let after-if1 = after-open-end .before .before .before in
-    let after-racks2 = after-if1 .before .before .before in
-    let after-order2 = after-racks2 .before .before .before in
-    let after-next-rack = after-order2 .before in
-    let entry = after-next-rack .before .before .before in
-    let rows = entry .pre .0 in
-    let asked = entry .pre .1 .1 .1 in
-    let placing = after-open-end .open-end .ensures .1 .0 _ (asked .0) in
-    (rows .small, rack-there rows (entry .pre .1 .0) placing (asked .1 .0) (after-next-rack .next-rack .ensures))
+    let known = c .before .before in
+    let end = known .before .before in
+    let name = named (parted (sought end)) in
+    let p = start name .pre in
+    let asked = p .1 .1 .1 in
+    (p .0 .small, rack-there (p .0) (p .1 .0) (end .open-end .ensures .1 .0 _ (asked .0)) (asked .1 .0) (name .next-rack .ensures))
 
 has-requires-2 : tie.Need-has-requires-2
 has-requires-2 c κs =
-    let after-moved = c .before .before in
-    let after-open-end = after-moved .before .before .before in
-    let after-if1 = after-open-end .before .before .before in
-    let after-racks2 = after-if1 .before .before .before in
-    let after-order2 = after-racks2 .before .before .before in
-    let after-order = after-order2 .before .before in
-    let entry = after-order .before .before in
-    lane-floor (entry .pre .0) (entry .pre .1 .0) (c .where-is2 .result) (c .where-is2 .ensures .inside)
+    let p = entry c .pre in
+    lane-floor (p .0) (p .1 .0) (c .where-is2 .result) (c .where-is2 .ensures .inside)
 
 same-length : tie.Need-same-length
-same-length c =
-    let after-moved2 = c .before .before .before in
-    let after-moved = after-moved2 .before in
-    let after-open-end = after-moved .before .before .before in
-    after-open-end .open-end .ensures .0 .tail
+same-length c = opened (c .before .before) .open-end .ensures .0 .tail
 
 returns-2 : tie.Need-returns-2
 returns-2 c =
-    let after-has2 = c .before in
-    let after-where-is2 = after-has2 .before in
-    let after-moved = after-where-is2 .before .before in
-    let after-open-end = after-moved .before .before .before in
-    let after-if1 = after-open-end .before .before .before in
-    let after-racks2 = after-if1 .before .before .before in
-    let after-part = after-racks2 .before .before in
-    let after-next-rack = after-part .before .before in
-    let entry = after-next-rack .before .before .before in
-    let rows = entry .pre .0 in
-    let on = entry .pre .1 .0 in
-    let asked = entry .pre .1 .1 .1 in
-    let n = entry .args .lane .positions in
-    let bound = fetch-bound n (lane-four rows on) in
-    let opened = after-open-end .open-end .ensures in
-    let placing = opened .1 .0 _ (asked .0) in
-    let from = after-where-is2 .where-is2 in
-    let is = from .ensures .there ∙ after-next-rack .next-rack .ensures in
-    let there = after-has2 .has2 .ensures .0 (c .if2 .taken) in
-    let part = after-part .part .ensures in (
-      trip-more (2 * (n * n)) (omega arith) (opened .0),
+    let at = c .before .before in
+    let p = entry at .pre in
+    let on = p .1 .0 in
+    let o = opened at .open-end .ensures in
+    let there = c .before .has2 .ensures .0 (c .if2 .taken) in
+    let vacancy : Vacancy (LaneStage (lane at)) (racks at) = record {
+      at = lane at .right;
+      there = on .handle .right;
+      vacant = o .1 .1 .0 .end;
+    } in
+    let more = bound at in (
+      trip-more _ (omega arith) (o .0),
       (
-        fetch-already rows on _ part placing (asked .1 .0) (from .result) is there
-            (record { at = entry .args .lane .right; there = on .handle .right; vacant = opened .1 .1 .0 .end }),
-        opened .1 .1 .1,
+        fetch-already (p .0) on _ (part at .part .ensures) (placing at) (p .1 .1 .1 .1 .0) (at .where-is2 .result) (is at) there vacancy,
+        o .1 .1 .1,
       ),
     )
+
+-- The rack stands inside the handle.
+module _ (c : tie.After-order3) where
+  abbrev again : tie.After-where-is2
+  again = let other = c .before in other .before .before
+
+  inside : Between (row (lane again .order)) (lane again .start) (lane again .end) (again .where-is2 .result)
+  inside =
+      let p = entry again .pre in
+      let from = again .where-is2 in
+      let away = fails (c .before .before .has2 .ensures) (c .before .if2 .left) in
+      fetch-place (p .0) (p .1 .0) _ (part again .part .ensures) (placing again) (p .1 .1 .1 .1 .0) (from .result) (from .ensures .inside)
+      (is again) away
 
 place-of-requires : tie.Need-place-of-requires
 place-of-requires c κs =
-    let after-if2 = c .before in
-    let after-has2 = after-if2 .before in
-    let after-where-is2 = after-has2 .before in
-    let after-moved = after-where-is2 .before .before in
-    let after-open-end = after-moved .before .before .before in
-    let after-if1 = after-open-end .before .before .before in
-    let after-racks2 = after-if1 .before .before .before in
-    let after-part = after-racks2 .before .before in
-    let after-next-rack = after-part .before .before in
-    let entry = after-next-rack .before .before .before in
-    let rows = entry .pre .0 in
-    let on = entry .pre .1 .0 in
-    let asked = entry .pre .1 .1 .1 in
-    let placing = after-open-end .open-end .ensures .1 .0 _ (asked .0) in
-    let from = after-where-is2 .where-is2 in
-    let is = from .ensures .there ∙ after-next-rack .next-rack .ensures in
-    let away = fails (after-has2 .has2 .ensures) (after-if2 .if2 .left) in (
-      handle-places on (rows .small) .most,
-      fetch-place rows on _ (after-part .part .ensures) placing (asked .1 .0) (from .result) (from .ensures .inside) is away,
-    )
+    let p = entry (again c) .pre in
+    (p .1 .0 .handle .inner, handle-places (p .1 .0) (p .0 .small) .most)
 
 carry-requires : tie.Need-carry-requires
 carry-requires c κs =
-    let after-place-of = c .before .before in
-    let after-has2 = after-place-of .before .before .before in
-    let after-where-is2 = after-has2 .before in
-    let after-moved = after-where-is2 .before .before in
-    let after-open-end = after-moved .before .before .before in
-    let after-if1 = after-open-end .before .before .before in
-    let after-racks2 = after-if1 .before .before .before in
-    let after-part = after-racks2 .before .before in
-    let after-next-rack = after-part .before .before in
-    let entry = after-next-rack .before .before .before in
-    let rows = entry .pre .0 in
-    let on = entry .pre .1 .0 in
-    let asked = entry .pre .1 .1 .1 in
-    let more = asked .1 .0 in
-    let n = entry .args .lane .positions in
-    let bound = fetch-bound n (lane-four rows on) in
-    let opened = after-open-end .open-end .ensures in
-    let placing = opened .1 .0 _ (asked .0) in
-    let from = after-where-is2 .where-is2 in
-    let is = from .ensures .there ∙ after-next-rack .next-rack .ensures in
-    let q = after-place-of .place-of .ensures in
-    let part = after-part .part .ensures in (
-      rows,
-      (
-        on,
-        (
-          entry .pre .1 .1 .0,
-          (
-            record { from = q .from; before = q .before },
-            (
-              record {
-                table = placing .table;
-                vacant = opened .1 .1 .0;
-                held = fetch-held rows on _ part placing more (from .result) _ is (q .is);
-              },
-              room-then (room-less (2 * (n - 1) + (2 * (n * (n - 3)) + 1)) (omega arith) (asked .1 .1 .1)) (opened .1 .1 .1) (opened .0),
-            ),
-          ),
-        ),
-      ),
-    )
+    let place = c .before .before in
+    let at = found place in
+    let p = entry at .pre in
+    let asked = p .1 .1 .1 in
+    let o = opened at .open-end .ensures in
+    let q = place-at (place .place-of .ensures) (inside (place .before)) in
+    let can : LaneCarriable (lane at) (place .place-of .result) (racks at) = record {
+      table = placing at .table;
+      vacant = o .1 .1 .0;
+      held = fetch-held (p .0) (p .1 .0) _ (part at .part .ensures) (placing at) (asked .1 .0) (at .where-is2 .result) _ (is at) (q .is);
+    } in
+    let room = room-then (room-less _ (bound at) (asked .1 .1 .1)) (o .1 .1 .1) (o .0) in
+    (p .0, (p .1 .0, (p .1 .1 .0, (record { from = q .from; before = q .before }, (can, room)))))
 
 same-length-2 : tie.Need-same-length-2
 same-length-2 c =
-    let after-carry = c .before .before in
-    let after-place-of = after-carry .before .before .before in
-    let after-has2 = after-place-of .before .before .before in
-    let after-moved = after-has2 .before .before .before in
-    let after-open-end = after-moved .before .before .before in
-    after-carry .carry .ensures .0 .tail ∙ after-open-end .open-end .ensures .0 .tail
+    let carry = c .before .before in
+    let at = found (carry .before .before .before) in
+    carry .carry .ensures .0 .tail ∙ opened at .open-end .ensures .0 .tail
 
 returns-3 : tie.Need-returns-3
 returns-3 c =
-    let after-carry = c .before .before in
-    let after-place-of = after-carry .before .before .before in
-    let after-has2 = after-place-of .before .before .before in
-    let after-where-is2 = after-has2 .before in
-    let after-moved = after-where-is2 .before .before in
-    let after-open-end = after-moved .before .before .before in
-    let after-if1 = after-open-end .before .before .before in
-    let after-racks2 = after-if1 .before .before .before in
-    let after-part = after-racks2 .before .before in
-    let after-next-rack = after-part .before .before in
-    let entry = after-next-rack .before .before .before in
-    let rows = entry .pre .0 in
-    let on = entry .pre .1 .0 in
-    let near = entry .pre .1 .1 .0 in
-    let asked = entry .pre .1 .1 .1 in
-    let more = asked .1 .0 in
-    let n = entry .args .lane .positions in
-    let bound = fetch-bound n (lane-four rows on) in
-    let opened = after-open-end .open-end .ensures in
-    let placing = opened .1 .0 _ (asked .0) in
-    let from = after-where-is2 .where-is2 in
-    let is = from .ensures .there ∙ after-next-rack .next-rack .ensures in
-    let q = after-place-of .place-of in
-    let part = after-part .part .ensures in
-    let carried = after-carry .carry .ensures in
-    let table = table-went (rows .inside) (carried .0 .went) (placing .table) in (
-      trip-more (2 * (n * n)) (omega arith) (trip-append (opened .0) (carried .0)),
+    let carry = c .before .before in
+    let place = carry .before .before .before in
+    let at = found place in
+    let p = entry at .pre in
+    let near = p .1 .1 .0 in
+    let o = opened at .open-end .ensures in
+    let q = place-at (place .place-of .ensures) (inside (place .before)) in
+    let moved = carry .carry .ensures in
+    let table = table-went (p .0 .inside) (moved .0 .went) (placing at .table) in (
+      trip-more _ (bound at) (trip-append (o .0) (moved .0)),
       (
-        fetch-carried rows on _ part placing more (entry .args .lane .beside) (from .result) (q .result) (near .there) (near .right) is
-            (q .ensures .is) (opened .1 .1 .0 .end) (carried .1 .0) table,
-        carried .1 .1 ∙ opened .1 .1 .1,
+        fetch-carried (p .0) (p .1 .0) _ (part at .part .ensures) (placing at) (p .1 .1 .1 .1 .0) (lane at .beside) (at .where-is2 .result)
+            (place .place-of .result) (near .there) (near .right) (is at) (q .is) (o .1 .1 .0 .end) (moved .1 .0) table,
+        moved .1 .1 ∙ o .1 .1 .1,
       ),
     )
 

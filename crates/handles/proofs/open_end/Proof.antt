@@ -1,61 +1,82 @@
 -- `handles::open_end` meets its contract.
 -- Assumes nothing.
-use Prim.Native.Nat.{_+_, _-_, _*_}
+use Prim.Native.Nat.{ℕ, _+_, _-_}
 use mathlib.Core.Path.{_∙_}
-use mathlib.Core.Logic.{inl}
+use mathlib.Core.Logic.{_↔_, inl}
 use native.Mathlib.Omega.{arith}
+use lib.Bits.{bitOr}
+use Rattle.sets.specs.Sets.{Has}
+use Rattle.shunting.specs.Journey.{row}
 use Rattle.shunting.proofs.JourneyLaws.{trip-more, trip-append, trip-anew, fits-anew, fits-then}
 use Rattle.shunting.proofs.TableLaws.{table-went}
-use Rattle.handles.proofs.StageLaws.{handle-places, region-has, region-below, region-reaches, placing-kept}
+use Rattle.handles.specs.declared.Lane.{Lane}
+use Rattle.handles.proofs.StageLaws.{Region, handle-places, region-has, region-below, region-reaches, placing-kept}
 use Rattle.handles.proofs.CycleLaws.{lane-places, lane-floor, stage-below, right-below}
 use Rattle.handles.proofs.FetchLaws.{end-below, end-inside, end-reaches, end-beside}
 use Rattle.handles.proofs.open_end.Statement.{statement}
 use Rattle.handles.proofs.open_end.Tie as tie
 
+-- The places behind each call, and the entry.
+abbrev entered : tie.After-part → tie.Start
+entered c = let order = c .before .before in order .before .before
+
+abbrev parted : tie.After-clear → tie.After-part2
+parted c = c .before .before .before
+
+abbrev cleared : tie.After-without → tie.After-clear
+cleared c = c .before .before .before
+
+abbrev held : tie.After-clear2 → tie.After-without
+held c = c .before .before .before
+
+-- The region as a set.
+module _ (c : tie.After-part2) where
+  abbrev stage : tie.After-part
+  stage = c .before .before
+
+  abbrev entry : tie.Start
+  entry = entered stage
+
+  abbrev lane : Lane
+  lane = entry .args .lane
+
+  has : (p : ℕ) → Has (bitOr (stage .part .result) (c .part2 .result)) p
+      ↔ Region (row (lane .order)) (lane .start) (lane .end) (entry .args .k) p
+  has = region-has (entry .pre .1 .0) (entry .args .k) _ _ (stage .part .ensures) (c .part2 .ensures)
+
 part-requires : tie.Need-part-requires
-part-requires c κs =
-    let entry = c .before .before .before in
-    lane-places (entry .pre .0) (entry .pre .1 .0)
+part-requires c κs = let p = c .before .before .before .pre in lane-places (p .0) (p .1 .0)
 
 add-part : tie.Need-add-part
 add-part c =
-    let after-order = c .before .before .before in
-    let entry = after-order .before .before in
-    let small = entry .pre .0 .small in
-    let lane = entry .pre .1 .0 in
-    let few = entry .pre .1 .1 .1 .0 .1 .few in
-    let inner = lane .handle .inner in
-    let within = lane .within in
+    let p = entered (c .before) .pre in
+    let small = p .0 .small in
+    let few = p .1 .1 .1 .0 .1 .few in
+    let inner = p .1 .0 .handle .inner in
+    let within = p .1 .0 .within in
     omega arith
 
 part-requires-2 : tie.Need-part-requires-2
-part-requires-2 c κs =
-    let after-order = c .before .before .before in
-    let entry = after-order .before .before in
-    handle-places (entry .pre .1 .0) (entry .pre .0 .small)
+part-requires-2 c κs = let p = entered (c .before) .pre in handle-places (p .1 .0) (p .0 .small)
 
 clear-requires : tie.Need-clear-requires
 clear-requires c κs =
-    let after-part2 = c .before .before in
-    let after-part = after-part2 .before .before in
-    let after-order = after-part .before .before in
-    let entry = after-order .before .before in
-    let rows = entry .pre .0 in
+    let region = c .before .before in
+    let p = entry region .pre in
+    let rows = p .0 in
+    let on = p .1 .0 in
+    let near = p .1 .1 .0 in
+    let asked = p .1 .1 .1 in
     let small = rows .small in
-    let lane = entry .pre .1 .0 in
-    let near = entry .pre .1 .1 .0 in
-    let asked = entry .pre .1 .1 .1 in
-    let k = entry .args .k in
-    let y = entry .args .lane .beside in
-    let has = region-has lane k _ _ (after-part .part .ensures) (after-part2 .part2 .ensures) in (
+    let y = lane region .beside in (
       rows,
       (
-        stage-below rows lane y (near .there),
+        stage-below rows on y (near .there),
         (
-          λ q h. region-below lane k q (has q .0 h),
+          λ q h. region-below on (entry region .args .k) q (has region q .0 h),
           (
-            region-reaches lane (asked .0 .1) y (rows .symmetric) (λ q x. has q .1 x) (inl (near .there)),
-            fits-anew (entry .args .lane .positions - 1) (omega arith) (omega arith) (asked .1),
+            region-reaches on (asked .0 .1) y (rows .symmetric) (λ q x. has region q .1 x) (inl (near .there)),
+            fits-anew (lane region .positions - 1) (omega arith) (omega arith) (asked .1),
           ),
         ),
       ),
@@ -63,41 +84,34 @@ clear-requires c κs =
 
 without-requires : tie.Need-without-requires
 without-requires c κs =
-    let after-clear = c .before .before in
-    let after-part2 = after-clear .before .before .before in
-    let after-order2 = after-part2 .before .before .before in
-    let entry = after-order2 .before .before .before in
-    let rows = entry .pre .0 in
-    let lane = entry .pre .1 .0 in
-    let y = entry .args .lane .beside in
-    lane-floor rows lane y (stage-below rows lane y (entry .pre .1 .1 .0 .there))
+    let region = parted (c .before .before) in
+    let p = entry region .pre in
+    let y = lane region .beside in
+    lane-floor (p .0) (p .1 .0) y (stage-below (p .0) (p .1 .0) y (p .1 .1 .0 .there))
 
 clear-requires-2 : tie.Need-clear-requires-2
 clear-requires-2 c κs =
-    let after-without = c .before .before in
-    let after-clear = after-without .before .before .before in
-    let after-part2 = after-clear .before .before .before in
-    let after-part = after-part2 .before .before in
-    let after-order = after-part .before .before in
-    let entry = after-order .before .before in
-    let rows = entry .pre .0 in
+    let free = c .before .before in
+    let clear = cleared free in
+    let region = parted clear in
+    let p = entry region .pre in
+    let rows = p .0 in
+    let on = p .1 .0 in
+    let near = p .1 .1 .0 in
+    let asked = p .1 .1 .1 in
     let small = rows .small in
-    let lane = entry .pre .1 .0 in
-    let near = entry .pre .1 .1 .0 in
-    let asked = entry .pre .1 .1 .1 in
-    let n = entry .args .lane .positions in
-    let has = region-has lane (entry .args .k) _ _ (after-part .part .ensures) (after-part2 .part2 .ensures) in
-    let without = after-without .without .ensures in
-    let one = after-clear .clear .ensures in
+    let n = lane region .positions in
+    let without = free .without .ensures in
+    let one = clear .clear .ensures in
     let table = table-went (rows .inside) (one .0 .journey .trip .went) (asked .0 .1 .table) in
-    let placing = placing-kept lane (asked .0 .1) (λ p x. has p .0 x) table (one .1 .outside) in (
+    let placing = placing-kept on (asked .0 .1) (λ q x. has region q .0 x) table (one .1 .outside) in (
       rows,
       (
-        right-below rows lane,
+        right-below rows on,
         (
-          end-below rows lane _ _ _ near has without,
+          end-below rows on _ _ _ near (has region) without,
           (
-            end-reaches rows lane _ _ _ near has without placing,
+            end-reaches rows on _ _ _ near (has region) without placing,
             fits-then (fits-anew ((n - 1) + (n - 1)) (omega arith) (omega arith) (asked .1)) (one .0 .journey),
           ),
         ),
@@ -106,38 +120,32 @@ clear-requires-2 c κs =
 
 same-length : tie.Need-same-length
 same-length c =
-    let after-clear2 = c .before .before in
-    let after-without = after-clear2 .before .before .before in
-    let after-clear = after-without .before .before .before in
-    after-clear2 .clear2 .ensures .0 .journey .trip .tail ∙ after-clear .clear .ensures .0 .journey .trip .tail
+    let last = c .before .before in
+    last .clear2 .ensures .0 .journey .trip .tail ∙ cleared (held last) .clear .ensures .0 .journey .trip .tail
 
 returns : tie.Need-returns
 returns c =
-    let after-clear2 = c .before .before in
-    let after-without = after-clear2 .before .before .before in
-    let after-clear = after-without .before .before .before in
-    let after-part2 = after-clear .before .before .before in
-    let after-part = after-part2 .before .before in
-    let after-order = after-part .before .before in
-    let entry = after-order .before .before in
-    let rows = entry .pre .0 in
-    let lane = entry .pre .1 .0 in
-    let near = entry .pre .1 .1 .0 in
-    let n = entry .args .lane .positions in
-    let has = region-has lane (entry .args .k) _ _ (after-part .part .ensures) (after-part2 .part2 .ensures) in
-    let without = after-without .without .ensures in
-    let one = after-clear .clear .ensures in
-    let two = after-clear2 .clear2 .ensures in
+    let last = c .before .before in
+    let free = held last in
+    let clear = cleared free in
+    let region = parted clear in
+    let p = entry region .pre in
+    let rows = p .0 in
+    let on = p .1 .0 in
+    let near = p .1 .1 .0 in
+    let without = free .without .ensures in
+    let one = clear .clear .ensures in
+    let two = last .clear2 .ensures in
     let first = one .0 .journey .trip in
     let second = two .0 .journey .trip in (
-      trip-anew (trip-more (2 * (n - 1)) (omega arith) (trip-append first second)),
+      trip-anew (trip-more _ (omega arith) (trip-append first second)),
       (
         λ T placing.
             let table = table-went (rows .inside) (first .went) (placing .table) in
-            placing-kept lane (placing-kept lane placing (λ p x. has p .0 x) table (one .1 .outside))
-            (end-inside rows lane _ _ _ near has without) (table-went (rows .inside) (second .went) table) (two .1 .outside),
+            placing-kept on (placing-kept on placing (λ q x. has region q .0 x) table (one .1 .outside))
+            (end-inside rows on _ _ _ near (has region) without) (table-went (rows .inside) (second .went) table) (two .1 .outside),
         (
-          record { end = two .1 .vacant; beside = end-beside rows lane _ _ _ near has without (two .1) (one .1 .vacant) },
+          record { end = two .1 .vacant; beside = end-beside rows on _ _ _ near (has region) without (two .1) (one .1 .vacant) },
           two .0 .journey .log ∙ one .0 .journey .log,
         ),
       ),

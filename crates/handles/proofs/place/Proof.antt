@@ -1,18 +1,86 @@
 -- `handles::place` meets its contract.
 -- Assumes nothing.
-use Prim.Native.Nat.{_+_, _-_, _*_}
-use mathlib.Core.Path.{_∙_}
+use Prim.Native.Nat.{ℕ, _-_, _+_, _*_}
+use mathlib.Core.Path.{_≡_, _∙_}
+use mathlib.Core.List.{List}
+use mathlib.Core.Logic.{_≢_}
 use native.Mathlib.Omega.{arith}
-use Rattle.shunting.proofs.JourneyLaws.{trip-more, trip-append, trip-anew, fits-anew, fits-less, fits-then, room-less, room-then}
+use Rattle.sets.specs.Sets.{Has}
+use Rattle.shunting.specs.Journey.{row, relogged, Fits}
+use Rattle.shunting.specs.Cleared.{Bringable}
+use Rattle.shunting.proofs.JourneyLaws.{trip-append, fits-less, fits-then, room-less}
 use Rattle.shunting.proofs.TableLaws.{table-went}
+use Rattle.handles.specs.Lane.{nextRack}
 use Rattle.handles.proofs.StageLaws.{handle-places}
 use Rattle.handles.proofs.CycleLaws.{lane-floor, lane-places, left-below, right-below, stage-in}
 use Rattle.handles.proofs.PlaceLaws.{rack-some, rack-there, rack-held, placing-turned, stage-robust, stage-vacancy, place-from}
 use Rattle.handles.proofs.PlaceLaws.{place-below, place-brought, place-below-rest, place-cleared, place-held, place-reaches}
 use Rattle.handles.proofs.PlaceLaws.{cycle-simple, cycle-round, cycle-vacancy}
-use Rattle.handles.proofs.FetchLaws.{square-less, square-most, place-bound, lane-four}
+use Rattle.handles.proofs.FetchLaws.{place-bound, place-room, place-fits, place-trip, lane-four}
 use Rattle.handles.proofs.place.Statement.{statement}
 use Rattle.handles.proofs.place.Tie as tie
+
+-- The places behind each call, and the entry.
+abbrev start : tie.After-next-rack → tie.Start
+start c = c .before .before .before
+
+abbrev named : tie.After-part → tie.After-next-rack
+named c = c .before .before
+
+abbrev parted : tie.After-open-stage → tie.After-part
+parted c = c .before .before .before
+
+abbrev opened : tie.After-fetch → tie.After-open-stage
+opened c = let known = c .before .before .before in known .before .before
+
+abbrev fetched : tie.After-where-is → tie.After-fetch
+fetched c = let racks = c .before .before in racks .before .before .before
+
+abbrev found : tie.After-bring → tie.After-where-is
+found c = c .before .before .before
+
+abbrev brought : tie.After-without → tie.After-bring
+brought c = c .before .before .before
+
+abbrev held : tie.After-clear → tie.After-without
+held c = c .before .before .before
+
+abbrev cleared : tie.After-turn → tie.After-clear
+cleared c = let known = c .before .before .before in let after = known .before .before in after .before .before
+
+-- The rack is found in the stage: what was asked for, that it is the one that comes next, and room for the rest with the log begun anew.
+module _ (c : tie.After-where-is) where
+  abbrev part : tie.After-part
+  part = parted (opened (fetched c))
+
+  abbrev entry : tie.Start
+  entry = start (named part)
+
+  abbrev n : ℕ
+  n = entry .args .lane .positions
+
+  abbrev next : ℕ
+  next = nextRack (entry .args .lane) (row (entry .args .goal .now)) (entry .args .k)
+
+  some : next ≢ 0
+  some = let asked = entry .pre .1 .1 .1 .1 in rack-some (entry .pre .0) (entry .pre .1 .0) (asked .0) (asked .1 .0)
+
+  is : row (fetched c .fetch .result .racks) (c .where-is .result) ≡ next
+  is = c .where-is .ensures .there ∙ named part .next-rack .ensures
+
+  -- the log and the plan's bytes then
+  abbrev log : List ℕ
+  log = let mutable = fetched c .fetch .last .1 .1 .1 in mutable .1 .1 .0
+
+  abbrev tail : List ℕ
+  tail = let mutable = fetched c .fetch .last .1 .1 .1 in mutable .1 .1 .1 .0
+
+  fits : Fits (relogged (fetched c .fetch .result) 0) log tail (n * (n - 1) + ((n - 1) + n))
+  fits =
+      let p = entry .pre in
+      let o = opened (fetched c) .open-stage .ensures in
+      let f = fetched c .fetch .ensures in
+      place-fits (lane-four (p .0) (p .1 .0)) (o .0) (f .0) (p .0 .small) (p .1 .1 .1 .1 .1 .1) (f .1 .1 ∙ o .1 .1 .1)
 
 next-rack-requires : tie.Need-next-rack-requires
 next-rack-requires c κs =
@@ -20,175 +88,75 @@ next-rack-requires c κs =
     (handle-places (entry .pre .1 .0) (entry .pre .0 .small), entry .pre .1 .1 .1 .1 .1 .0)
 
 part-requires : tie.Need-part-requires
-part-requires c κs =
-    let after-order = c .before .before in
-    let entry = after-order .before .before in
-    lane-places (entry .pre .0) (entry .pre .1 .0)
+part-requires c κs = let p = start (c .before) .pre in lane-places (p .0) (p .1 .0)
 
 open-stage-requires : tie.Need-open-stage-requires
 open-stage-requires c κs =
-    let after-order2 = c .before .before .before in
-    let after-order = after-order2 .before .before in
-    let entry = after-order .before .before in
-    let rows = entry .pre .0 in
-    let on = entry .pre .1 .0 in
-    let asked = entry .pre .1 .1 .1 .1 in
+    let entry = start (named (c .before .before)) in
+    let p = entry .pre in
+    let asked = p .1 .1 .1 .1 in
     let n = entry .args .lane .positions in
-    let bound = place-bound n (lane-four rows on) in
-    (rows, (on, ((_, asked .0), room-less (n - 1) (omega arith) (asked .1 .1))))
+    let bound = place-bound n (lane-four (p .0) (p .1 .0)) in
+    (p .0, (p .1 .0, ((_, asked .0), room-less (n - 1) (omega arith) (asked .1 .1))))
 
 fetch-requires : tie.Need-fetch-requires
 fetch-requires c κs =
-    let step3 = c .before .before .before in
-    let after-open-stage = step3 .before in
-    let after-part = after-open-stage .before .before .before in
-    let after-order = after-part .before .before .before in
-    let entry = after-order .before .before in
-    let rows = entry .pre .0 in
-    let on = entry .pre .1 .0 in
-    let asked = entry .pre .1 .1 .1 .1 in
-    let n = entry .args .lane .positions in
-    let four = lane-four rows on in
-    let square = square-less n (omega arith) in
-    let bound = place-bound n four in
-    let opened = after-open-stage .open-stage .ensures in (
-      rows,
-      (
-        on,
-        (
-          entry .pre .1 .1 .0,
-          (
-            opened .1 .0 _ (asked .0),
-            (
-              asked .1 .0,
-              (
-                opened .1 .1 .0,
-                room-then (room-less ((n - 1) + 2 * (n * n)) (omega arith) (asked .1 .1)) (opened .1 .1 .1) (opened .0),
-              ),
-            ),
-          ),
-        ),
-      ),
-    )
+    let known = c .before .before in
+    let stage = known .before .before in
+    let p = start (named (parted stage)) .pre in
+    let asked = p .1 .1 .1 .1 in
+    let o = stage .open-stage .ensures in
+    let room = place-room (lane-four (p .0) (p .1 .0)) (o .0) (asked .1 .1) (o .1 .1 .1) in
+    (p .0, (p .1 .0, (p .1 .1 .0, (o .1 .0 _ (asked .0), (asked .1 .0, (o .1 .1 .0, room))))))
 
 where-is-requires : tie.Need-where-is-requires
 where-is-requires c κs =
-    let after-tail2 = c .before .before .before in
-    let after-fetch = after-tail2 .before in
-    let step7 = after-fetch .before .before .before in
-    let after-open-stage = step7 .before .before in
-    let after-part = after-open-stage .before .before .before in
-    let after-next-rack = after-part .before .before in
-    let entry = after-next-rack .before .before .before in
-    let rows = entry .pre .0 in
-    let more = entry .pre .1 .1 .1 .1 .1 .0 in
-    let placing = after-fetch .fetch .ensures .1 .0 .placing in
-    (rows .small, rack-there rows (entry .pre .1 .0) placing more (after-next-rack .next-rack .ensures))
+    let known = c .before .before in
+    let fetch = known .before .before in
+    let name = named (parted (opened fetch)) in
+    let p = start name .pre in
+    (p .0 .small, rack-there (p .0) (p .1 .0) (fetch .fetch .ensures .1 .0 .placing) (p .1 .1 .1 .1 .1 .0) (name .next-rack .ensures))
 
 bring-requires : tie.Need-bring-requires
 bring-requires c κs =
-    let after-where-is = c .before .before in
-    let after-racks = after-where-is .before .before in
-    let after-fetch = after-racks .before .before .before in
-    let step10 = after-fetch .before .before .before in
-    let after-open-stage = step10 .before .before in
-    let after-part = after-open-stage .before .before .before in
-    let after-next-rack = after-part .before .before in
-    let entry = after-next-rack .before .before .before in
-    let rows = entry .pre .0 in
-    let on = entry .pre .1 .0 in
-    let asked = entry .pre .1 .1 .1 .1 in
-    let n = entry .args .lane .positions in
-    let rest = n * (n - 1) + ((n - 1) + n) in
-    let four = lane-four rows on in
-    let bound = place-bound n four in
-    let square = square-less n (omega arith) in
-    let most = square-most n (rows .small) in
-    let opened = after-open-stage .open-stage .ensures in
-    let fetched = after-fetch .fetch .ensures in
-    let room =
-    room-then (room-less ((n - 1) + 2 * (n * n) + rest) (omega arith) (asked .1 .1)) (fetched .1 .1 ∙ opened .1 .1 .1)
-    (trip-append (opened .0) (fetched .0))
+    let at = c .before .before in
+    let p = entry at .pre in
+    let rows = p .0 in
+    let on = p .1 .0 in
+    let stage = part at .part .ensures in
+    let f = fetched at .fetch .ensures in
+    let rack : Bringable (Has (part at .part .result)) (at .where-is .result) (entry at .args .lane .left) _ = record {
+      leaves = place-from rows on _ stage (f .1 .0) (some at) (at .where-is .result) (is at);
+      enters = stage-in rows on _ stage (entry at .args .lane .left) (on .handle .left);
+      held = rack-held (some at) (is at);
+      vacancy = stage-vacancy rows on _ stage (f .1 .0 .vacancy);
+    }
     in
-    let fits = fits-anew rest (omega arith) (omega arith) room in
-    let part = after-part .part .ensures in
-    let some = rack-some rows on (asked .0) (asked .1 .0) in
-    let from = after-where-is .where-is in
-    let is = from .ensures .there ∙ after-next-rack .next-rack .ensures in (
-      rows,
-      (
-        place-below rows on _ part,
-        (
-          stage-robust rows on _ part,
-          (
-            record {
-              leaves = place-from rows on _ part (fetched .1 .0) some (from .result) is;
-              enters = stage-in rows on _ part (entry .args .lane .left) (on .handle .left);
-              held = rack-held some is;
-              vacancy = stage-vacancy rows on _ part (fetched .1 .0 .vacancy);
-            },
-            fits-less (n * (n - 1)) (omega arith) fits,
-          ),
-        ),
-      ),
-    )
+    (rows, (place-below rows on _ stage, (stage-robust rows on _ stage, (rack, fits-less (n at * (n at - 1)) (omega arith) (fits at)))))
 
 without-requires : tie.Need-without-requires
 without-requires c κs =
-    let after-bring = c .before .before in
-    let after-where-is = after-bring .before .before .before in
-    let after-racks = after-where-is .before .before in
-    let after-fetch = after-racks .before .before .before in
-    let step13 = after-fetch .before .before .before in
-    let after-open-stage = step13 .before .before in
-    let after-part = after-open-stage .before .before .before in
-    let after-order = after-part .before .before .before in
-    let entry = after-order .before .before in
-    let rows = entry .pre .0 in
-    lane-floor rows (entry .pre .1 .0) (entry .args .lane .left) (left-below rows (entry .pre .1 .0))
+    let e = entry (found (c .before .before)) in
+    lane-floor (e .pre .0) (e .pre .1 .0) (e .args .lane .left) (left-below (e .pre .0) (e .pre .1 .0))
 
 clear-requires : tie.Need-clear-requires
 clear-requires c κs =
-    let after-without = c .before .before in
-    let after-bring = after-without .before .before .before in
-    let after-where-is = after-bring .before .before .before in
-    let after-racks = after-where-is .before .before in
-    let after-fetch = after-racks .before .before .before in
-    let step16 = after-fetch .before .before .before in
-    let after-open-stage = step16 .before .before in
-    let after-part = after-open-stage .before .before .before in
-    let after-next-rack = after-part .before .before in
-    let entry = after-next-rack .before .before .before in
-    let rows = entry .pre .0 in
-    let on = entry .pre .1 .0 in
-    let asked = entry .pre .1 .1 .1 .1 in
-    let n = entry .args .lane .positions in
-    let rest = n * (n - 1) + ((n - 1) + n) in
-    let four = lane-four rows on in
-    let bound = place-bound n four in
-    let square = square-less n (omega arith) in
-    let most = square-most n (rows .small) in
-    let opened = after-open-stage .open-stage .ensures in
-    let fetched = after-fetch .fetch .ensures in
-    let room =
-    room-then (room-less ((n - 1) + 2 * (n * n) + rest) (omega arith) (asked .1 .1)) (fetched .1 .1 ∙ opened .1 .1 .1)
-    (trip-append (opened .0) (fetched .0))
-    in
-    let fits = fits-anew rest (omega arith) (omega arith) room in
-    let part = after-part .part .ensures in
-    let some = rack-some rows on (asked .0) (asked .1 .0) in
-    let from = after-where-is .where-is in
-    let is = from .ensures .there ∙ after-next-rack .next-rack .ensures in
-    let brought = after-bring .bring .ensures in
-    let without = after-without .without .ensures in (
+    let rest = c .before .before in
+    let bring = brought rest in
+    let at = found bring in
+    let rows = entry at .pre .0 in
+    let on = entry at .pre .1 .0 in
+    let stage = part at .part .ensures in
+    let without = rest .without .ensures in
+    let b = bring .bring .ensures in (
       rows,
       (
         right-below rows on,
         (
-          place-below-rest rows on _ part _ without,
+          place-below-rest rows on _ stage _ without,
           (
-            place-reaches rows on _ part _ without (from .result) (brought .1) (rack-held some is),
-            fits-less (n - 1) (omega arith) (fits-then fits (brought .0)),
+            place-reaches rows on _ stage _ without (at .where-is .result) (b .1) (rack-held (some at) (is at)),
+            fits-less (n at - 1) (omega arith) (fits-then (fits at) (b .0)),
           ),
         ),
       ),
@@ -196,117 +164,63 @@ clear-requires c κs =
 
 turn-requires : tie.Need-turn-requires
 turn-requires c κs =
-    let after-at = c .before .before .before in
-    let after-clear = after-at .before .before .before in
-    let after-without = after-clear .before .before .before in
-    let after-bring = after-without .before .before .before in
-    let after-where-is = after-bring .before .before .before in
-    let after-racks = after-where-is .before .before in
-    let after-fetch = after-racks .before .before .before in
-    let step23 = after-fetch .before .before .before in
-    let after-open-stage = step23 .before .before in
-    let after-part = after-open-stage .before .before .before in
-    let after-order = after-part .before .before .before in
-    let entry = after-order .before .before in
-    let rows = entry .pre .0 in
-    let on = entry .pre .1 .0 in
-    let closed = entry .pre .1 .1 .1 .0 in
-    let asked = entry .pre .1 .1 .1 .1 in
-    let n = entry .args .lane .positions in
-    let rest = n * (n - 1) + ((n - 1) + n) in
-    let four = lane-four rows on in
-    let bound = place-bound n four in
-    let square = square-less n (omega arith) in
-    let most = square-most n (rows .small) in
-    let opened = after-open-stage .open-stage .ensures in
-    let fetched = after-fetch .fetch .ensures in
-    let room =
-    room-then (room-less ((n - 1) + 2 * (n * n) + rest) (omega arith) (asked .1 .1)) (fetched .1 .1 ∙ opened .1 .1 .1)
-    (trip-append (opened .0) (fetched .0))
-    in
-    let fits = fits-anew rest (omega arith) (omega arith) room in
-    let brought = after-bring .bring .ensures in
-    let cleared = after-clear .clear .ensures in (
-      cycle-simple rows on closed,
+    let at2 = c .before .before .before in
+    let clear = at2 .before .before .before in
+    let bring = brought (held clear) in
+    let at = found bring in
+    let p = entry at .pre in
+    let closed = p .1 .1 .1 .0 in
+    let cl = clear .clear .ensures in (
+      cycle-simple (p .0) (p .1 .0) closed,
       (
-        cycle-vacancy rows on closed (cleared .1),
-        fits-less (entry .args .cycle .size) (closed .short) (fits-then (fits-then fits (brought .0)) (cleared .0 .journey)),
+        cycle-vacancy (p .0) (p .1 .0) closed (cl .1),
+        fits-less _ (closed .short) (fits-then (fits-then (fits at) (bring .bring .ensures .0)) (cl .0 .journey)),
       ),
     )
 
 same-length : tie.Need-same-length
 same-length c =
-    let after-turn = c .before .before in
-    let after-at2 = after-turn .before .before .before in
-    let after-tail4 = after-at2 .before .before .before in
-    let after-clear = after-tail4 .before in
-    let after-without = after-clear .before .before .before in
-    let after-bring = after-without .before .before .before in
-    let after-where-is = after-bring .before .before .before in
-    let after-racks = after-where-is .before .before in
-    let after-fetch = after-racks .before .before .before in
-    let step26 = after-fetch .before .before .before in
-    let after-open-stage = step26 .before .before in
-    let after-part = after-open-stage .before .before .before in
-    let after-order = after-part .before .before .before in
-    let entry = after-order .before .before in
-    let around = cycle-round (entry .pre .0) (entry .pre .1 .0) (entry .pre .1 .1 .1 .0) in
-    after-turn .turn .ensures .0 _ around .trip .tail
-    ∙ after-clear .clear .ensures .0 .journey .trip .tail
-    ∙ after-bring .bring .ensures .0 .trip .tail
-    ∙ after-fetch .fetch .ensures .0 .tail
-    ∙ after-open-stage .open-stage .ensures .0 .tail
+    let turn = c .before .before in
+    let clear = cleared turn in
+    let bring = brought (held clear) in
+    let fetch = fetched (found bring) in
+    let p = entry (found bring) .pre in
+    turn .turn .ensures .0 _ (cycle-round (p .0) (p .1 .0) (p .1 .1 .1 .0)) .trip .tail
+    ∙ clear .clear .ensures .0 .journey .trip .tail ∙ bring .bring .ensures .0 .trip .tail
+    ∙ fetch .fetch .ensures .0 .tail ∙ opened fetch .open-stage .ensures .0 .tail
 
 returns : tie.Need-returns
 returns c =
-    let after-turn = c .before .before in
-    let after-at2 = after-turn .before .before .before in
-    let after-tail4 = after-at2 .before .before .before in
-    let after-clear = after-tail4 .before in
-    let after-without = after-clear .before .before .before in
-    let after-bring = after-without .before .before .before in
-    let after-where-is = after-bring .before .before .before in
-    let after-racks = after-where-is .before .before in
-    let after-fetch = after-racks .before .before .before in
-    let step26 = after-fetch .before .before .before in
-    let after-open-stage = step26 .before .before in
-    let after-part = after-open-stage .before .before .before in
-    let after-next-rack = after-part .before .before in
-    let entry = after-next-rack .before .before .before in
-    let rows = entry .pre .0 in
-    let on = entry .pre .1 .0 in
-    let closed = entry .pre .1 .1 .1 .0 in
+    let turn = c .before .before in
+    let clear = cleared turn in
+    let rest = held clear in
+    let bring = brought rest in
+    let at = found bring in
+    let p = entry at .pre in
+    let rows = p .0 in
+    let on = p .1 .0 in
+    let closed = p .1 .1 .1 .0 in
+    let asked = p .1 .1 .1 .1 in
     let short = closed .short in
-    let asked = entry .pre .1 .1 .1 .1 in
-    let n = entry .args .lane .positions in
-    let four = lane-four rows on in
-    let square = square-less n (omega arith) in
-    let bound = place-bound n four in
-    let part = after-part .part .ensures in
-    let opened = after-open-stage .open-stage .ensures in
-    let fetched = after-fetch .fetch .ensures in
-    let from = after-where-is .where-is in
-    let brought = after-bring .bring .ensures in
-    let without = after-without .without .ensures in
-    let cleared = after-clear .clear .ensures in
-    let turned = after-turn .turn .ensures in
-    let last = turned .0 _ (cycle-round rows on closed) in
-    let table = table-went (rows .inside) (brought .0 .trip .went) (fetched .1 .0 .placing .table) in
-    let placing = place-brought rows on _ part (fetched .1 .0 .placing) table (brought .1) in
-    let table2 = table-went (rows .inside) (cleared .0 .journey .trip .went) table in
-    let placing2 = place-cleared rows on _ part _ without placing table2 (cleared .1) in
+    let stage = part at .part .ensures in
+    let without = rest .without .ensures in
+    let o = opened (fetched at) .open-stage .ensures in
+    let f = fetched at .fetch .ensures in
+    let b = bring .bring .ensures in
+    let cl = clear .clear .ensures in
+    let t = turn .turn .ensures in
+    let last = t .0 _ (cycle-round rows on closed) in
+    let table = table-went (rows .inside) (b .0 .trip .went) (f .1 .0 .placing .table) in
+    let placing = place-brought rows on _ stage (f .1 .0 .placing) table (b .1) in
+    let table2 = table-went (rows .inside) (cl .0 .journey .trip .went) table in
+    let placing2 = place-cleared rows on _ stage _ without placing table2 (cl .1) in
     let table3 = table-went (rows .inside) (last .trip .went) table2 in
-    let there =
-    place-held rows on _ part _ without (cleared .1)
-    ∙ brought .1 .there
-    ∙ from .ensures .there
-    ∙ after-next-rack .next-rack .ensures
-    in
-    let home = trip-append (brought .0 .trip) (trip-append (cleared .0 .journey .trip) (last .trip)) in (
-      trip-more (4 * (n * n)) (omega arith) (trip-append (opened .0) (trip-append (fetched .0) (trip-anew home))),
+    let there = place-held rows on _ stage _ without (cl .1) ∙ b .1 .there ∙ is at in
+    let home = trip-append (b .0 .trip) (trip-append (cl .0 .journey .trip) (last .trip)) in (
+      place-trip (lane-four rows on) (o .0) (f .0) (omega arith) home,
       (
-        placing-turned rows on placing2 (asked .1 .0) closed there (turned .1) table3,
-        last .log ∙ cleared .0 .journey .log ∙ brought .0 .log ∙ fetched .1 .1 ∙ opened .1 .1 .1,
+        placing-turned rows on placing2 (asked .1 .0) closed there (t .1) table3,
+        last .log ∙ cl .0 .journey .log ∙ b .0 .log ∙ f .1 .1 ∙ o .1 .1 .1,
       ),
     )
 

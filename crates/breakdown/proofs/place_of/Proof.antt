@@ -1,26 +1,23 @@
--- `base_ring::place_on` meets its contract. The invariant: what is left of the search finds what the whole of it finds.
+-- `breakdown::place_of` meets its contract. The invariant: what is left of the search finds what the whole of it finds.
 -- Assumes nothing.
 use Prim.Native.Nat.{_-_, _<_}
-use mathlib.Core.Path.{_≡_, sym, ap, _∙_}
+use mathlib.Core.Path.{_≡_, refl, sym, _∙_}
 use native.Mathlib.Omega.{arith}
 use borrow.Author.Needs.{needs}
-use Rattle.shunting.specs.Journey.{row}
-use Rattle.base_ring.specs.From.{placeFrom, placeOf}
-use Rattle.base_ring.proofs.FromLaws.{placeFrom-here, placeFrom-next, placeFrom-end}
-use Rattle.base_ring.proofs.place_on.Statement.{statement}
-use Rattle.base_ring.proofs.place_on.Tie as tie
+use Rattle.breakdown.specs.Building.{row}
+use Rattle.breakdown.specs.Part.{placeOf}
+use Rattle.breakdown.proofs.PlaceLaws.{placeOf-here, placeOf-next, placeOf-end}
+use Rattle.breakdown.proofs.place_of.Statement.{statement}
+use Rattle.breakdown.proofs.place_of.Tie as tie
 
 abbrev Inv-loop : tie.InvT-loop
-Inv-loop order size x i₀ i = (i < size) × (placeFrom (row order) x i (size - 1 - i) ≡ placeOf (row order) size x)
+Inv-loop order s e p i₀ i = (i < e) × (placeOf (row order) i e p ≡ placeOf (row order) s e p)
 
 abbrev μ-loop : tie.MeasureT-loop
-μ-loop order size x i₀ i = size - i
+μ-loop order s e p i₀ i = e - i
 
 loop-holds : tie.Need-loop-holds Inv-loop μ-loop
-loop-holds c =
-    let a = c .args in
-    let all : a .size - 1 - 0 ≡ a .size - 1 = omega arith in
-    (c .pre .0, ap (placeFrom (row (a .order .now)) (a .x) 0) all)
+loop-holds c = (c .pre .0, refl)
 
 add-loop : tie.Need-add-loop Inv-loop μ-loop
 add-loop c = let p = c .before .pre .1 in let q = c .loop .inv .0 in omega arith
@@ -38,7 +35,7 @@ returns c =
     let entry = at-loop .before in
     let l = at-loop .loop in
     let a = entry .args in
-    sym (placeFrom-here (row (a .order .now)) (a .x) (a .size) (l .i) (omega arith)
+    sym (placeOf-here (row (a .order .now)) (a .p) (l .i) (a .e) (omega arith)
     (sym (c .before .wide .ensures .0) ∙ c .if1 .taken)) ∙ l .inv .1
 
 add-i : tie.Need-add-i Inv-loop μ-loop
@@ -55,7 +52,7 @@ loop-again c =
     let l = at-loop .loop in
     let a = entry .args in (
       omega arith,
-      placeFrom-next (row (a .order .now)) (a .x) (a .size) (l .i) (omega arith)
+      placeOf-next (row (a .order .now)) (a .p) (l .i) (a .e) (omega arith)
           (λ e. c .if1 .left (c .before .wide .ensures .0 ∙ e)) ∙ l .inv .1,
     )
 
@@ -63,10 +60,10 @@ returns-2 : tie.Need-returns-2 Inv-loop μ-loop
 returns-2 c =
     let l = c .before .loop in
     let a = c .before .before .args in
-    sym (placeFrom-end (row (a .order .now)) (a .x) (a .size) (l .i) (omega arith)) ∙ l .inv .1
+    sym (placeOf-end (row (a .order .now)) (a .p) (l .i) (a .e) (omega arith)) ∙ l .inv .1
 
-pub place-on-spec : {M : Type 1} → statement M
-place-on-spec =
+pub place-of-spec : {M : Type 1} → statement M
+place-of-spec =
     tie.close
     (tie.spec
     Inv-loop
