@@ -11,7 +11,7 @@ ghost use Rattle.answers.specs.Answer.{accepted, passUp};
 ghost use Rattle.field.specs.Bits.{pairs};
 ghost use Rattle.field.specs.Writing.{written, Fits, Wrote};
 ghost use Rattle.plan.specs.Verdict.{answerOf as planAnswerOf};
-ghost use Rattle.scheduling.specs.Filling.{noted, Filled, latest};
+ghost use Rattle.scheduling.specs.Filling.{noted, PassMade, latest};
 ghost use Rattle.scheduling.specs.Windows.{rowsOf, windowSteps, allSteps};
 ghost use Rattle.scheduling.specs.Maker.{makerAnswer, bufferAfter, answerOf};
 ghost use Rattle.scheduling.specs.Rows.{EntriesFit, Left, KeepsLeft, rowMoves, rows, stepBytes, stepsBytes};
@@ -87,7 +87,7 @@ fn fill(
     leaving: &mut [u64; 4096],
 ) -> usize
     requires { ⌜ (k < 2 ^ 22) × (12 * k ≤ 8 * length (now tail)) ⌝ }
-    ensures { λ r. ⌜ Filled first (now (window .entry)) (pairs (now (tail .entry)) 0 k) r (now (window .exit)) ⌝ }
+    ensures { λ r. ⌜ PassMade first (now (window .entry)) (pairs (now (tail .entry)) 0 k) r (now (window .exit)) ⌝ }
     ensures { λ _. ⌜ KeepsLeft (now (window .entry)) (now (leaving .entry)) (now (window .exit)) (now (leaving .exit)) ⌝ }
 {
     let mut arrived = [0usize; 64];

@@ -21,7 +21,7 @@ use mathlib.Core.List.{List, [], _∷_}
 use lib.ListN.{length}
 use lib.Dec.{ltb, eqb}
 use Rattle.answers.specs.Answer.{Answer, accepted, refused, refuse, refusedBy, passUp}
-use Rattle.order.specs.Order.{some}
+use Rattle.order.specs.Floor.{some}
 use Rattle.timetable.specs.Timetable.{stepLength, wrongSteps, stepParts, stepPadSet, total, partsOf, stepCount, wrongTimetableLength}
 use Rattle.timetable.specs.Timetable.{timetablePaddingSet, stepAnswer, stepPart}
 use Rattle.timetable.specs.declared.TimetableReading.{TimetableReading}

@@ -24,7 +24,7 @@ use lib.Seq.{getD-set-same, getD-set-other}
 use lib.Dec.{T, leb, eqb, leb·zero, leb→le}
 use mir.Facts.{and-yes}
 use Rattle.field.specs.Bytes.{BelowPairs, none₂, more₂}
-use Rattle.order.specs.Order.{some}
+use Rattle.order.specs.Floor.{some}
 use Rattle.motion.specs.Step.{every, ascends, enters, enteredOnce}
 use Rattle.motion.proofs.Test.{equal?}
 use Rattle.tables.specs.Tables.{edgeAt, heldAt}
