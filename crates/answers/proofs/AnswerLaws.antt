@@ -3,6 +3,7 @@
 --     numberOf-some, numberOf-le    a number is not 0, and fits the 8 bits that the C interface has for it
 --     numberOf-injective   two faults have two numbers
 --     number-is            what an arm of a match tells, as an equation
+--     passed-up            the same of a lower verdict that is passed up
 --     refuse-not, refuse-else    an answer that is accepted passed the test, and is what comes after it
 --     passUp-low, passUp-high    an answer that is accepted was accepted below, and is what comes after it
 --     passUp-refused, passUp-accepted    a refusal below is the answer above; where it is accepted below, what comes after is
@@ -14,7 +15,7 @@ use mathlib.Core.Path.{_≡_, refl, sym, ap, _∙_}
 use mathlib.Core.Bool.{Bool, true, false, not, _||_}
 use borrow.Author.Tests.{eq-eqb}
 use lib.Dec.{T, eqb, leb, leb→le}
-use Rattle.answers.specs.Answer.{Answer, accepted, refused, refuse, passUp, numberOf, HasNumber}
+use Rattle.answers.specs.Answer.{Answer, accepted, refused, refuse, passUp, numberOf, HasNumber, PassedUp}
 use Rattle.answers.specs.declared.Fault.{Fault}
 use Rattle.answers.proofs.Faults.{every-fault, each-fault, same, same-fault}
 
@@ -39,6 +40,9 @@ numberOf-injective f g e = same-fault f g (rw (eq-eqb (numberOf f) (numberOf g) 
 
 pub number-is : (f : Fault) (r : ℕ) → HasNumber f r → r ≡ numberOf f
 number-is f r h = h .number ∙ ap numberOf (sym (h .is))
+
+pub passed-up : {X : Type 0} {answerOf : X → Answer} {v : X} {a r : Answer} → PassedUp answerOf v a r → r ≡ passUp (answerOf v) a
+passed-up {answerOf = answerOf} {a = a} h = h .passes ∙ ap (λ x. passUp (answerOf x) a) (sym (h .is))
 
 not-both : (n p : ℕ) (v : List ℕ) → refused n p ≡ accepted v → ⊥
 not-both n p v e = let z : _≡_ {A = ℕ} 0 1 = cc in omega arith

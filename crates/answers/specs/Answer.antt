@@ -6,6 +6,7 @@
 --     refusedBy f p  the refusal by the fault f at the place p
 --     refuse t k p a the answer a, unless the test t holds: then the refusal k at the place p
 --     passUp b a     the answer a of a reader whose lower reader answered b, unless that was a refusal
+--     PassedUp answerOf v a r    r is what passing the lower verdict v up gives: its refusal, else the answer a
 -- Assumes nothing.
 use Prim.Native.Nat.{ℕ}
 use mathlib.Core.Bool.{Bool, true, false}
@@ -62,3 +63,9 @@ refuse false number place otherwise = otherwise
 abbrev pub passUp : Answer → Answer → Answer
 passUp (accepted counts) otherwise = otherwise
 passUp (refused number place) otherwise = refused number place
+
+-- as an arm of a match on the lower reader's verdict v tells it: v is some case, and r is that case's refusal or the answer a
+pub record PassedUp {X : Type 0} (answerOf : X → Answer) (v : X) (a r : Answer) : Type 0 where
+  pub case : X
+  pub is : v ≡ case
+  pub passes : r ≡ passUp (answerOf case) a

@@ -5,7 +5,8 @@
 --     packed-back               so does the answer that has them
 --     tells                     the one law: the number of a sized answer tells it
 --     told-apart                one number tells one answer
---     nothing-packs, record-length-packs, plan-moves-pack, made-steps-pack, steps-moves-pack, offset-length-packs    each packing of `Packed`
+--     nothing-packs, record-length-packs, plan-moves-pack, made-steps-pack, steps-moves-pack, offset-length-packs
+--                               each packing of `Packed`
 --     uncounted-sized, uncounted-same    an answer without its counts is sized, and has the same number where no counts are given
 -- Assumes nothing.
 use Prim.Native.Nat.{ℕ, _*_, _/_, _%_, _^_, _<_}

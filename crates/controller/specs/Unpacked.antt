@@ -2,7 +2,8 @@
 -- quotient by 2 ^ k, a mask of k ones the remainder by 2 ^ k, a cast to uint32_t the remainder by 2 ^ 32; size_t is as wide as the number.
 --
 --     numberIn r, placeIn r        wichteab_number, wichteab_place
---     nothingOf r, recordLengthOf r, planMovesOf r, madeStepsOf r, stepsAndMovesOf r, offsetAndLengthOf r    what a caller reads of an accepted answer
+--     nothingOf r, recordLengthOf r, planMovesOf r, madeStepsOf r, stepsAndMovesOf r, offsetAndLengthOf r
+--                                  what a caller reads of an accepted answer
 --     takenApart values r          the answer that a caller makes of the number r: its number, and then its place or what `values` reads
 --     uncounted a                  the answer a, without the counts of an accepted input
 --     Tells rest values a r        the number r tells the answer a: it is the answer, packed, and taken apart it is the answer again

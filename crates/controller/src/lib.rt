@@ -55,7 +55,8 @@ pub extern "C" fn wichteab_floor_check(order: &[u8]) -> u64
     }
 }
 
-// Writes a short order out as a full one to the front of the buffer, judged by 50, 51, 14 and 52. Accepted, it gives the full order's length.
+// Writes a short order out as a full one to the front of the buffer, judged by 50, 51, 14 and 52. Accepted, it gives the full order's
+// length.
 #[no_mangle]
 pub extern "C" fn wichteab_order_expand(short: &[u8], buffer: &mut [u8]) -> u64
     ensures { λ r. ⌜ Tells oneCount recordLengthOf (expandAnswer (now (short .entry)) (length (now (buffer .entry)))) r ⌝ }

@@ -38,7 +38,7 @@ use Rattle.planner.specs.Moves.{Solves}
 use Rattle.planner.specs.Planner.{refusals, PlanMade, turned-down, made}
 use Rattle.planner.proofs.PlannerLaws.{unrefused, packed, plan-accepted}
 use Rattle.delivery.specs.Delivery.{Call, answered, Answers, planLength, planAlone, timetableAlone, Called, unplanned, untimed}
-use Rattle.delivery.specs.Delivery.{checked, Timed, Delivered, Delivers}
+use Rattle.delivery.specs.Delivery.{checked, TimetableMade, Delivered, Delivers}
 
 -- how long a plan buffer 23 asks for
 abbrev pub planRoom : List ℕ → ℕ
@@ -109,7 +109,7 @@ module _ (o p : List ℕ) (k : ℕ) (right : planAnswer o p ≡ accepted (k ∷ 
         ∙ ap (λ (j : ℕ). accepted (greatest (timed (startsOf o) [] (planMoves p)) ∷ j ∷ [])) count
 
     timely : (m : ℕ) (c : Answer) → makerAnswer o p (length T) ≡ accepted (m ∷ []) → c ≡ timetableAnswer o (timetableAlone T′)
-        → Timed o p k T (answered (accepted (m ∷ []))) (answered c) T′
+        → TimetableMade o p k T (answered (accepted (m ∷ []))) (answered c) T′
     timely m c a ec =
         let both : accepted (m ∷ []) ≡ accepted (greatest (timed (startsOf o) [] (planMoves p)) ∷ []) = sym a ∙ answer in
         let same : greatest (timed (startsOf o) [] (planMoves p)) ≡ m = cc both in
@@ -131,7 +131,7 @@ module _ (o P : List ℕ) (can : Plannable o) (room : planRoom o ≤ length P)
   count : moveCount (planRecord ms) ≡ length ms
   count = packed o can ms solves .count-is
 
-  planned : (T T′ : List ℕ) (m c : Call) → (3 * length ms + 3 ≤ length T → Timed o (planRecord ms) (length ms) T m c T′)
+  planned : (T T′ : List ℕ) (m c : Call) → (3 * length ms + 3 ≤ length T → TimetableMade o (planRecord ms) (length ms) T m c T′)
       → Delivered o P T (record { planner = accepted (length ms ∷ []); maker = m; checker = c }) (written P 0 (planRecord ms)) T′
   planned T T′ m c then = record {
     moves = length ms;

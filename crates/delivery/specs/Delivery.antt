@@ -8,7 +8,7 @@
 --     planAlone k P             the plan of k moves at the front of the buffer P, alone
 --     timetableAlone T          the timetable at the front of the buffer T, alone
 --     Called o P T a P′ T′      on the order o and the buffers P and T the three calls may answer a and leave P′ and T′ behind
---     Timed o p k T m c T′      of the plan p of k moves the making rule's timetable is made, and accepted with the
+--     TimetableMade o p k T m c T′    of the plan p of k moves the making rule's timetable is made, and accepted with the
 --                               maker's steps and k moves
 --     Delivered o P T a P′ T′   the plan just written is accepted, and so is the timetable made of it
 --     Delivers o P T a P′ T′    demand 3: every order that can be planned is delivered, given such a buffer
@@ -77,7 +77,7 @@ pub data Called (o P T : List ℕ) : Answers → List ℕ → List ℕ → Type 
 -- "From that plan, given a timetable buffer of at least 3 bytes more than three for each move, whatever it held before, the timetable maker
 -- writes the timetable that document 01's making rule gives, and the timetable checker accepts it, with exactly the maker's count of steps
 -- and the planner's count of moves."
-pub record Timed (o p : List ℕ) (k : ℕ) (T : List ℕ) (m c : Call) (T′ : List ℕ) : Type 0 where
+pub record TimetableMade (o p : List ℕ) (k : ℕ) (T : List ℕ) (m c : Call) (T′ : List ℕ) : Type 0 where
   pub steps : ℕ
   pub made : m ≡ answered (accepted (steps ∷ []))
   pub short : length (timetableRecord (madeOf o p)) ≤ 3 * k + 3
@@ -95,7 +95,7 @@ pub record Delivered (o P T : List ℕ) (a : Answers) (P′ T′ : List ℕ) : T
   pub stands : P′ ≡ written P 0 plan
   pub replayed : replayMoves (floorOf o) (startsOf o) (planMoves plan) ≡ ended (goalsOf o)
   pub accepts : planAnswer o plan ≡ accepted (moves ∷ [])
-  pub then : 3 * moves + 3 ≤ length T → Timed o plan moves T (a .maker) (a .checker) T′
+  pub then : 3 * moves + 3 ≤ length T → TimetableMade o plan moves T (a .maker) (a .checker) T′
 
 -- "For every well-formed order on a bi-connected floor of n positions, n from 4 to 64, that is not a single ring and has at least two
 -- vacant positions, given a plan buffer of at least 12 × n × n × n + 3 bytes, whatever it held before"

@@ -18,9 +18,9 @@ use lib.Bits.{bitOr}
 use lib.ListN.{length, getD, replicate, length-set, length-replicate}
 use Rattle.field.specs.Bytes.{BelowPairs, more₂}
 use Rattle.field.proofs.UnitLaws.{or-left, or-right}
-use Rattle.order.specs.Floor.{Floor, isPair, among}
-use Rattle.order.specs.Order.{some, badEdge, ascending, wrongEdges}
-use Rattle.order.proofs.EdgeLaws.{isPair-same, ascending-first, rest-ascends, good-among}
+use Rattle.order.specs.Floor.{Floor, some, isPair}
+use Rattle.order.specs.Order.{badEdge, ascending, wrongEdges}
+use Rattle.order.proofs.EdgeLaws.{isPair-same, ascending-first, rest-ascends, good-edge}
 use Rattle.tables.proofs.TableLaws.{zeros-at}
 use Rattle.sets.specs.Sets.{bit, Has}
 use Rattle.sets.proofs.SetLaws.{has-or-not, bit-zero}
@@ -117,13 +117,13 @@ edge-raised g x y long l h z =
     upper a b lb e f = omega arith
 
 pub joined-count : (n : ℕ) (g : List ℕ) (l : List (ℕ × ℕ)) → length g ≡ 64 → BelowPairs 64 l → some (badEdge n) l ≡ false
-    → ascending l ≡ true → ((f : ℕ × ℕ) → among f l ≡ true → bit (getD g (f .1) 0) (f .0) ≡ 0)
+    → ascending l ≡ true → ((f : ℕ × ℕ) → some (isPair f) l ≡ true → bit (getD g (f .1) 0) (f .0) ≡ 0)
     → edgeCount (joinedRows g l) n ≡ edgeCount g n + length l
-unfolding joinedRows among some
+unfolding joinedRows some
 joined-count n g [] long small good asc clear = omega arith
 joined-count n g (e ∷ l) long (more₂ h₀ h₁ small) good asc clear =
-    let here : among e (e ∷ l) ≡ true = rw (isPair-same e) refl in
-    let low = good-among n e (e ∷ l) good here in
+    let here : some (isPair e) (e ∷ l) ≡ true = rw (isPair-same e) refl in
+    let low = good-edge n e (e ∷ l) good here in
     let x = e .0 in
     let y = e .1 in
     let g₁ = joining g x y in
@@ -135,8 +135,8 @@ joined-count n g (e ∷ l) long (more₂ h₀ h₁ small) good asc clear =
     let rest = joined-count n g₂ l long₂ small rest-good (rest-ascends e l asc)
     (λ f m.
     let later = ascending-first e f l h₁ small asc m in
-    let lf = good-among n f l rest-good m in
-    let old : among f (e ∷ l) ≡ true = rw (m, or-true (isPair f e)) refl in
+    let lf = good-edge n f l rest-good m in
+    let old : some (isPair f) (e ∷ l) ≡ true = rw (m, or-true (isPair f e)) refl in
     raised .else (f .1) (f .0) (lf .0) (λ u v. omega arith) ∙ clear f old) in
     omega arith
 

@@ -12,9 +12,9 @@ use mathlib.Core.List.{List, [], _∷_}
 use Rattle.answers.specs.Answer.{accepted, refused}
 use Rattle.field.specs.Bits.{bitsOf, bits, number, field, pairs, positions, pad}
 use Rattle.field.specs.Units.{recordLength, misfits, unclean}
-use Rattle.order.specs.Floor.{isPair, among, joined}
+use Rattle.order.specs.Floor.{some, isPair, joined}
 use Rattle.order.specs.Order.{positionCount, edgeCount, rackCount, unitCount, floorOf, startsOf, goalsOf, orderOf, wrongLength}
-use Rattle.order.specs.Order.{wrongPositions, paddingSet, some, badEdge, precedes, ascending, wrongEdges, repeats, wrongPlaces, wrongRacks}
+use Rattle.order.specs.Order.{wrongPositions, paddingSet, badEdge, precedes, ascending, wrongEdges, repeats, wrongPlaces, wrongRacks}
 use Rattle.order.specs.Order.{counts, orderAnswer}
 use Rattle.graph.specs.Connected.{BiConnected, Ring}
 use Rattle.graph.specs.Rows.{Edge}
@@ -44,8 +44,8 @@ pub floors-judged :
     × (floorAnswer pathOfFour ≡ refused 21 0)
     × (floorAnswer pathOfThree ≡ refused 20 0)
     × (floorAnswer turnedEdge ≡ refused 13 0)
-unfolding floorAnswer biConnected? ring? joined among isPair orderAnswer wrongLength misfits recordLength unitCount wrongPositions
-    paddingSet unclean pad wrongEdges some badEdge precedes ascending wrongRacks wrongPlaces repeats orderOf floorOf startsOf goalsOf counts
+unfolding floorAnswer biConnected? ring? joined some isPair orderAnswer wrongLength misfits recordLength unitCount wrongPositions
+    paddingSet unclean pad wrongEdges badEdge precedes ascending wrongRacks wrongPlaces repeats orderOf floorOf startsOf goalsOf counts
     positionCount edgeCount rackCount field number bitsOf bits pairs positions
 floors-judged = (refl, refl, refl, refl, refl, refl)
 

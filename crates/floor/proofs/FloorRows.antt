@@ -22,9 +22,9 @@ use lib.ListN.{length, getD, replicate, length-set, length-replicate}
 use lib.Seq.{getD-set-same, getD-set-other}
 use Rattle.field.specs.Bytes.{BelowPairs, none₂, more₂}
 use Rattle.field.proofs.UnitLaws.{or-left}
-use Rattle.order.specs.Floor.{Floor, isPair, among, joined}
-use Rattle.order.specs.Order.{floorOf, some, badEdge, ascending, wrongEdges}
-use Rattle.order.proofs.EdgeLaws.{good-among}
+use Rattle.order.specs.Floor.{Floor, some, isPair, joined}
+use Rattle.order.specs.Order.{floorOf, badEdge, ascending, wrongEdges}
+use Rattle.order.proofs.EdgeLaws.{good-edge}
 use Rattle.order.proofs.TablesLaws.{decoded-rows}
 use Rattle.motion.proofs.Test.{and-parts, or-parts, eqb-parts, equal?}
 use Rattle.tables.proofs.TableLaws.{passed, zeros-at}
@@ -82,8 +82,8 @@ pair-parts a b e =
     (λ t. (x .0 (p .0 t .0), y .0 (p .0 t .1)), λ h. p .1 (x .1 (h .0), y .1 (h .1)))
 
 pub joined-edges : (g : List ℕ) (l : List (ℕ × ℕ)) → length g ≡ 64 → BelowPairs 64 l → (a b : ℕ)
-    → Edge (joinedRows g l) a b ↔ (Edge g a b ⊎ (T (among (a, b) l) ⊎ T (among (b, a) l)))
-unfolding joinedRows among
+    → Edge (joinedRows g l) a b ↔ (Edge g a b ⊎ (T (some (isPair (a, b)) l) ⊎ T (some (isPair (b, a)) l)))
+unfolding joinedRows some
 joined-edges g [] long none₂ a b = (λ h. inl h, λ h. ⊎-elim (λ i. i) (λ i. absurd (⊎-elim (λ t. t) (λ t. t) i)) h)
 joined-edges g (e ∷ l) long (more₂ h₀ h₁ small) a b =
     let g₁ = joining g (e .0) (e .1) in
@@ -93,13 +93,13 @@ joined-edges g (e ∷ l) long (more₂ h₀ h₁ small) a b =
     let rest = joined-edges g₂ l long₂ small a b in
     let second = joining-edge g₁ (e .1) (e .0) (omega arith) a b in
     let first = joining-edge g (e .0) (e .1) (omega arith) a b in
-    let o = or-parts (isPair (a, b) e) (among (a, b) l) in
-    let t = or-parts (isPair (b, a) e) (among (b, a) l) in
+    let o = or-parts (isPair (a, b) e) (some (isPair (a, b)) l) in
+    let t = or-parts (isPair (b, a) e) (some (isPair (b, a)) l) in
     let p = pair-parts a b e in
     let q = pair-parts b a e in
-    let before : Edge g₁ a b → Edge g a b ⊎ (T (among (a, b) (e ∷ l)) ⊎ T (among (b, a) (e ∷ l))) = λ h.
+    let before : Edge g₁ a b → Edge g a b ⊎ (T (some (isPair (a, b)) (e ∷ l)) ⊎ T (some (isPair (b, a)) (e ∷ l))) = λ h.
     ⊎-elim (λ i. inl i) (λ i. inr (inl (o .1 (inl (p .1 i))))) (first .0 h) in
-    let last : Edge g₂ a b → Edge g a b ⊎ (T (among (a, b) (e ∷ l)) ⊎ T (among (b, a) (e ∷ l))) = λ h.
+    let last : Edge g₂ a b → Edge g a b ⊎ (T (some (isPair (a, b)) (e ∷ l)) ⊎ T (some (isPair (b, a)) (e ∷ l))) = λ h.
     ⊎-elim before (λ i. inr (inr (t .1 (inl (q .1 (i .1, i .0)))))) (second .0 h) in (
       λ h. ⊎-elim last (λ i. inr (⊎-elim (λ x. inl (o .1 (inr x))) (λ x. inr (t .1 (inr x))) i)) (rest .0 h),
       λ h. rest .1
@@ -113,7 +113,7 @@ joined-edges g (e ∷ l) long (more₂ h₀ h₁ small) a b =
 
 pub joined-turned : (F : Floor) (a b : ℕ) → joined F a b ≡ joined F b a
 unfolding joined
-joined-turned F a b = or-comm (among (a, b) (F .edges)) (among (b, a) (F .edges))
+joined-turned F a b = or-comm (some (isPair (a, b)) (F .edges)) (some (isPair (b, a)) (F .edges))
 
 -- at the start there is no edge
 none-there : (a b : ℕ) → Edge (replicate 64 0) a b → ⊥
@@ -123,14 +123,14 @@ module _ (F : Floor) (small : BelowPairs 64 (F .edges)) where
   pub edge-joins : (a b : ℕ) → Edge (rowsOf F) a b → Joins F a b
   unfolding rowsOf joined
   edge-joins a b h =
-      ⊎-elim (λ i. absurd (none-there a b i)) (λ i. or-parts (among (a, b) (F .edges)) (among (b, a) (F .edges)) .1 i)
+      ⊎-elim (λ i. absurd (none-there a b i)) (λ i. or-parts (some (isPair (a, b)) (F .edges)) (some (isPair (b, a)) (F .edges)) .1 i)
       (joined-edges (replicate 64 0) (F .edges) (length-replicate {A = ℕ} 64 0) small a b .0 h)
 
   pub joins-edge : (a b : ℕ) → Joins F a b → Edge (rowsOf F) a b
   unfolding rowsOf joined
   joins-edge a b t =
       joined-edges (replicate 64 0) (F .edges) (length-replicate {A = ℕ} 64 0) small a b .1
-      (inr (or-parts (among (a, b) (F .edges)) (among (b, a) (F .edges)) .0 t))
+      (inr (or-parts (some (isPair (a, b)) (F .edges)) (some (isPair (b, a)) (F .edges)) .0 t))
 
   pub biConnected-rows : BiConnected (F .positions) (Edge (rowsOf F)) ↔ BiConnected (F .positions) (Joins F)
   biConnected-rows = (biConnected-along edge-joins, biConnected-along joins-edge)
@@ -141,9 +141,9 @@ module _ (F : Floor) (small : BelowPairs 64 (F .edges)) where
     joined-other a t =
         let good : some (badEdge (F .positions)) (F .edges) ≡ false =
         or-left (some (badEdge (F .positions)) (F .edges)) (not (ascending (F .edges))) right in
-        let loop : T (among (a, a) (F .edges)) → ⊥ =
-        λ u. let v = good-among (F .positions) (a, a) (F .edges) good (passed (among (a, a) (F .edges)) u) in omega arith in
-        ⊎-elim loop loop (or-parts (among (a, a) (F .edges)) (among (a, a) (F .edges)) .0 t)
+        let loop : T (some (isPair (a, a)) (F .edges)) → ⊥ =
+        λ u. let v = good-edge (F .positions) (a, a) (F .edges) good (passed (some (isPair (a, a)) (F .edges)) u) in omega arith in
+        ⊎-elim loop loop (or-parts (some (isPair (a, a)) (F .edges)) (some (isPair (a, a)) (F .edges)) .0 t)
 
     pub floor-rows : Rows (F .positions) (rowsOf F)
     floor-rows =

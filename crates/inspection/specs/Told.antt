@@ -4,6 +4,7 @@
 --     callOf w a                  the planner's answer, or what came of the maker's or the checker's call, for w = 0, 1 or any other
 --     valueOf v c                 of an accepted call 0, its first count and its second; of a refused one its number and its place; 255 if
 --                                 it was not reached
+--     ValueBy f x v r             r is such a value of the call that f makes of x
 --     Told o P T w v r P′ T′      r is such a value of answers that the three calls may give, with the buffers P′ and T′ that they leave
 -- Assumes nothing.
 use Prim.Native.Nat.{ℕ}
@@ -25,6 +26,12 @@ abbrev pub valueOf : ℕ → Call → ℕ
 valueOf v notReached = chosen v 255 0 0
 valueOf v (answered (accepted counts)) = chosen v 0 (getD counts 0 0) (getD counts 1 0)
 valueOf v (answered (refused number place)) = chosen v number place 0
+
+-- as an arm of a match on x tells it: x is some case, and r is a value of that case's call
+pub record ValueBy {X : Type 0} (f : X → Call) (x : X) (v r : ℕ) : Type 0 where
+  pub case : X
+  pub is : x ≡ case
+  pub value : r ≡ valueOf v (f case)
 
 pub record Told (o P T : List ℕ) (w v r : ℕ) (P′ T′ : List ℕ) : Type 0 where
   pub answers : Answers

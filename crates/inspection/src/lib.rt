@@ -1,5 +1,6 @@
 // For the tests: a breakdown as bytes, the part that the step reader gives back byte by byte, and a delivery, through C's conventions. This
 // is no part of the product's interface, and include/wichteab.h does not declare it.
+use answers::Fault;
 use breakdown::Breakdown;
 use delivery::CheckCall;
 use delivery::MakerCall;
@@ -11,13 +12,14 @@ ghost use mathlib.Core.Path.{_≡_};
 ghost use Prim.Native.Nat.{_+_, _≤_, _<_};
 ghost use lib.ListN.{length};
 ghost use Rattle.breakdown.specs.Building.{row};
+ghost use Rattle.answers.specs.Answer.{refusedBy};
 ghost use Rattle.timetable.specs.Reading.{partGiven};
 ghost use Rattle.timetable.specs.Checking.{answerOfCheck};
 ghost use Rattle.scheduling.specs.Maker.{answerOf as answerOfMaker};
 ghost use Rattle.planner.specs.Planner.{answerOf as answerOfPlanner};
 ghost use Rattle.delivery.specs.Delivery.{answered, callOfMaker, callOfCheck};
 ghost use Rattle.inspection.specs.Inspection.{upTo, Copied, LaidOut, Inspected, shownByte};
-ghost use Rattle.inspection.specs.Told.{chosen, valueOf, Told};
+ghost use Rattle.inspection.specs.Told.{chosen, valueOf, ValueBy, Told};
 
 // Byte i of a row, of which `count` bytes are used: 0 behind them.
 fn used(bytes: &[u8; 64], count: usize, i: usize) -> u8
@@ -114,38 +116,40 @@ fn choose(v: u64, x: u64, y: u64, z: u64) -> u64
     z
 }
 
+// A value of a refusal.
+fn refused_value(v: u64, fault: Fault, place: u32) -> u64
+    ensures { λ r. ⌜ r ≡ valueOf v (answered (refusedBy fault place)) ⌝ }
+{
+    choose(v, answers::number(fault), place as u64, 0)
+}
+
 // A value of the planner's answer.
 fn planner_value(v: u64, answer: PlannerVerdict) -> u64
-    ensures { λ r. ⌜ r ≡ valueOf v (answered (answerOfPlanner answer)) ⌝ }
+    ensures { λ r. ⌜ ValueBy (λ a. answered (answerOfPlanner a)) answer v r ⌝ }
 {
     match answer {
         PlannerVerdict::Planned(moves) => choose(v, 0, moves as u64, 0),
-        PlannerVerdict::Refused(fault, place) => choose(v, answers::number(fault), place as u64, 0),
+        PlannerVerdict::Refused(fault, place) => refused_value(v, fault, place),
     }
 }
 
 // A value of the timetable maker's answer.
 fn maker_value(v: u64, answer: MakerVerdict) -> u64
-    ensures { λ r. ⌜ r ≡ valueOf v (answered (answerOfMaker answer)) ⌝ }
+    ensures { λ r. ⌜ ValueBy (λ a. answered (answerOfMaker a)) answer v r ⌝ }
 {
     match answer {
         MakerVerdict::Accepted(steps) => choose(v, 0, steps as u64, 0),
-        MakerVerdict::Refused(fault, place) => choose(v, answers::number(fault), place as u64, 0),
+        MakerVerdict::Refused(fault, place) => refused_value(v, fault, place),
     }
 }
 
 // A value of the timetable checker's answer.
 fn checker_value(v: u64, answer: TimetableVerdict) -> u64
-    ensures { λ r. ⌜ r ≡ valueOf v (answered (answerOfCheck answer)) ⌝ }
+    ensures { λ r. ⌜ ValueBy (λ a. answered (answerOfCheck a)) answer v r ⌝ }
 {
     match answer {
         TimetableVerdict::Accepted { steps, moves } => choose(v, 0, steps as u64, moves as u64),
-        TimetableVerdict::Refused(fault, place) => choose(
-            v,
-            answers::number(fault),
-            place as u64,
-            0,
-        ),
+        TimetableVerdict::Refused(fault, place) => refused_value(v, fault, place),
     }
 }
 

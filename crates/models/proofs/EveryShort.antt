@@ -20,7 +20,8 @@ use Rattle.field.specs.Bits.{bits, bitsOf, field, positions, positionBits, pad}
 use Rattle.field.proofs.BitLaws.{length-bits, field-at}
 use Rattle.field.proofs.RecordLaws.{positions-at, length-positions, length-positionBits, bits-zero, bitsOf-toBytes, length-toBytes, padded-by}
 use Rattle.field.proofs.WholeBytes.{pad-after-whole}
-use Rattle.order.specs.Order.{Order, positionCount, rackCount, some, repeats, wrongPlaces, wrongRacks, startsOf, orderOf, edgeCount, floorOf}
+use Rattle.order.specs.Floor.{some}
+use Rattle.order.specs.Order.{Order, positionCount, rackCount, repeats, wrongPlaces, wrongRacks, startsOf, orderOf, edgeCount, floorOf}
 use Rattle.order.proofs.PlaceLaws.{places-below, below-more, few-places}
 use Rattle.models.specs.Grid.{unknownModel, modelFloor}
 use Rattle.models.specs.ShortOrder.{ShortOrder, shortBits, shortRecord, modelCode}

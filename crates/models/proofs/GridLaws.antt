@@ -26,8 +26,8 @@ use lib.ListN.{length, getD}
 use lib.Dec.{T, leb, ltb, eqb, leb→le, ltb→lt, eqb→eq}
 use Rattle.field.specs.Bytes.{BelowPairs}
 use Rattle.field.proofs.UnitLaws.{or-left, or-right}
-use Rattle.order.specs.Floor.{Floor, isPair, among, joined}
-use Rattle.order.specs.Order.{some, badEdge, precedes, ascending, wrongEdges}
+use Rattle.order.specs.Floor.{Floor, some, isPair, joined}
+use Rattle.order.specs.Order.{badEdge, precedes, ascending, wrongEdges}
 use Rattle.order.proofs.Written.{edges-below}
 use Rattle.graph.specs.Connected.{BiConnected, Ring}
 use Rattle.breakdown.specs.Breakdown.{Breakdown}
@@ -111,7 +111,7 @@ module _ (k : ℕ) where
       leb 1 (F .positions) && (leb (F .positions) 64 && (leb (length (F .edges)) 255 && ltb (F .positions) (length (F .edges))))
 
 all-broken : T (from 1 5 isBroken)
-unfolding from certifies joined among isPair grid gridEdges edgesOn toRight toBelow rowsOf columnsOf
+unfolding from certifies joined some isPair grid gridEdges edgesOn toRight toBelow rowsOf columnsOf
 all-broken = tt
 
 all-sized : T (from 1 5 isSized)

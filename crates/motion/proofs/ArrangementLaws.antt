@@ -15,11 +15,12 @@ use native.Mathlib.Omega.{arith}
 use borrow.Author.Tests.{eq-eqb, ne-eqb}
 use lib.Dec.{T, eqb}
 use lib.ListN.{length, getD}
+use Rattle.order.specs.Floor.{some}
 use Rattle.motion.specs.Arrangement.{Arrangement, stands, occupied, vacant, rackFrom, rackAt}
 use Rattle.motion.proofs.Test.{or-parts, not-parts, eqb-parts, decided, equal?}
 
 occupied-to : (A : Arrangement) (p : ℕ) → T (occupied A p) → (i : ℕ) × (i < length A) × (getD A i 0 ≡ p)
-unfolding occupied
+unfolding occupied some
 occupied-to [] p t = absurd t
 occupied-to (q ∷ A) p t =
     ⊎-elim
@@ -28,7 +29,7 @@ occupied-to (q ∷ A) p t =
     (or-parts (eqb q p) (occupied A p) .0 t)
 
 occupied-from : (A : Arrangement) (i : ℕ) → i < length A → T (occupied A (getD A i 0))
-unfolding occupied
+unfolding occupied some
 occupied-from [] i h = absurd (omega arith)
 occupied-from (q ∷ A) zero h = or-parts (eqb q q) (occupied A q) .1 (inl (eqb-parts q q .1 refl))
 occupied-from (q ∷ A) (suc i) h = or-parts (eqb q (getD A i 0)) (occupied A (getD A i 0)) .1 (inr (occupied-from A i (omega arith)))
@@ -61,7 +62,7 @@ rackFrom-later k q A p e = rw (ne-eqb q p e)
 
 rackFrom-finds : (k : ℕ) (A : Arrangement) (p : ℕ) → T (occupied A p)
     → (r : ℕ) × (r < length A) × (getD A r 0 ≡ p) × (rackFrom k A p ≡ k + r)
-unfolding rackFrom occupied
+unfolding rackFrom occupied some
 rackFrom-finds k [] p o = absurd o
 rackFrom-finds k (q ∷ A) p o =
     ⊎-elim

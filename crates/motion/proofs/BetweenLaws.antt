@@ -11,10 +11,10 @@ use mathlib.Core.Logic.{_≢_, ⊎-elim}
 use mathlib.Core.Path.{_≡_, refl, sym, ap, ap₂, _∙_}
 use borrow.Author.Tests.{eq-eqb, ne-eqb}
 use lib.Dec.{T, ltb, eqb}
-use Rattle.order.specs.Floor.{Floor}
+use Rattle.order.specs.Floor.{Floor, some}
 use Rattle.motion.specs.Arrangement.{Arrangement, occupied, vacant}
 use Rattle.motion.specs.Move.{goesTo, after, afterMove}
-use Rattle.motion.specs.Replay.{trace}
+use Rattle.motion.proofs.TraceLaws.{trace}
 use Rattle.motion.specs.Sound.{Sound}
 use Rattle.motion.specs.StepOf.{moved}
 use Rattle.motion.specs.StepSolutions.{movesBetween}
@@ -30,7 +30,7 @@ moved-none (p ∷ A) = rw (eq-eqb p p refl) (moved-none A)
 
 pub moved-one : (n : ℕ) (A : Arrangement) (m : ℕ × ℕ) → T (isSound n A) → T (occupied A (m .0)) → m .0 ≢ m .1
     → moved A (afterMove A m) ≡ m ∷ []
-unfolding moved afterMove after goesTo isSound occupied
+unfolding moved afterMove after goesTo isSound occupied some
 moved-one n [] m sound held apart = absurd held
 moved-one n (p ∷ A) m sound held apart =
     let here = and-parts (ltb p n && vacant A p) (isSound n A) .0 sound in

@@ -19,12 +19,12 @@ use mathlib.Core.List.{List, [], _∷_}
 use mathlib.Core.Path.{_≡_, refl}
 use lib.Dec.{T, lit<, lit≤}
 use lib.ListN.{getD}
-use Rattle.order.specs.Floor.{Floor, isPair, among, joined}
-use Rattle.order.specs.Order.{some}
+use Rattle.order.specs.Floor.{Floor, some, isPair, joined}
 use Rattle.motion.specs.Arrangement.{Arrangement, occupied, vacant}
 use Rattle.motion.specs.Move.{onFloor, legalMove, faultBy, moveFault, goesTo, after, afterMove}
 use Rattle.motion.specs.Step.{leaves, enters}
-use Rattle.motion.specs.Replay.{ended, stopped, replayFrom, replayMoves, trace}
+use Rattle.motion.specs.Replay.{ended, stopped, replayFrom, replayMoves}
+use Rattle.motion.proofs.TraceLaws.{trace}
 use Rattle.motion.proofs.Lawful.{Leads, Stops, replayMoves-ended, replayMoves-stopped}
 use Rattle.motion.proofs.MoveLaws.{turned}
 use Rattle.motion.proofs.Reversal.{undo, leads-undo}
@@ -50,29 +50,29 @@ abbrev pub plan : List (ℕ × ℕ)
 plan = (0, 1) ∷ (3, 2) ∷ (2, 0) ∷ (1, 3) ∷ []
 
 pub plan-replayed : replayMoves floorF starts plan ≡ ended goals
-unfolding replayMoves replayFrom moveFault faultBy onFloor joined among isPair occupied vacant afterMove after goesTo
+unfolding replayMoves replayFrom moveFault faultBy onFloor joined some isPair occupied vacant afterMove after goesTo
 plan-replayed = refl
 
 pub plan-leads : Leads floorF starts plan goals
 plan-leads = replayMoves-ended floorF starts plan goals .0 plan-replayed
 
 pub plan-stopped : replayMoves floorF starts ((0, 1) ∷ (3, 0) ∷ []) ≡ stopped 32 2
-unfolding replayMoves replayFrom moveFault faultBy onFloor joined among isPair occupied vacant afterMove after goesTo
+unfolding replayMoves replayFrom moveFault faultBy onFloor joined some isPair occupied vacant afterMove after goesTo
 plan-stopped = refl
 
 pub plan-stops : Stops (moveFault floorF) (legalMove floorF) afterMove 1 starts ((0, 1) ∷ (3, 0) ∷ []) 32 2
 plan-stops = replayMoves-stopped floorF starts ((0, 1) ∷ (3, 0) ∷ []) 32 2 .0 plan-stopped
 
 pub starts-sound : Sound 4 starts
-unfolding isSound occupied vacant
+unfolding isSound occupied some vacant
 starts-sound = isSound-sound 4 starts .0 tt
 
 pub goals-sound : Sound 4 goals
-unfolding isSound occupied vacant
+unfolding isSound occupied some vacant
 goals-sound = isSound-sound 4 goals .0 tt
 
 pub full-sound : Sound 4 (0 ∷ 1 ∷ 2 ∷ 3 ∷ [])
-unfolding isSound occupied vacant
+unfolding isSound occupied some vacant
 full-sound = isSound-sound 4 (0 ∷ 1 ∷ 2 ∷ 3 ∷ []) .0 tt
 
 pub plan-undone : Leads floorF goals ((3, 1) ∷ (0, 2) ∷ (2, 3) ∷ (1, 0) ∷ []) starts
@@ -103,7 +103,7 @@ unfolding pick
 plan-renamed = leads-renamed (1 ∷ 0 ∷ []) floorF names-exchanged plan-leads
 
 pub aside-leads : Leads floorF (1 ∷ 3 ∷ []) ((1, 0) ∷ []) starts
-unfolding replayMoves replayFrom moveFault faultBy onFloor joined among isPair occupied vacant afterMove after goesTo
+unfolding replayMoves replayFrom moveFault faultBy onFloor joined some isPair occupied vacant afterMove after goesTo
 aside-leads = replayMoves-ended floorF (1 ∷ 3 ∷ []) ((1, 0) ∷ []) starts .0 refl
 
 -- the racks at 1 and 3 exchanged: rack 1 moves to 0, then the plan, then back
@@ -112,11 +112,11 @@ unfolding exchange undo turned
 exchange-conjugated = conjugate-exchange floorF 0 1 (lit< tt) (lit< tt) aside-leads plan-leads
 
 pub detour-leads : Leads floorF starts ((3, 1) ∷ (1, 3) ∷ (0, 1) ∷ []) (1 ∷ 3 ∷ [])
-unfolding replayMoves replayFrom moveFault faultBy onFloor joined among isPair occupied vacant afterMove after goesTo
+unfolding replayMoves replayFrom moveFault faultBy onFloor joined some isPair occupied vacant afterMove after goesTo
 detour-leads = replayMoves-ended floorF starts ((3, 1) ∷ (1, 3) ∷ (0, 1) ∷ []) (1 ∷ 3 ∷ []) .0 refl
 
 pub carried-away : Leads floorF starts ((3, 1) ∷ (1, 3) ∷ (0, 1) ∷ (1, 2) ∷ (3, 1) ∷ (1, 3) ∷ []) (2 ∷ 3 ∷ [])
-unfolding othersMoves undo turned enters some joined among isPair occupied vacant afterMove after goesTo
+unfolding othersMoves undo turned enters some joined isPair occupied vacant afterMove after goesTo
 carried-away = conjugate-carry floorF 0 2 starts-sound (lit< tt) tt tt detour-leads (lit< tt) tt
 
 pub untouched-kept : (getD starts 1 0 ≡ 3) × T (vacant (1 ∷ 3 ∷ []) 2)
@@ -124,5 +124,5 @@ unfolding leaves enters some occupied vacant
 untouched-kept = (rack-stays floorF 1 aside-leads (lit< tt) tt, vacant-before floorF 2 aside-leads tt tt)
 
 pub plan-dropped : Leads floorF (0 ∷ []) ((0, 1) ∷ (1, 3) ∷ []) (3 ∷ [])
-unfolding movesOf occupied afterMove after goesTo
+unfolding movesOf occupied some afterMove after goesTo
 plan-dropped = leads-dropped floorF (0 ∷ []) (3 ∷ []) (3 ∷ []) (0 ∷ []) refl plan-leads

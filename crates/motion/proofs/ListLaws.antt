@@ -3,6 +3,7 @@
 --     by-member          a member of x ∷ l is x, or a member of l
 --     pairwise-more      one element more, where it stands in the relation to each of the others
 --     pairwise-rel       the relation holds between the first element and each other
+--     KeysDiffer key l   no two elements of l, at different places, have the same key
 --     keys-same          then two elements that have the same key are the same
 --     keys-nodup         and the list of the keys is without repetition
 --     getD-in            an element of the list is a member
@@ -12,7 +13,7 @@
 -- Assumes nothing.
 use Prim.Native.Nat.{ℕ, zero, suc, _≤_, _<_}
 use mathlib.Core.Path.{_≡_, refl, sym, _∙_, ap}
-use mathlib.Core.Logic.{∥∥₁-elim, ∥∥₁-map}
+use mathlib.Core.Logic.{_≢_, ∥∥₁-elim, ∥∥₁-map}
 use mathlib.Core.HLevel.{¬-prop}
 use mathlib.Core.List.{List, [], _∷_, map, Memᴰ·of-map, List·Memᴰ, List·Memᴰ·head, List·Memᴰ·tail, List·Memᴰ·not-nil, Pairwise}
 use mathlib.Core.List.{Pairwise·nil, Pairwise·cons, Pairwise·of-cons, rel-of-pairwise-cons, List·Nodup}
@@ -21,7 +22,6 @@ use native.Mathlib.Omega.{arith}
 use native.Mathlib.Bridge.{fromℕ, from-le}
 use lib.ListN.{length, getD}
 use Rattle.sets.proofs.CountLaws.{pigeonhole as numbers-below}
-use Rattle.motion.specs.StepTests.{KeysDiffer}
 
 pub by-member : {X C : Type 0} {x y : X} {l : List X} → List·Memᴰ y (x ∷ l) → (y ≡ x → C) → (List·Memᴰ y l → C) → C
 by-member (List·Memᴰ·head e) first later = first e
@@ -34,6 +34,9 @@ module _ {X : Type 0} {R : X → X → Type 0} where
 
   pub pairwise-rel : {x y : X} {l : List X} → Pairwise R (x ∷ l) → List·Memᴰ y l → R x y
   pairwise-rel p k = rel-of-pairwise-cons p ∣ k ∣₁
+
+abbrev pub KeysDiffer : {X : Type 0} → (X → ℕ) → List X → Type 0
+KeysDiffer {X} key l = Pairwise (λ (x y : X). key x ≢ key y) l
 
 module _ {X : Type 0} (key : X → ℕ) where
   pub keys-same : {x y : X} (l : List X) → KeysDiffer key l → List·Memᴰ x l → List·Memᴰ y l → key x ≡ key y → x ≡ y

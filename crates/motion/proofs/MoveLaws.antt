@@ -27,7 +27,7 @@ use lib.Dec.{T, eqb, ltb, ltb→lt, lt→ltb, lit≤}
 use lib.ListN.{length, getD, length-map}
 use lib.Seq.{ext-getD}
 use borrow.Author.Tests.{eq-eqb, ne-eqb}
-use Rattle.order.specs.Floor.{Floor, among, joined}
+use Rattle.order.specs.Floor.{Floor, some, isPair, joined}
 use Rattle.motion.specs.Arrangement.{Arrangement, occupied, vacant}
 use Rattle.motion.proofs.ArrangementLaws.{occupied-rack, vacant-racks, occupied-vacant}
 use Rattle.motion.specs.Move.{onFloor, legalMove, faultBy, moveFault, goesTo, after, afterMove}
@@ -35,7 +35,7 @@ use Rattle.motion.proofs.Test.{and-parts, equal?}
 
 pub joined-sym : (F : Floor) (a b : ℕ) → joined F a b ≡ joined F b a
 unfolding joined
-joined-sym F a b = or-comm (among (a, b) (F .edges)) (among (b, a) (F .edges))
+joined-sym F a b = or-comm (some (isPair (a, b)) (F .edges)) (some (isPair (b, a)) (F .edges))
 
 pub onFloor-parts : (F : Floor) (m : ℕ × ℕ) → T (onFloor F m) ↔ ((m .0 < F .positions) × (m .1 < F .positions) × T (joined F (m .0) (m .1)))
 unfolding onFloor

@@ -26,7 +26,7 @@ use lib.Dec.{T, ltb, ltb→lt, lt→ltb}
 use lib.ListN.{length, getD, set, length-set}
 use lib.Seq.{ext-getD, getD-set-same, getD-set-other}
 use borrow.Author.Tests.{eq-eqb, ne-eqb}
-use Rattle.order.specs.Floor.{Floor}
+use Rattle.order.specs.Floor.{Floor, some}
 use Rattle.motion.specs.Arrangement.{Arrangement, occupied, vacant}
 use Rattle.motion.proofs.ArrangementLaws.{occupied-rack, vacant-racks, occupied-vacant}
 use Rattle.motion.specs.Move.{legalMove, afterMove}
@@ -144,11 +144,11 @@ module _ (n q : ℕ) (A : Arrangement) (s : Sound n (q ∷ A)) where
   first-vacant = vacant-racks A q .1 (λ i h e. let c : 0 ≡ suc i = s .apart 0 (suc i) (omega arith) (omega arith) (sym e) in omega arith)
 
   first-occupied : T (not (vacant (q ∷ A) q))
-  unfolding vacant occupied
+  unfolding vacant occupied some
   first-occupied = rw (eq-eqb q q refl) tt
 
   first-other : (p : ℕ) → p ≢ q → vacant A p ≡ vacant (q ∷ A) p
-  unfolding vacant occupied
+  unfolding vacant occupied some
   first-other p h = rw (ne-eqb q p (λ c. h (sym c)))
 
   first-counted : count (vacant A) n ≡ suc (count (vacant (q ∷ A)) n)

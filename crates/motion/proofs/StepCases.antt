@@ -24,12 +24,12 @@ use mathlib.Core.Bool.{false}
 use mathlib.Core.List.{List, [], _∷_, List·Memᴰ, List·Memᴰ·head, List·Memᴰ·tail}
 use native.Mathlib.Omega.{arith}
 use lib.Dec.{T}
-use Rattle.order.specs.Floor.{Floor, isPair, among, joined}
-use Rattle.order.specs.Order.{some}
+use Rattle.order.specs.Floor.{Floor, some, isPair, joined}
 use Rattle.motion.specs.Arrangement.{Arrangement, occupied, vacant}
 use Rattle.motion.specs.Move.{onFloor, goesTo, after}
 use Rattle.motion.specs.Step.{every, ascends, leaves, enters, enteredOnce, led, legalStep}
-use Rattle.motion.specs.Replay.{Replayed, ended, stopped, replayFrom, unlessLegal, stepFault, replaySteps, trace}
+use Rattle.motion.specs.Replay.{Replayed, ended, stopped, replayFrom, unlessLegal, stepFault, replaySteps}
+use Rattle.motion.proofs.TraceLaws.{trace}
 use Rattle.motion.specs.Problem.{UniquelyInvertible, Instance}
 use Rattle.motion.specs.ParallelPathFinding.{Solution}
 use Rattle.motion.proofs.Trains.{led-closed}
@@ -50,13 +50,13 @@ abbrev pub timetable : List (List (ℕ × ℕ))
 timetable = ((0, 1) ∷ (3, 2) ∷ []) ∷ ((1, 3) ∷ (2, 0) ∷ []) ∷ []
 
 pub starts-valid : UniquelyInvertible floorF 2 starts
-unfolding isValid separate every vacant occupied
+unfolding isValid separate every vacant occupied some
 starts-valid = isValid-iff floorF starts .0 tt
 
 -- a replay on that floor, with all that it computes by
 unfoldable steps-open : Arrangement → List (List (ℕ × ℕ)) → Replayed
-unfolding replaySteps replayFrom stepFault unlessLegal legalStep? by-test legalStep ascends every onFloor joined among isPair occupied
-    enteredOnce enters led leaves some vacant goesTo after
+unfolding replaySteps replayFrom stepFault unlessLegal legalStep? by-test legalStep ascends every onFloor joined some isPair occupied
+    enteredOnce enters led leaves vacant goesTo after
 steps-open A steps = replaySteps (legalStep? floorF) A steps
 
 pub case-1 : replaySteps (legalStep? floorF) starts timetable ≡ ended goals
@@ -81,15 +81,15 @@ unfolding steps-open
 case-2 = refl
 
 pub case-2-legal : LegalStep floorF (0 ∷ 1 ∷ []) ((0, 1) ∷ (1, 3) ∷ [])
-unfolding legalStep ascends every onFloor joined among isPair occupied enteredOnce enters led leaves some vacant goesTo
+unfolding legalStep ascends every onFloor joined some isPair occupied enteredOnce enters led leaves vacant goesTo
 case-2-legal = legalStep-iff floorF (0 ∷ 1 ∷ []) ((0, 1) ∷ (1, 3) ∷ []) .0 tt
 
 pub case-2-train : Train (0 ∷ 1 ∷ []) ((0, 1) ∷ (1, 3) ∷ []) 2 (0, 1)
-unfolding vacant occupied
+unfolding vacant occupied some
 case-2-train = follows (List·Memᴰ·head refl) refl (leader (List·Memᴰ·tail (List·Memᴰ·head refl)) tt)
 
 pub case-2-change : Change floorF 2 (0 ∷ 1 ∷ []) (1 ∷ 3 ∷ [])
-unfolding isValid separate every vacant occupied after goesTo
+unfolding isValid separate every vacant occupied some after goesTo
 case-2-change = legal-change (isValid-iff floorF (0 ∷ 1 ∷ []) .0 tt) case-2-legal
 
 -- case 3: racks at 0, 1, 2
@@ -115,7 +115,7 @@ case-3-ring-never s = no-turn s ring 2 refl turns
 
 -- its chain goes round through positions that all hold racks, so it finds no leader however long it is followed
 pub case-3-no-leader : (k : ℕ) → T (led k ((0, 1) ∷ (1, 2) ∷ (2, 0) ∷ []) (0 ∷ 1 ∷ 2 ∷ []) 1) → ⊥
-unfolding vacant occupied goesTo
+unfolding vacant occupied some goesTo
 case-3-no-leader k t = led-closed (0 ∷ 1 ∷ 2 ∷ []) ((0, 1) ∷ (1, 2) ∷ (2, 0) ∷ []) (λ p. p < 3) round k 1 (omega arith) t
   where
     round : (p : ℕ) → p < 3 → (T (vacant (0 ∷ 1 ∷ 2 ∷ []) p) → ⊥) × (goesTo ((0, 1) ∷ (1, 2) ∷ (2, 0) ∷ []) p < 3)
@@ -131,9 +131,9 @@ case-3-swap = refl
 -- two racks into one position; a full floor
 
 pub meeting : legalStep floorF (0 ∷ 2 ∷ []) ((0, 1) ∷ (2, 1) ∷ []) ≡ false
-unfolding legalStep ascends every onFloor joined among isPair occupied enteredOnce enters led leaves some vacant goesTo
+unfolding legalStep ascends every onFloor joined some isPair occupied enteredOnce enters led leaves vacant goesTo
 meeting = refl
 
 pub full : UniquelyInvertible floorF 4 (2 ∷ 0 ∷ 3 ∷ 1 ∷ [])
-unfolding isValid separate every vacant occupied
+unfolding isValid separate every vacant occupied some
 full = isValid-iff floorF (2 ∷ 0 ∷ 3 ∷ 1 ∷ []) .0 tt

@@ -27,8 +27,8 @@ use Rattle.motion.specs.Move.{goesTo, after}
 use Rattle.motion.specs.Problem.{IsRack, UniquelyInvertible, AlongEdges}
 use Rattle.motion.specs.ParallelPathFinding.{RackChain, InChains}
 use Rattle.motion.proofs.ListLaws.{keys-same}
-use Rattle.motion.proofs.StepTestsLaws.{left, vacant-iff, Goes, taken, stays, goesTo-cases, goesTo-takes, goesTo-stays}
-use Rattle.motion.specs.StepTests.{entered, Ascends, EnteredOnce, OnFloor}
+use Rattle.motion.proofs.StepTestsLaws.{left, vacant-iff, Goes, taken, stays, goesTo-cases, goesTo-takes, goesTo-stays, entered}
+use Rattle.motion.specs.StepTests.{Ascends, EnteredOnce, OnFloor}
 use Rattle.motion.proofs.Trains.{train-member}
 use Rattle.motion.specs.LegalStep.{Train, leader, follows, LegalStep}
 use Rattle.motion.proofs.LegalStepLaws.{legal-move}

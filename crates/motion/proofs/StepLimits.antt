@@ -24,8 +24,7 @@ use Rattle.motion.specs.Arrangement.{Arrangement}
 use Rattle.motion.specs.Move.{after}
 use Rattle.motion.specs.Problem.{UniquelyInvertible}
 use Rattle.motion.proofs.ListLaws.{by-member, pairwise-more, pigeonhole, pigeonhole-below, keys-same, keys-nodup}
-use Rattle.motion.proofs.StepTestsLaws.{left, vacant-iff, left-differ}
-use Rattle.motion.specs.StepTests.{entered}
+use Rattle.motion.proofs.StepTestsLaws.{left, vacant-iff, left-differ, entered}
 use Rattle.motion.proofs.Trains.{train-member}
 use Rattle.motion.specs.LegalStep.{Train, leader, follows, LegalStep}
 use Rattle.motion.proofs.LegalStepLaws.{legal-nothing}

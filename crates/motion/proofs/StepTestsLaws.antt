@@ -32,17 +32,19 @@ use native.Mathlib.Nat.{lt-irrefl}
 use lib.Dec.{T, ltb, eqb, ltb→lt, lt→ltb, eqb→eq, eqb-refl, T-not, not-T}
 use mir.Facts.{and-yes, yes-and, or-yes}
 use borrow.Author.Tests.{eq-eqb, ne-eqb}
-use Rattle.order.specs.Floor.{Floor}
-use Rattle.order.specs.Order.{some}
+use Rattle.order.specs.Floor.{Floor, some}
 use Rattle.motion.specs.Arrangement.{Arrangement, occupied, vacant}
 use Rattle.motion.specs.Move.{onFloor, goesTo}
 use Rattle.motion.proofs.MoveLaws.{onFloor-parts}
 use Rattle.motion.specs.Step.{every, ascends, leaves, enters, enteredOnce}
-use Rattle.motion.proofs.ListLaws.{by-member, pairwise-more, pairwise-rel, keys-same}
-use Rattle.motion.specs.StepTests.{KeysDiffer, entered, Ascends, EnteredOnce, OnFloor}
+use Rattle.motion.proofs.ListLaws.{by-member, pairwise-more, pairwise-rel, keys-same, KeysDiffer}
+use Rattle.motion.specs.StepTests.{Ascends, EnteredOnce, OnFloor}
 
 abbrev pub left : ℕ × ℕ → ℕ
 left m = m .0
+
+abbrev pub entered : ℕ × ℕ → ℕ
+entered m = m .1
 
 pub or-left : (a b : Bool) → T a → T (a || b)
 or-left true b t = tt
@@ -72,15 +74,9 @@ key-iff key l p =
       λ w. s .1 (w .0, w .1, subst (λ (k : ℕ). T (eqb (key (w .0)) k)) (w .2) (eqb-refl (key (w .0)))),
     )
 
-occupied-some : (A : Arrangement) (p : ℕ) → occupied A p ≡ some (λ (q : ℕ). eqb q p) A
-unfolding occupied some
-occupied-some [] p = refl
-occupied-some (q ∷ A) p = ap (λ (b : Bool). eqb q p || b) (occupied-some A p)
-
 pub occupied-iff : (A : Arrangement) (p : ℕ) → T (occupied A p) ↔ List·Memᴰ p A
-occupied-iff A p =
-    let f = key-iff (λ (q : ℕ). q) A p in
-    rw (occupied-some A p) (λ t. let w = f .0 t in Memᴰ·cast (sym (w .2)) (w .1), λ k. f .1 (p, k, refl))
+unfolding occupied
+occupied-iff A p = let f = key-iff (λ (q : ℕ). q) A p in (λ t. let w = f .0 t in Memᴰ·cast (sym (w .2)) (w .1), λ k. f .1 (p, k, refl))
 
 pub vacant-iff : (A : Arrangement) (p : ℕ) → T (vacant A p) ↔ (List·Memᴰ p A → ⊥)
 unfolding vacant

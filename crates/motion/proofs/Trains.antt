@@ -32,9 +32,9 @@ use Rattle.motion.specs.Move.{goesTo}
 use Rattle.motion.specs.Step.{leaves, led}
 use Rattle.motion.specs.LegalStep.{Train, leader, follows}
 use Rattle.motion.proofs.ListLaws.{by-member, pairwise-more, pigeonhole, keys-same}
-use Rattle.motion.proofs.StepTestsLaws.{left, or-left, or-right, left-differ, vacant-iff, leaves-iff, Goes, taken, stays}
+use Rattle.motion.proofs.StepTestsLaws.{left, or-left, or-right, left-differ, vacant-iff, leaves-iff, Goes, taken, stays, entered}
 use Rattle.motion.proofs.StepTestsLaws.{goesTo-cases, goesTo-takes}
-use Rattle.motion.specs.StepTests.{entered, Ascends}
+use Rattle.motion.specs.StepTests.{Ascends}
 
 module _ (A : Arrangement) (ms : List (ℕ × ℕ)) where
   pub data Chain : ℕ → List ℕ → Type 0 where

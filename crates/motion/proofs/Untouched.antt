@@ -14,8 +14,7 @@ use mathlib.Core.Logic.{inl, inr, ⊎-elim, _≢_}
 use mathlib.Core.Path.{_≡_, refl, sym, _∙_}
 use lib.Dec.{T, eqb}
 use lib.ListN.{length, getD}
-use Rattle.order.specs.Floor.{Floor}
-use Rattle.order.specs.Order.{some}
+use Rattle.order.specs.Floor.{Floor, some}
 use Rattle.motion.specs.Arrangement.{Arrangement, vacant}
 use Rattle.motion.proofs.ArrangementLaws.{vacant-racks}
 use Rattle.motion.proofs.Lawful.{Leads, still, _then_}

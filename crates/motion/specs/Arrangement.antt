@@ -9,10 +9,11 @@
 --     rackAt A p       the rack that stands at p, racks counted from 1; 0 where none does
 -- Assumes nothing.
 use Prim.Native.Nat.{ℕ, suc, _-_}
-use mathlib.Core.Bool.{Bool, false, not, cond, _||_}
+use mathlib.Core.Bool.{Bool, not, cond}
 use mathlib.Core.List.{List, [], _∷_}
 use lib.ListN.{getD}
 use lib.Dec.{eqb}
+use Rattle.order.specs.Floor.{some}
 
 abbrev pub Arrangement : Type 0
 Arrangement = List ℕ
@@ -21,8 +22,7 @@ unfoldable pub stands : Arrangement → ℕ → ℕ
 stands A r = getD A (r - 1) 0
 
 unfoldable pub occupied : Arrangement → ℕ → Bool
-occupied [] p = false
-occupied (q ∷ A) p = eqb q p || occupied A p
+occupied A p = some (λ q. eqb q p) A
 
 unfoldable pub vacant : Arrangement → ℕ → Bool
 vacant A p = not (occupied A p)

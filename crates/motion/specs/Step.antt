@@ -14,8 +14,7 @@ use mathlib.Core.Bool.{Bool, true, not, _&&_, _||_}
 use mathlib.Core.List.{List, [], _∷_}
 use lib.ListN.{length}
 use lib.Dec.{ltb, eqb}
-use Rattle.order.specs.Floor.{Floor}
-use Rattle.order.specs.Order.{some}
+use Rattle.order.specs.Floor.{Floor, some}
 use Rattle.motion.specs.Arrangement.{Arrangement, occupied, vacant}
 use Rattle.motion.specs.Move.{onFloor, goesTo}
 

@@ -1,22 +1,14 @@
 -- What the tests of `Arrangement`, `Move` and `Step` say, as plain statements. proofs/StepTestsLaws.antt has an equivalence for each.
 --
---     KeysDiffer key l   no two elements of l, at different places, have the same key
---     entered m              the position that the move m enters
---     Ascends ms             of two moves, the one listed first leaves the lower position
---     EnteredOnce ms         two moves, at different places, enter different positions
---     OnFloor F m            both positions are below n and an edge joins them
+--     Ascends ms        of two moves, the one listed first leaves the lower position
+--     EnteredOnce ms    two moves, at different places, enter different positions
+--     OnFloor F m       both positions are below n and an edge joins them
 -- Assumes nothing.
 use Prim.Native.Nat.{ℕ, _<_}
 use mathlib.Core.Logic.{_≢_}
 use mathlib.Core.List.{List, Pairwise}
 use lib.Dec.{T}
 use Rattle.order.specs.Floor.{Floor, joined}
-
-abbrev pub KeysDiffer : {X : Type 0} → (X → ℕ) → List X → Type 0
-KeysDiffer {X} key l = Pairwise (λ (x y : X). key x ≢ key y) l
-
-abbrev pub entered : ℕ × ℕ → ℕ
-entered m = m .1
 
 -- "its moves ascend strictly by position left"
 abbrev pub Ascends : List (ℕ × ℕ) → Type 0

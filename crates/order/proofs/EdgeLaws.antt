@@ -8,8 +8,8 @@
 --     ascending-first        the first edge of an ascending list comes before all others
 --     rest-ascends           the rest of an ascending list ascends
 --     same-set               two ascending lists of the same edges are the same list
---     good-among             an edge of a list without bad edges is lower first, its positions below n
---     among-joined           where all edges are lower first, those of the list are the pairs that are joined, lower first
+--     good-edge              an edge of a list without bad edges is lower first, its positions below n
+--     edge-joined            where all edges are lower first, those of the list are the pairs that are joined, lower first
 -- Assumes nothing.
 use Prim.Native.Nat.{ℕ, _+_, _*_, _≤_, _<_}
 use mathlib.Core.Path.{_≡_, refl, sym, ap, ap₂, _∙_}
@@ -22,8 +22,8 @@ use borrow.Author.Tests.{le-leb, lt-leb, lt-ltb, le-ltb, eq-eqb, ne-eqb, eqb-tru
 use lib.Dec.{leb, ltb, eqb}
 use Rattle.field.specs.Bytes.{BelowPairs, more₂}
 use Rattle.field.proofs.UnitLaws.{or-left, or-right}
-use Rattle.order.specs.Floor.{Floor, isPair, among, joined}
-use Rattle.order.specs.Order.{some, badEdge, precedes, ascending}
+use Rattle.order.specs.Floor.{Floor, some, isPair, joined}
+use Rattle.order.specs.Order.{badEdge, precedes, ascending}
 
 -- the place of an edge in the order of edges
 abbrev pub place : ℕ × ℕ → ℕ
@@ -108,9 +108,9 @@ places-ascend e f he hf p = leb-false (place f) (place e) (flip (leb (place f) (
     flip true h = sym h
     flip false h = refl
 
-pub ascending-first : (e f : ℕ × ℕ) (l : List (ℕ × ℕ)) → e .1 < 64 → BelowPairs 64 l → ascending (e ∷ l) ≡ true → among f l ≡ true
+pub ascending-first : (e f : ℕ × ℕ) (l : List (ℕ × ℕ)) → e .1 < 64 → BelowPairs 64 l → ascending (e ∷ l) ≡ true → some (isPair f) l ≡ true
     → place e < place f
-unfolding ascending among
+unfolding ascending some
 ascending-first e f [] he b a m = absurd (never (sym m))
 ascending-first e f (g ∷ l) he (more₂ h₀ h₁ b) a m =
     by (isPair f g) refl (λ k. ascending-first g f l h₁ b (and-right (precedes e g) (ascending (g ∷ l)) a) k)
@@ -118,7 +118,7 @@ ascending-first e f (g ∷ l) he (more₂ h₀ h₁ b) a m =
     first : place e < place g
     first = places-ascend e g he h₁ (and-left (precedes e g) (ascending (g ∷ l)) a)
 
-    by : (t : Bool) → isPair f g ≡ t → (among f l ≡ true → place g < place f) → place e < place f
+    by : (t : Bool) → isPair f g ≡ t → (some (isPair f) l ≡ true → place g < place f) → place e < place f
     by true h later = rw (isPair-is f g h) first
     by false h later = omega (arith, first, later (rw h at m))
 
@@ -128,16 +128,16 @@ rest-ascends e [] a = refl
 rest-ascends e (f ∷ l) a = and-right (precedes e f) (ascending (f ∷ l)) a
 
 -- the first edge of an ascending list stands in it once
-not-again : (e : ℕ × ℕ) (l : List (ℕ × ℕ)) → e .1 < 64 → BelowPairs 64 l → ascending (e ∷ l) ≡ true → among e l ≡ false
-not-again e l h b a = by (among e l) refl
+not-again : (e : ℕ × ℕ) (l : List (ℕ × ℕ)) → e .1 < 64 → BelowPairs 64 l → ascending (e ∷ l) ≡ true → some (isPair e) l ≡ false
+not-again e l h b a = by (some (isPair e) l) refl
   where
-    by : (t : Bool) → among e l ≡ t → among e l ≡ false
+    by : (t : Bool) → some (isPair e) l ≡ t → some (isPair e) l ≡ false
     by true m = absurd (omega (arith, ascending-first e e l h b a m))
     by false m = m
 
 pub same-set : (l m : List (ℕ × ℕ)) → BelowPairs 64 l → BelowPairs 64 m → ascending l ≡ true → ascending m ≡ true
-    → ((e : ℕ × ℕ) → among e l ≡ among e m) → l ≡ m
-unfolding among
+    → ((e : ℕ × ℕ) → some (isPair e) l ≡ some (isPair e) m) → l ≡ m
+unfolding some
 same-set [] [] bl bm al am h = refl
 same-set [] (y ∷ m) bl bm al am h = absurd (never (sym (h y ∙ rw (isPair-same y) refl)))
 same-set (x ∷ l) [] bl bm al am h = absurd (never (sym (rw (isPair-same x) refl) ∙ h x))
@@ -145,7 +145,7 @@ same-set (x ∷ l) (y ∷ m) (more₂ hx₀ hx₁ bl) (more₂ hy₀ hy₁ bm) a
     ap₂ (λ (e : ℕ × ℕ) (k : List (ℕ × ℕ)). e ∷ k) first (same-set l m bl bm (rest-ascends x l al) (rest-ascends y m am) tails)
   where
     -- an edge of one list is not before the other's first
-    not-before : (u v : ℕ × ℕ) (k : List (ℕ × ℕ)) → v .1 < 64 → BelowPairs 64 k → ascending (v ∷ k) ≡ true → among u (v ∷ k) ≡ true
+    not-before : (u v : ℕ × ℕ) (k : List (ℕ × ℕ)) → v .1 < 64 → BelowPairs 64 k → ascending (v ∷ k) ≡ true → some (isPair u) (v ∷ k) ≡ true
         → place v ≤ place u
     not-before u v k hv bk ak m = by (isPair u v) refl
       where
@@ -168,44 +168,46 @@ same-set (x ∷ l) (y ∷ m) (more₂ hx₀ hx₁ bl) (more₂ hy₀ hy₁ bm) a
     first : x ≡ y
     first = ap₂ (λ (a b : ℕ). (a, b)) first₀ first₁
 
-    tails : (e : ℕ × ℕ) → among e l ≡ among e m
+    tails : (e : ℕ × ℕ) → some (isPair e) l ≡ some (isPair e) m
     tails e = by (isPair e x) refl
       where
-        by : (t : Bool) → isPair e x ≡ t → among e l ≡ among e m
+        by : (t : Bool) → isPair e x ≡ t → some (isPair e) l ≡ some (isPair e) m
         by true p =
-            ap (λ (f : ℕ × ℕ). among f l) (isPair-is e x p)
+            ap (λ (f : ℕ × ℕ). some (isPair f) l) (isPair-is e x p)
             ∙ not-again x l hx₁ bl al
             ∙ sym (not-again y m hy₁ bm am)
-            ∙ ap (λ (f : ℕ × ℕ). among f m) (sym first ∙ sym (isPair-is e x p))
+            ∙ ap (λ (f : ℕ × ℕ). some (isPair f) m) (sym first ∙ sym (isPair-is e x p))
         by false p = sym (rw p refl) ∙ h e ∙ rw (rw first at p) refl
 
 -- an edge of a list without bad edges is lower first, its positions below n
-pub good-among : (n : ℕ) (e : ℕ × ℕ) (l : List (ℕ × ℕ)) → some (badEdge n) l ≡ false → among e l ≡ true → (e .0 < e .1) × (e .1 < n)
-unfolding some among
-good-among n e [] g m = absurd (never (sym m))
-good-among n e (f ∷ l) g m = by (isPair e f) refl (λ k. good-among n e l (or-right (badEdge n f) (some (badEdge n) l) g) k)
+pub good-edge : (n : ℕ) (e : ℕ × ℕ) (l : List (ℕ × ℕ)) → some (badEdge n) l ≡ false → some (isPair e) l ≡ true → (e .0 < e .1) × (e .1 < n)
+unfolding some
+good-edge n e [] g m = absurd (never (sym m))
+good-edge n e (f ∷ l) g m = by (isPair e f) refl (λ k. good-edge n e l (or-right (badEdge n f) (some (badEdge n) l) g) k)
   where
     good : (leb (f .1) (f .0) || leb n (f .1)) ≡ false
     good = sym (bad-is n f) ∙ or-left (badEdge n f) (some (badEdge n) l) g
 
-    by : (t : Bool) → isPair e f ≡ t → (among e l ≡ true → (e .0 < e .1) × (e .1 < n)) → (e .0 < e .1) × (e .1 < n)
+    by : (t : Bool) → isPair e f ≡ t → (some (isPair e) l ≡ true → (e .0 < e .1) × (e .1 < n)) → (e .0 < e .1) × (e .1 < n)
     by true h later = rw (isPair-is e f h) (
       leb-false (f .1) (f .0) (or-left (leb (f .1) (f .0)) (leb n (f .1)) good),
       leb-false n (f .1) (or-right (leb (f .1) (f .0)) (leb n (f .1)) good),
     )
     by false h later = later (rw h at m)
 
-pub among-joined : (F : Floor) → some (badEdge (F .positions)) (F .edges) ≡ false → (a b : ℕ)
-    → among (a, b) (F .edges) ≡ (ltb a b && joined F a b)
+pub edge-joined : (F : Floor) → some (badEdge (F .positions)) (F .edges) ≡ false → (a b : ℕ)
+    → some (isPair (a, b)) (F .edges) ≡ (ltb a b && joined F a b)
 unfolding joined
-among-joined F g a b = elim (decLe b a) [
+edge-joined F g a b = elim (decLe b a) [
   | yes h ↦ rw (le-ltb a b h) (absent (a, b) h)
-  | no h ↦ rw (lt-ltb a b (lt-of-not-le h), absent (b, a) (omega (arith, lt-of-not-le h))) (sym (or-false (among (a, b) (F .edges))))
+  | no h ↦
+      rw (lt-ltb a b (lt-of-not-le h), absent (b, a) (omega (arith, lt-of-not-le h)))
+      (sym (or-false (some (isPair (a, b)) (F .edges))))
 ]
   where
-    absent : (e : ℕ × ℕ) → e .1 ≤ e .0 → among e (F .edges) ≡ false
-    absent e h = by (among e (F .edges)) refl
+    absent : (e : ℕ × ℕ) → e .1 ≤ e .0 → some (isPair e) (F .edges) ≡ false
+    absent e h = by (some (isPair e) (F .edges)) refl
       where
-        by : (t : Bool) → among e (F .edges) ≡ t → among e (F .edges) ≡ false
-        by true m = absurd (omega (arith, good-among (F .positions) e (F .edges) g m .0))
+        by : (t : Bool) → some (isPair e) (F .edges) ≡ t → some (isPair e) (F .edges) ≡ false
+        by true m = absurd (omega (arith, good-edge (F .positions) e (F .edges) g m .0))
         by false m = m

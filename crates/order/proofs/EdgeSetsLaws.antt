@@ -13,9 +13,9 @@ use native.Mathlib.Decide.{decLe, ℕ-discrete}
 use native.Mathlib.Nat.{lt-of-not-le}
 use borrow.Author.Tests.{lt-leb, lt-ltb, ltb-true}
 use lib.Dec.{ltb}
-use Rattle.order.specs.Floor.{isPair, among, joined}
-use Rattle.order.specs.Order.{some, badEdge, ascending, wrongEdges}
-use Rattle.order.proofs.EdgeLaws.{place, bad-is, precedes-is, isPair-same, isPair-is, and-left, and-right, good-among}
+use Rattle.order.specs.Floor.{some, isPair, joined}
+use Rattle.order.specs.Order.{badEdge, ascending, wrongEdges}
+use Rattle.order.proofs.EdgeLaws.{place, bad-is, precedes-is, isPair-same, isPair-is, and-left, and-right, good-edge}
 use Rattle.order.specs.EdgeSets.{IsRelation, pairOf, listed, isEdge, floorFrom}
 
 same-place : (i a b : ℕ) → b < 64 → i ≡ a * 64 + b → pairOf i ≡ (a, b)
@@ -58,37 +58,38 @@ module _ (test : ℕ → Bool) where
       by false a b = b
 
   -- a pair is listed just where its place is in the range and passes the test
-  listed-under : (k i a b : ℕ) → b < 64 → a * 64 + b < i → among (a, b) (listed test i k) ≡ false
-  unfolding listed among
+  listed-under : (k i a b : ℕ) → b < 64 → a * 64 + b < i → some (isPair (a, b)) (listed test i k) ≡ false
+  unfolding listed some
   listed-under zero i a b h l = refl
   listed-under (suc k) i a b h l = by (test i) (listed-under k (suc i) a b h (omega arith))
     where
-      by : (t : Bool) → among (a, b) (listed test (suc i) k) ≡ false
-          → among (a, b) (cond t (pairOf i ∷ listed test (suc i) k) (listed test (suc i) k)) ≡ false
+      by : (t : Bool) → some (isPair (a, b)) (listed test (suc i) k) ≡ false
+          → some (isPair (a, b)) (cond t (pairOf i ∷ listed test (suc i) k) (listed test (suc i) k)) ≡ false
       by true r = rw (other-place i a b (λ e. omega (arith, l, e)), r) refl
       by false r = r
 
-  listed-at : (k i a b : ℕ) → b < 64 → i ≤ a * 64 + b → a * 64 + b < i + k → among (a, b) (listed test i k) ≡ test (a * 64 + b)
-  unfolding listed among
+  listed-at : (k i a b : ℕ) → b < 64 → i ≤ a * 64 + b → a * 64 + b < i + k → some (isPair (a, b)) (listed test i k) ≡ test (a * 64 + b)
+  unfolding listed some
   listed-at zero i a b h l u = absurd (omega arith)
   listed-at (suc k) i a b h l u = elim (ℕ-discrete i (a * 64 + b)) [
     | yes e ↦ here e
     | no d ↦ later d (listed-at k (suc i) a b h (omega (arith, d)) (omega arith))
   ]
     where
-      here : i ≡ a * 64 + b → among (a, b) (cond (test i) (pairOf i ∷ listed test (suc i) k) (listed test (suc i) k)) ≡ test (a * 64 + b)
+      here : i ≡ a * 64 + b
+          → some (isPair (a, b)) (cond (test i) (pairOf i ∷ listed test (suc i) k) (listed test (suc i) k)) ≡ test (a * 64 + b)
       here e = by (test i) refl
         where
           by : (t : Bool) → test i ≡ t
-              → among (a, b) (cond t (pairOf i ∷ listed test (suc i) k) (listed test (suc i) k)) ≡ test (a * 64 + b)
+              → some (isPair (a, b)) (cond t (pairOf i ∷ listed test (suc i) k) (listed test (suc i) k)) ≡ test (a * 64 + b)
           by true p = rw (same-place i a b h e, isPair-same (a, b)) (sym (ap test (sym e) ∙ p))
           by false p = listed-under k (suc i) a b h (omega (arith, e)) ∙ sym (ap test (sym e) ∙ p)
 
-      later : (i ≡ a * 64 + b → ⊥) → among (a, b) (listed test (suc i) k) ≡ test (a * 64 + b)
-          → among (a, b) (cond (test i) (pairOf i ∷ listed test (suc i) k) (listed test (suc i) k)) ≡ test (a * 64 + b)
+      later : (i ≡ a * 64 + b → ⊥) → some (isPair (a, b)) (listed test (suc i) k) ≡ test (a * 64 + b)
+          → some (isPair (a, b)) (cond (test i) (pairOf i ∷ listed test (suc i) k) (listed test (suc i) k)) ≡ test (a * 64 + b)
       later d r = by (test i)
         where
-          by : (t : Bool) → among (a, b) (cond t (pairOf i ∷ listed test (suc i) k) (listed test (suc i) k)) ≡ test (a * 64 + b)
+          by : (t : Bool) → some (isPair (a, b)) (cond t (pairOf i ∷ listed test (suc i) k) (listed test (suc i) k)) ≡ test (a * 64 + b)
           by true = rw (other-place i a b d) r
           by false = r
 
@@ -125,17 +126,17 @@ module _ (n : ℕ) (E : ℕ → ℕ → Bool) where
         let remainder : (a * 64 + b) % 64 ≡ b = omega arith in
         rw (quotient, remainder, lt-ltb a b l, lt-ltb b n u) refl
 
-    listed-lower : (a b : ℕ) → a < b → b < n → among (a, b) (listed (isEdge n E) 0 4096) ≡ E a b
+    listed-lower : (a b : ℕ) → a < b → b < n → some (isPair (a, b)) (listed (isEdge n E) 0 4096) ≡ E a b
     listed-lower a b l u = listed-at (isEdge n E) 4096 0 a b (omega arith) (omega arith) (omega arith) ∙ edge-at a b l u
 
     -- no pair is listed that is not lower first and below n
-    listed-not : (a b : ℕ) → (b ≤ a) ⊎ (n ≤ b) → among (a, b) (listed (isEdge n E) 0 4096) ≡ false
-    listed-not a b h = by (among (a, b) (listed (isEdge n E) 0 4096)) refl
+    listed-not : (a b : ℕ) → (b ≤ a) ⊎ (n ≤ b) → some (isPair (a, b)) (listed (isEdge n E) 0 4096) ≡ false
+    listed-not a b h = by (some (isPair (a, b)) (listed (isEdge n E) 0 4096)) refl
       where
-        by : (t : Bool) → among (a, b) (listed (isEdge n E) 0 4096) ≡ t → among (a, b) (listed (isEdge n E) 0 4096) ≡ false
+        by : (t : Bool) → some (isPair (a, b)) (listed (isEdge n E) 0 4096) ≡ t → some (isPair (a, b)) (listed (isEdge n E) 0 4096) ≡ false
         by true m =
-            ⊎-elim (λ k. absurd (omega (arith, k, good-among n (a, b) (listed (isEdge n E) 0 4096) (none-bad 4096 0) m .0)))
-            (λ k. absurd (omega (arith, k, good-among n (a, b) (listed (isEdge n E) 0 4096) (none-bad 4096 0) m .1))) h
+            ⊎-elim (λ k. absurd (omega (arith, k, good-edge n (a, b) (listed (isEdge n E) 0 4096) (none-bad 4096 0) m .0)))
+            (λ k. absurd (omega (arith, k, good-edge n (a, b) (listed (isEdge n E) 0 4096) (none-bad 4096 0) m .1))) h
         by false m = m
 
     outside : (a b : ℕ) → n ≤ b → E a b ≡ false
@@ -146,7 +147,7 @@ module _ (n : ℕ) (E : ℕ → ℕ → Bool) where
         by false m = m
 
     -- lower first, an edge or not
-    one-way : (a b : ℕ) → a < b → among (a, b) (listed (isEdge n E) 0 4096) ≡ E a b
+    one-way : (a b : ℕ) → a < b → some (isPair (a, b)) (listed (isEdge n E) 0 4096) ≡ E a b
     one-way a b l = elim (decLe n b) [ yes h ↦ listed-not a b (inr h) ∙ sym (outside a b h) | no h ↦ listed-lower a b l (lt-of-not-le h) ]
 
     pub floorFrom-joined : (a b : ℕ) → joined (floorFrom n E) a b ≡ E a b

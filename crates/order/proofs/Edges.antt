@@ -22,9 +22,9 @@ use Rattle.field.specs.Bytes.{BelowPairs, more₂}
 use Rattle.field.proofs.BitLaws.{field-lt}
 use Rattle.field.proofs.RecordLaws.{pairs-lt, pairs-next}
 use Rattle.field.proofs.UnitLaws.{or-left}
-use Rattle.order.specs.Floor.{Floor}
+use Rattle.order.specs.Floor.{Floor, some}
 use Rattle.order.proofs.EdgeLaws.{place, bad-is, precedes-is}
-use Rattle.order.specs.Order.{some, badEdge, ascending, wrongEdges}
+use Rattle.order.specs.Order.{badEdge, ascending, wrongEdges}
 use Rattle.order.specs.Readers.{nextPlace, NextEdge}
 
 unfoldable pub wrongAfter : ℕ → ℕ → List (ℕ × ℕ) → Bool

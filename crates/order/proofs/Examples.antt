@@ -15,8 +15,9 @@ use Rattle.answers.specs.Answer.{accepted, refused}
 use Rattle.field.specs.Bits.{bits, number, bitsOf, field, pairs, positions, pairBits, positionBits, pad, padded, bytes, toBytes}
 use Rattle.field.specs.Units.{recordLength, misfits, unclean}
 use Rattle.field.specs.Front.{wholeLength}
+use Rattle.order.specs.Floor.{some}
 use Rattle.order.specs.Order.{Order, orderBits, orderRecord, positionCount, edgeCount, rackCount, unitCount, floorOf, startsOf}
-use Rattle.order.specs.Order.{goalsOf, orderOf, wrongLength, wrongPositions, paddingSet, some, badEdge, precedes, ascending}
+use Rattle.order.specs.Order.{goalsOf, orderOf, wrongLength, wrongPositions, paddingSet, badEdge, precedes, ascending}
 use Rattle.order.specs.Order.{wrongEdges, repeats, wrongPlaces, wrongRacks, counts, orderAnswer}
 use Rattle.order.specs.RecordLength.{orderLength, wholeOrderLength}
 use Rattle.order.proofs.RecordLengthLaws.{order-length-found}

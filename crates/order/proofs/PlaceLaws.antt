@@ -18,7 +18,8 @@ use Rattle.field.specs.Bytes.{Below, none, more}
 use Rattle.field.proofs.UnitLaws.{or-left, or-right}
 use Rattle.field.proofs.WholeBytes.{below-getD}
 use Rattle.sets.proofs.CountLaws.{pigeonhole}
-use Rattle.order.specs.Order.{some, repeats, wrongPlaces}
+use Rattle.order.specs.Floor.{some}
+use Rattle.order.specs.Order.{repeats, wrongPlaces}
 
 pub below-of : (n : ℕ) (l : List ℕ) → some (leb n) l ≡ false → Below n l
 unfolding some

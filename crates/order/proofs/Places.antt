@@ -20,7 +20,8 @@ use lib.Seq.{getD-set-same, getD-set-other}
 use lib.Dec.{leb, ltb, eqb}
 use Rattle.field.specs.Bits.{field, positions}
 use Rattle.field.proofs.RecordLaws.{positions-next}
-use Rattle.order.specs.Order.{some, repeats, wrongPlaces}
+use Rattle.order.specs.Floor.{some}
+use Rattle.order.specs.Order.{repeats, wrongPlaces}
 
 unfoldable pub flagged : List ℕ → ℕ → Bool
 flagged taken p = not (eqb (getD taken p 0) 0)

@@ -15,12 +15,12 @@ use borrow.Author.Tests.{eq-eqb, ne-eqb, ltb-true}
 use Rattle.field.specs.Bytes.{Bytes, BelowPairs}
 use Rattle.field.proofs.RecordLaws.{pairs-lt}
 use Rattle.field.proofs.UnitLaws.{or-left, or-right}
-use Rattle.order.specs.Floor.{Floor, joined}
-use Rattle.order.specs.Order.{Order, orderRecord, edgeCount, floorOf, orderOf, some, badEdge, ascending, wrongEdges, repeats}
+use Rattle.order.specs.Floor.{Floor, some, joined}
+use Rattle.order.specs.Order.{Order, orderRecord, edgeCount, floorOf, orderOf, badEdge, ascending, wrongEdges, repeats}
 use Rattle.order.specs.Order.{wrongPlaces, WellFormed}
 use Rattle.order.proofs.OrderLaws.{accepted-is}
 use Rattle.order.proofs.RecordOf.{record-of}
-use Rattle.order.proofs.EdgeLaws.{among-joined, same-set, and-left}
+use Rattle.order.proofs.EdgeLaws.{edge-joined, same-set, and-left}
 use Rattle.order.specs.EdgeSets.{IsRelation, listed, isEdge, floorFrom}
 use Rattle.order.proofs.EdgeSetsLaws.{floorFrom-right, floorFrom-joined}
 use Rattle.order.proofs.Written.{SoundOrder, record-read, record-sound}
@@ -39,9 +39,9 @@ same-edges F G f g bf bg h =
     (not-true (ascending (F .edges)) (or-right (some (badEdge (F .positions)) (F .edges)) (not (ascending (F .edges))) f))
     (not-true (ascending (G .edges)) (or-right (some (badEdge (G .positions)) (G .edges)) (not (ascending (G .edges))) g))
     (λ e.
-    among-joined F (or-left (some (badEdge (F .positions)) (F .edges)) (not (ascending (F .edges))) f) (e .0) (e .1)
+    edge-joined F (or-left (some (badEdge (F .positions)) (F .edges)) (not (ascending (F .edges))) f) (e .0) (e .1)
     ∙ ap (λ (t : Bool). ltb (e .0) (e .1) && t) (h (e .0) (e .1))
-    ∙ sym (among-joined G (or-left (some (badEdge (G .positions)) (G .edges)) (not (ascending (G .edges))) g) (e .0) (e .1)))
+    ∙ sym (edge-joined G (or-left (some (badEdge (G .positions)) (G .edges)) (not (ascending (G .edges))) g) (e .0) (e .1)))
 
 -- "Two different accepted order records never describe the same floor, starts and goals."
 pub one-record : (s t : List ℕ) → Bytes s → Bytes t → WellFormed s → WellFormed t → Same s t → s ≡ t

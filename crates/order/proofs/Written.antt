@@ -19,8 +19,9 @@ use Rattle.field.specs.Bytes.{BelowPairs, none₂, more₂}
 use Rattle.field.proofs.RecordLaws.{pairs-at, positions-at, length-pairBits, length-positionBits, bits-zero, bitsOf-toBytes}
 use Rattle.field.proofs.RecordLaws.{length-toBytes, padded-by}
 use Rattle.field.proofs.UnitLaws.{fits, clean, pad-after-head, or-left, or-right}
+use Rattle.order.specs.Floor.{some}
 use Rattle.order.specs.Order.{Order, orderBits, orderRecord, positionCount, edgeCount, rackCount, unitCount, floorOf, startsOf}
-use Rattle.order.specs.Order.{goalsOf, orderOf, wrongLength, paddingSet, some, badEdge, wrongEdges, ascending, wrongPlaces}
+use Rattle.order.specs.Order.{goalsOf, orderOf, wrongLength, paddingSet, badEdge, wrongEdges, ascending, wrongPlaces}
 use Rattle.order.specs.Order.{wrongRacks, WellFormed}
 use Rattle.order.proofs.OrderLaws.{right-positions}
 use Rattle.order.proofs.PlaceLaws.{places-below, below-more, few-places}

@@ -7,7 +7,6 @@
 --     floorOf s, startsOf s, goalsOf s, orderOf s          the floor, the starts and the goals that s describes, and all three
 --     unitCount s              how many positions follow the counts
 --     wrongLength s, wrongPositions s, paddingSet s        10, 11 and 12 apply to s
---     some test l              some element of l passes the test
 --     badEdge n e, precedes e f, ascending l, wrongEdges F what 13 says of an edge, of two, of all, and 13 itself
 --     repeats l, wrongPlaces n l, wrongRacks o             what 14 says of starts or goals, and 14 itself
 --     counts s                 n, e and m, the counts of an accepted order
@@ -24,7 +23,7 @@ use lib.Dec.{leb, ltb, eqb}
 use Rattle.answers.specs.Answer.{Answer, accepted, refuse}
 use Rattle.field.specs.Bits.{bits, field, pairs, positions, pairBits, positionBits, toBytes}
 use Rattle.field.specs.Units.{misfits, unclean}
-use Rattle.order.specs.Floor.{Floor}
+use Rattle.order.specs.Floor.{Floor, some}
 
 -- "An order gives each rack a start and a goal." Rack 1's come first.
 pub record Order : Type 0 where
@@ -83,11 +82,6 @@ wrongPositions s = eqb (positionCount s) 0 || ltb 64 (positionCount s)
 -- 12: "a spare or pad bit of the order is set"
 unfoldable pub paddingSet : List ℕ → Bool
 paddingSet s = unclean s (unitCount s)
-
--- some element of the list passes the test
-unfoldable pub some : {X : Type 0} → (X → Bool) → List X → Bool
-some test [] = false
-some test (x ∷ l) = test x || some test l
 
 -- "has a position of n or more, is not lower first"
 unfoldable pub badEdge : ℕ → ℕ × ℕ → Bool

@@ -18,13 +18,14 @@ use Rattle.answers.specs.Answer.{Answer, accepted, refused}
 use Rattle.field.specs.Bits.{bits, number, bitsOf, field, pairs, positions, pairBits, pad, padded, bytes, toBytes}
 use Rattle.field.specs.Bytes.{BelowPairs, none₂, more₂}
 use Rattle.field.specs.Units.{recordLength, misfits, unclean}
-use Rattle.order.specs.Floor.{isPair, among, joined}
+use Rattle.order.specs.Floor.{some, isPair, joined}
 use Rattle.order.specs.Order.{positionCount, edgeCount, rackCount, unitCount, floorOf, startsOf, goalsOf, orderOf, wrongLength}
-use Rattle.order.specs.Order.{wrongPositions, paddingSet, some, badEdge, precedes, ascending, wrongEdges, repeats, wrongPlaces, wrongRacks}
+use Rattle.order.specs.Order.{wrongPositions, paddingSet, badEdge, precedes, ascending, wrongEdges, repeats, wrongPlaces, wrongRacks}
 use Rattle.order.specs.Order.{counts, orderAnswer, WellFormed}
 use Rattle.motion.specs.Arrangement.{occupied, vacant}
 use Rattle.motion.specs.Move.{onFloor, faultBy, moveFault, goesTo, after, afterMove}
-use Rattle.motion.specs.Replay.{replayFrom, replayMoves, trace}
+use Rattle.motion.specs.Replay.{replayFrom, replayMoves}
+use Rattle.motion.proofs.TraceLaws.{trace}
 use Rattle.motion.specs.Judgement.{misplaced, judged}
 use Rattle.plan.specs.Plan.{planBits, planRecord, moveCount, planMoves, wrongPlanLength, planPaddingSet, planAnswer}
 use Rattle.plan.proofs.PlanRecord.{Written, written}
@@ -48,8 +49,8 @@ caseMoves = (0, 1) ∷ (3, 2) ∷ (2, 0) ∷ (1, 3) ∷ []
 
 unfoldable pub plan-open : List ℕ → List ℕ → Answer
 unfolding planAnswer wrongPlanLength planPaddingSet moveCount planMoves judged misplaced replayMoves replayFrom moveFault faultBy
-    onFloor joined among isPair occupied vacant afterMove after goesTo orderAnswer wrongLength misfits recordLength unitCount
-    wrongPositions paddingSet unclean pad wrongEdges some badEdge precedes ascending wrongRacks wrongPlaces repeats orderOf floorOf
+    onFloor joined some isPair occupied vacant afterMove after goesTo orderAnswer wrongLength misfits recordLength unitCount
+    wrongPositions paddingSet unclean pad wrongEdges badEdge precedes ascending wrongRacks wrongPlaces repeats orderOf floorOf
     startsOf goalsOf counts positionCount edgeCount rackCount field number bitsOf bits pairs positions
 plan-open o p = planAnswer o p
 

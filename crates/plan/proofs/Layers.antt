@@ -14,7 +14,7 @@ use mathlib.Core.List.{List, [], _∷_}
 use native.Mathlib.Omega.{arith}
 use lib.ListN.{length, take, drop}
 use Rattle.answers.specs.Answer.{Answer, accepted, refused, refuse, passUp}
-use Rattle.answers.proofs.AnswerLaws.{refuse-not, refuse-else, passUp-refused}
+use Rattle.answers.proofs.AnswerLaws.{refuse-not, refuse-else}
 use Rattle.field.specs.Bits.{field, pairs}
 use Rattle.field.proofs.BitLaws.{field-lt}
 use Rattle.field.proofs.UnitLaws.{Fitting, fitting, tail-units}
@@ -106,6 +106,5 @@ order-turned-down o p below r =
 
 pub record-turned-down : (o p counted : List ℕ) (head : Answer) (number place : ℕ) → accepted counted ≡ orderAnswer o
     → head ≡ recordAnswer p → head ≡ refused number place → head ≡ planAnswer o p
-record-turned-down o p counted head number place a is f =
-    record-refused (planAnswer o p) (orderAnswer o) (recordAnswer p) (judgement o p) (plan-is o p) counted a head head (accepted []) number
-    place is f (passUp-refused head (accepted []) number place f)
+record-turned-down o p counted head number place a =
+    record-refused (planAnswer o p) (orderAnswer o) (recordAnswer p) (judgement o p) (plan-is o p) counted a head number place

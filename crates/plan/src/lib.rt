@@ -7,7 +7,7 @@ ghost use mathlib.Core.Path.{_≡_};
 ghost use mathlib.Core.List.{[], _∷_};
 ghost use Prim.Native.Nat.{_+_, _*_, _^_, _≤_, _<_};
 ghost use lib.ListN.{length};
-ghost use Rattle.answers.specs.Answer.{accepted, passUp};
+ghost use Rattle.answers.specs.Answer.{accepted, PassedUp};
 ghost use Rattle.field.specs.Bits.{pairs};
 ghost use Rattle.order.specs.Verdict.{answerOf as orderAnswerOf};
 ghost use Rattle.tables.specs.Tables.{entriesFault};
@@ -23,14 +23,14 @@ pub enum PlanVerdict {
     Refused(Fault, u32),
 }
 
-// The order reader's refusal as the plan checker's: the same fault at the same place.
-fn refusal(order: OrderVerdict) -> PlanVerdict
-    ensures { λ r. ⌜ answerOf r ≡ passUp (orderAnswerOf order) (accepted (0 ∷ [])) ⌝ }
+// The order reader's verdict as the plan checker's: the same fault at the same place, or no moves yet.
+fn passed_up(order: OrderVerdict) -> PlanVerdict
+    ensures { λ r. ⌜ PassedUp orderAnswerOf order (accepted (0 ∷ [])) (answerOf r) ⌝ }
 {
-    let OrderVerdict::Refused(fault, place) = order else {
-        return PlanVerdict::Accepted(0);
-    };
-    PlanVerdict::Refused(fault, place)
+    match order {
+        OrderVerdict::Accepted(_) => PlanVerdict::Accepted(0),
+        OrderVerdict::Refused(fault, place) => PlanVerdict::Refused(fault, place),
+    }
 }
 
 // 30 and 31.
@@ -123,7 +123,7 @@ pub fn check(order: &[u8], plan: &[u8]) -> PlanVerdict
 {
     let below = order::read(order);
     let OrderVerdict::Accepted(counts) = below else {
-        return refusal(below);
+        return passed_up(below);
     };
     let head = read_record(plan);
     let PlanVerdict::Accepted(k) = head else {

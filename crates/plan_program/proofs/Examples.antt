@@ -22,9 +22,9 @@ use Rattle.answers.specs.Family.{familyWord, within}
 use Rattle.field.specs.Bits.{bits, number, bitsOf, field, pairs, positions, pairBits, positionBits, pad, padded, bytes, toBytes}
 use Rattle.field.specs.Units.{recordLength, misfits, unclean}
 use Rattle.field.specs.Writing.{written}
-use Rattle.order.specs.Floor.{isPair, among, joined}
+use Rattle.order.specs.Floor.{some, isPair, joined}
 use Rattle.order.specs.Order.{orderBits, orderRecord, positionCount, edgeCount, rackCount, unitCount, floorOf, startsOf, goalsOf, orderOf}
-use Rattle.order.specs.Order.{wrongLength, wrongPositions, paddingSet, some, badEdge, precedes, ascending, wrongEdges, repeats}
+use Rattle.order.specs.Order.{wrongLength, wrongPositions, paddingSet, badEdge, precedes, ascending, wrongEdges, repeats}
 use Rattle.order.specs.Order.{wrongPlaces, wrongRacks, counts, orderAnswer}
 use Rattle.order.specs.EdgeSets.{listed, isEdge, floorFrom}
 use Rattle.plan.proofs.Examples.{plan-open}
@@ -46,8 +46,8 @@ allOfEighteen = orderRecord (record { floor = floorFrom 18 (λ a b. true); start
 -- the hypotheses of `printed-large` hold of something
 pub large : Plannable allOfEighteen × (18 ≤ positionCount allOfEighteen)
 unfolding allOfEighteen orderRecord orderBits floorFrom listed isEdge bits pairBits positionBits toBytes padded pad bytes floorAnswer
-    biConnected? ring? joined among isPair orderAnswer wrongLength misfits recordLength unitCount wrongPositions paddingSet unclean
-    wrongEdges some badEdge precedes ascending wrongRacks wrongPlaces repeats orderOf floorOf startsOf goalsOf counts positionCount
+    biConnected? ring? joined some isPair orderAnswer wrongLength misfits recordLength unitCount wrongPositions paddingSet unclean
+    wrongEdges badEdge precedes ascending wrongRacks wrongPlaces repeats orderOf floorOf startsOf goalsOf counts positionCount
     edgeCount rackCount field number bitsOf pairs positions
 large = (plannable allOfEighteen [] refl, lit≤ tt)
 
@@ -59,8 +59,8 @@ pub refusals-met :
     × (refusals allOfEighteen 65536 ≡ refused 23 0)
     × (refusals twoRacks 65536 ≡ accepted [])
 unfolding refusals allOfEighteen orderRecord orderBits floorFrom listed isEdge bits pairBits positionBits toBytes padded pad bytes
-    floorAnswer biConnected? ring? joined among isPair orderAnswer wrongLength misfits recordLength unitCount wrongPositions paddingSet
-    unclean wrongEdges some badEdge precedes ascending wrongRacks wrongPlaces repeats orderOf floorOf startsOf goalsOf counts positionCount
+    floorAnswer biConnected? ring? joined some isPair orderAnswer wrongLength misfits recordLength unitCount wrongPositions paddingSet
+    unclean wrongEdges badEdge precedes ascending wrongRacks wrongPlaces repeats orderOf floorOf startsOf goalsOf counts positionCount
     edgeCount rackCount field number bitsOf pairs positions
 refusals-met = (refl, refl, refl, refl, refl, refl)
 

@@ -18,7 +18,7 @@ use Rattle.answers.specs.Answer.{Answer, accepted, refused, refuse, passUp}
 use Rattle.field.specs.Bits.{bitsOf, bits, number, field, pairs, positions}
 use Rattle.field.specs.Packing.{pack}
 use Rattle.field.specs.Writing.{written}
-use Rattle.order.specs.Floor.{isPair, among, joined}
+use Rattle.order.specs.Floor.{some, isPair, joined}
 use Rattle.order.specs.Order.{positionCount, edgeCount, rackCount, floorOf, startsOf, goalsOf, counts}
 use Rattle.order.specs.Tables.{decodedRows, decodedStarts, decodedGoals}
 use Rattle.order.proofs.OrderLaws.{accepted-is}
@@ -51,7 +51,7 @@ abbrev pub plan : List (ℕ × ℕ)
 plan = (0, 1) ∷ (3, 2) ∷ (2, 0) ∷ (1, 3) ∷ []
 
 pub solves-met : Solves twoRacks 4 plan
-unfolding replayMoves replayFrom moveFault faultBy onFloor joined among isPair occupied vacant afterMove after goesTo floorOf startsOf
+unfolding replayMoves replayFrom moveFault faultBy onFloor joined some isPair occupied vacant afterMove after goesTo floorOf startsOf
     goalsOf positionCount edgeCount rackCount field number bitsOf bits pairs positions
 solves-met = record { few = lit≤ tt; replayed = refl; still = λ e. absurd (apart (ap (λ (l : List ℕ). getD l 0 0) e)) }
   where

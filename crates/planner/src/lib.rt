@@ -9,7 +9,7 @@ ghost use mathlib.Core.Path.{_≡_};
 ghost use mathlib.Core.List.{[], _∷_};
 ghost use Prim.Native.Nat.{ℕ, _*_, _≤_, _<_};
 ghost use lib.ListN.{length};
-ghost use Rattle.answers.specs.Answer.{accepted, passUp};
+ghost use Rattle.answers.specs.Answer.{accepted, PassedUp};
 ghost use Rattle.floor.specs.Verdict.{answerOf as floorAnswerOf};
 ghost use Rattle.shunting.specs.Journey.{row};
 ghost use Rattle.planner.specs.Moves.{SomeTables, MovesMade};
@@ -67,14 +67,14 @@ fn plan_moves(
     end.written
 }
 
-// The floor judge's refusal as the planner's: the same fault at the same place.
-fn refusal(floor: FloorVerdict) -> PlannerVerdict
-    ensures { λ r. ⌜ answerOf r ≡ passUp (floorAnswerOf floor) (accepted (0 ∷ [])) ⌝ }
+// The floor judge's verdict as the planner's: the same fault at the same place, or no moves yet.
+fn passed_up(floor: FloorVerdict) -> PlannerVerdict
+    ensures { λ r. ⌜ PassedUp floorAnswerOf floor (accepted (0 ∷ [])) (answerOf r) ⌝ }
 {
-    let FloorVerdict::Refused(fault, place) = floor else {
-        return PlannerVerdict::Planned(0);
-    };
-    PlannerVerdict::Refused(fault, place)
+    match floor {
+        FloorVerdict::Accepted(_) => PlannerVerdict::Planned(0),
+        FloorVerdict::Refused(fault, place) => PlannerVerdict::Refused(fault, place),
+    }
 }
 
 // 10 to 14 and 20 to 23, or a plan: its record at the front of the buffer, and how many moves it has.
@@ -86,7 +86,7 @@ pub fn make(order: &[u8], buffer: &mut [u8]) -> PlannerVerdict
     let mut goals = [0u8; 64];
     let below = floor::judge(order, &mut rows, &mut starts, &mut goals);
     let FloorVerdict::Accepted(counts) = below else {
-        return refusal(below);
+        return passed_up(below);
     };
     let n = counts.positions;
     let m = counts.racks;

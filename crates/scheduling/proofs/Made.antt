@@ -25,8 +25,7 @@ use Rattle.motion.specs.Replay.{ended, replayMoves, replaySteps}
 use Rattle.motion.proofs.StepDecision.{legalStep?}
 use Rattle.motion.proofs.Lawful.{Leads, LeadsSteps, still, _then_, replayMoves-ended, replaySteps-ended}
 use Rattle.motion.specs.Sound.{Sound}
-use Rattle.motion.proofs.ListLaws.{by-member}
-use Rattle.motion.specs.StepTests.{KeysDiffer}
+use Rattle.motion.proofs.ListLaws.{by-member, KeysDiffer}
 use Rattle.motion.proofs.StepTestsLaws.{left}
 use Rattle.motion.proofs.LegalStepLaws.{legalStep-iff}
 use Rattle.motion.proofs.StepLimits.{step-size}

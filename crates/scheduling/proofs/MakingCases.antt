@@ -22,7 +22,7 @@ use lib.Dec.{lit<}
 use lib.ListN.{length}
 use Rattle.field.specs.Packing.{pack}
 use Rattle.scheduling.specs.Rows.{stepBytes, stepsBytes}
-use Rattle.order.specs.Floor.{Floor, isPair, among, joined}
+use Rattle.order.specs.Floor.{Floor, some, isPair, joined}
 use Rattle.motion.specs.Arrangement.{Arrangement, occupied, vacant, rackFrom, rackAt}
 use Rattle.motion.specs.Move.{onFloor, legalMove, faultBy, moveFault, goesTo, after, afterMove}
 use Rattle.motion.specs.Replay.{replayFrom, replayMoves}
@@ -68,11 +68,11 @@ unfolding stepsBytes stepBytes pack
 case-1-bytes = rw case-1-made refl
 
 sound-2 : Sound 4 (0 ∷ 1 ∷ [])
-unfolding isSound occupied vacant
+unfolding isSound occupied some vacant
 sound-2 = isSound-sound 4 (0 ∷ 1 ∷ []) .0 tt
 
 leads-2 : Leads floorF (0 ∷ 1 ∷ []) ((1, 3) ∷ (0, 1) ∷ []) (1 ∷ 3 ∷ [])
-unfolding replayMoves replayFrom moveFault faultBy onFloor joined among isPair occupied vacant afterMove after goesTo
+unfolding replayMoves replayFrom moveFault faultBy onFloor joined some isPair occupied vacant afterMove after goesTo
 leads-2 = replayMoves-ended floorF (0 ∷ 1 ∷ []) ((1, 3) ∷ (0, 1) ∷ []) (1 ∷ 3 ∷ []) .0 refl
 
 pub case-2-theorem : Made floorF (0 ∷ 1 ∷ []) ((1, 3) ∷ (0, 1) ∷ []) (1 ∷ 3 ∷ [])
@@ -90,23 +90,23 @@ pub case-1-ruled : Ruled (history starts plan)
 case-1-ruled = ruled-timed starts [] plan none
 
 rack-2-leads : StepMoves floorF (0 ∷ 1 ∷ []) ((1, 3) ∷ []) (0 ∷ 3 ∷ [])
-unfolding legalMove onFloor joined among isPair occupied vacant afterMove after goesTo
+unfolding legalMove onFloor joined some isPair occupied vacant afterMove after goesTo
 rack-2-leads =
     joining (stepMoves-none floorF (0 ∷ 1 ∷ []))
     (record { sound = sound-2; sound-after = sound-2; legal = tt; rack = 1; is = lit< tt; before = refl; behind = refl })
 
 pub case-2-joining : StepMoves floorF (0 ∷ 1 ∷ []) ((0, 1) ∷ (1, 3) ∷ []) (1 ∷ 3 ∷ [])
-unfolding legalMove onFloor joined among isPair occupied vacant afterMove after goesTo
+unfolding legalMove onFloor joined some isPair occupied vacant afterMove after goesTo
 case-2-joining =
     joining rack-2-leads
     (record { sound = sound-2; sound-after = starts-sound; legal = tt; rack = 0; is = lit< tt; before = refl; behind = refl })
 
 sound-1 : Sound 4 (1 ∷ 3 ∷ [])
-unfolding isSound occupied vacant
+unfolding isSound occupied some vacant
 sound-1 = isSound-sound 4 (1 ∷ 3 ∷ []) .0 tt
 
 pub case-1-carrying : StepMoves floorF (0 ∷ 2 ∷ []) ((0, 1) ∷ []) (1 ∷ 2 ∷ [])
-unfolding legalMove onFloor joined among isPair occupied vacant afterMove after goesTo
+unfolding legalMove onFloor joined some isPair occupied vacant afterMove after goesTo
 case-1-carrying =
     let first : StepMoves floorF (0 ∷ 3 ∷ []) ((0, 1) ∷ []) (1 ∷ 3 ∷ []) =
     joining (stepMoves-none floorF starts)

@@ -14,7 +14,7 @@ use borrow.Author.Tests.{lt-ltb, le-ltb}
 use lib.ListN.{getD, set, replicate}
 use Rattle.field.specs.Bits.{field, pairs}
 use Rattle.field.proofs.RecordLaws.{pairs-next}
-use Rattle.scheduling.specs.Filling.{Pass, started, stepBy, noted, passed, pass, Filled}
+use Rattle.scheduling.specs.Filling.{Pass, started, stepBy, noted, passed, pass, PassMade}
 use Rattle.scheduling.proofs.FillingLaws.{Early, early-started, early-passed}
 
 module _ (first : ℕ) (w : List ℕ) (t a b : ℕ) where
@@ -56,7 +56,7 @@ module _ (s : List ℕ) (k first : ℕ) (w₀ : List ℕ) where
           early = early-passed first j P (p .early) (a, b);
         })
 
-  pub pass-last : (w x y : List ℕ) (g j : ℕ) → ToPass w x y g j → k ≤ j → Filled first w₀ (pairs s 0 k) g w
+  pub pass-last : (w x y : List ℕ) (g j : ℕ) → ToPass w x y g j → k ≤ j → PassMade first w₀ (pairs s 0 k) g w
   unfolding pass pairs
   pass-last w x y g j p h =
       let none : k - j ≡ 0 = omega arith in

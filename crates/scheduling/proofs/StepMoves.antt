@@ -31,8 +31,8 @@ use Rattle.motion.proofs.MoveLaws.{legal-parts, legal-apart, after-length, afte
 use Rattle.motion.proofs.Untouched.{vacant-move}
 use Rattle.motion.specs.Sound.{Sound}
 use Rattle.motion.proofs.Test.{equal?}
-use Rattle.motion.proofs.ListLaws.{by-member, pairwise-more, keys-same}
-use Rattle.motion.specs.StepTests.{KeysDiffer, entered}
+use Rattle.motion.proofs.ListLaws.{by-member, pairwise-more, keys-same, KeysDiffer}
+use Rattle.motion.proofs.StepTestsLaws.{entered}
 use Rattle.motion.proofs.StepTestsLaws.{left, onFloor-iff, occupied-iff, Goes, taken, stays, goesTo-cases, goesTo-stays, goesTo-takes}
 use Rattle.motion.specs.LegalStep.{Train, leader, follows, LegalStep}
 use Rattle.motion.proofs.LegalStepLaws.{after-nothing}

@@ -28,8 +28,8 @@ use Rattle.motion.specs.Arrangement.{Arrangement}
 use Rattle.motion.proofs.Lawful.{Leads}
 use Rattle.motion.specs.Sound.{Sound}
 use Rattle.motion.proofs.Test.{equal?}
-use Rattle.motion.proofs.ListLaws.{by-member, pairwise-more, pairwise-rel}
-use Rattle.motion.specs.StepTests.{KeysDiffer, Ascends}
+use Rattle.motion.proofs.ListLaws.{by-member, pairwise-more, pairwise-rel, KeysDiffer}
+use Rattle.motion.specs.StepTests.{Ascends}
 use Rattle.motion.proofs.StepTestsLaws.{left}
 use Rattle.motion.specs.StepOf.{sort}
 use Rattle.motion.proofs.StepOfLaws.{sort-iff, sort-ascends, ascending-same}

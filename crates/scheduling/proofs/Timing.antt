@@ -33,8 +33,7 @@ use borrow.Author.Tests.{eq-eqb, ne-eqb}
 use Rattle.motion.specs.Arrangement.{Arrangement}
 use Rattle.motion.specs.Move.{afterMove}
 use Rattle.motion.proofs.Test.{equal?, cond-either}
-use Rattle.motion.proofs.ListLaws.{by-member, pairwise-more, pairwise-rel}
-use Rattle.motion.specs.StepTests.{KeysDiffer}
+use Rattle.motion.proofs.ListLaws.{by-member, pairwise-more, pairwise-rel, KeysDiffer}
 use Rattle.motion.proofs.StepTestsLaws.{left}
 use Rattle.motion.specs.StepOf.{insert, sort}
 use Rattle.motion.proofs.StepOfLaws.{sort-iff, sort-ascends, ascending-same}

@@ -17,7 +17,7 @@ use native.Mathlib.Nat.{add-zero, le-refl}
 use Rattle.field.specs.Bytes.{BelowPairs}
 use Rattle.field.specs.Writing.{written, Fits, Wrote}
 use Rattle.field.proofs.WritingLaws.{fits-next, wrote-none, wrote-then, wrote-length, fits-as, wrote-as}
-use Rattle.scheduling.specs.Filling.{started, emptyWindow, windowOf, latest, Filled}
+use Rattle.scheduling.specs.Filling.{started, emptyWindow, windowOf, latest, PassMade}
 use Rattle.scheduling.proofs.FillingLaws.{greatest-same, entries-empty, entries-pass}
 use Rattle.scheduling.specs.Windows.{rowsOf, windowSteps, windows, allSteps}
 use lib.ListN.{length, length-append}
@@ -77,7 +77,7 @@ module _ (t s : List ℕ) (n at : ℕ) where
           let all : n ≡ row = omega arith in
           rw all w
 
-module _ (ms : List (ℕ × ℕ)) (first r : ℕ) (w : List ℕ) (f : Filled first emptyWindow ms r w) where
+module _ (ms : List (ℕ × ℕ)) (first r : ℕ) (w : List ℕ) (f : PassMade first emptyWindow ms r w) where
   pub filled-latest : r ≡ latest ms
   filled-latest = f .greatest-is ∙ greatest-same first ms
 

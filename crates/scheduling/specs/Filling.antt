@@ -2,16 +2,16 @@
 -- looked up by one load each.
 -- Of the moves, those of a window of 4096 steps are entered into a table as Rows has it.
 --
---     Pass                   what a pass has come to
---     started w              before the first move, with the empty window w
---     stepBy x y a b         the step of the move from a to b, by the tables x of arrivals and y of leavings
---     noted first w t a b    the window w, of the steps after step `first`, with the move from a to b of step t
---     passed first P m       the pass P with the move m
---     pass first P ms        the pass P with the moves ms
---     Filled first w ms r v  a pass over ms from the window w gives the greatest step r and the window v
---     emptyWindow            a window without moves
---     windowOf ms first      the window of the steps after step `first` that a pass over the moves ms fills
---     latest ms              the greatest step that it finds
+--     Pass                     what a pass has come to
+--     started w                before the first move, with the empty window w
+--     stepBy x y a b           the step of the move from a to b, by the tables x of arrivals and y of leavings
+--     noted first w t a b      the window w, of the steps after step `first`, with the move from a to b of step t
+--     passed first P m         the pass P with the move m
+--     pass first P ms          the pass P with the moves ms
+--     PassMade first w ms r v  a pass over ms from the window w gives the greatest step r and the window v
+--     emptyWindow              a window without moves
+--     windowOf ms first        the window of the steps after step `first` that a pass over the moves ms fills
+--     latest ms                the greatest step that it finds
 -- Assumes nothing.
 use Prim.Native.Nat.{ℕ, _+_, _-_, _*_, max}
 use mathlib.Core.Path.{_≡_}
@@ -53,7 +53,7 @@ pass first P [] = P
 pass first P (m ∷ ms) = pass first (passed first P m) ms
 
 -- what a pass from the window w gives: the greatest step r and the window w′
-pub record Filled (first : ℕ) (w : List ℕ) (ms : List (ℕ × ℕ)) (r : ℕ) (w′ : List ℕ) : Type 0 where
+pub record PassMade (first : ℕ) (w : List ℕ) (ms : List (ℕ × ℕ)) (r : ℕ) (w′ : List ℕ) : Type 0 where
   pub greatest-is : r ≡ pass first (started w) ms .greatest
   pub window-is : w′ ≡ pass first (started w) ms .window
 

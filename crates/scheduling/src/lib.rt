@@ -7,11 +7,11 @@ ghost use mathlib.Core.Path.{_≡_};
 ghost use mathlib.Core.List.{[], _∷_};
 ghost use Prim.Native.Nat.{_+_, _*_, _/_, _^_, _≤_, _<_, max};
 ghost use lib.ListN.{length};
-ghost use Rattle.answers.specs.Answer.{accepted, passUp};
+ghost use Rattle.answers.specs.Answer.{accepted, PassedUp};
 ghost use Rattle.field.specs.Bits.{pairs};
 ghost use Rattle.field.specs.Writing.{written, Fits, Wrote};
 ghost use Rattle.plan.specs.Verdict.{answerOf as planAnswerOf};
-ghost use Rattle.scheduling.specs.Filling.{noted, Filled, latest};
+ghost use Rattle.scheduling.specs.Filling.{noted, PassMade, latest};
 ghost use Rattle.scheduling.specs.Windows.{rowsOf, windowSteps, allSteps};
 ghost use Rattle.scheduling.specs.Maker.{makerAnswer, bufferAfter, answerOf};
 ghost use Rattle.scheduling.specs.Rows.{EntriesFit, Left, KeepsLeft, rowMoves, rows, stepBytes, stepsBytes};
@@ -87,7 +87,7 @@ fn fill(
     leaving: &mut [u64; 4096],
 ) -> usize
     requires { ⌜ (k < 2 ^ 22) × (12 * k ≤ 8 * length (now tail)) ⌝ }
-    ensures { λ r. ⌜ Filled first (now (window .entry)) (pairs (now (tail .entry)) 0 k) r (now (window .exit)) ⌝ }
+    ensures { λ r. ⌜ PassMade first (now (window .entry)) (pairs (now (tail .entry)) 0 k) r (now (window .exit)) ⌝ }
     ensures { λ _. ⌜ KeepsLeft (now (window .entry)) (now (leaving .entry)) (now (window .exit)) (now (leaving .exit)) ⌝ }
 {
     let mut arrived = [0usize; 64];
@@ -188,14 +188,14 @@ pub enum MakerVerdict {
     Refused(Fault, u32),
 }
 
-// The plan checker's refusal as the timetable maker's: the same fault at the same place.
-fn refusal(plan: PlanVerdict) -> MakerVerdict
-    ensures { λ r. ⌜ answerOf r ≡ passUp (planAnswerOf plan) (accepted (0 ∷ [])) ⌝ }
+// The plan checker's verdict as the timetable maker's: the same fault at the same place, or no steps yet.
+fn passed_up(plan: PlanVerdict) -> MakerVerdict
+    ensures { λ r. ⌜ PassedUp planAnswerOf plan (accepted (0 ∷ [])) (answerOf r) ⌝ }
 {
-    let PlanVerdict::Refused(fault, place) = plan else {
-        return MakerVerdict::Accepted(0);
-    };
-    MakerVerdict::Refused(fault, place)
+    match plan {
+        PlanVerdict::Accepted(_) => MakerVerdict::Accepted(0),
+        PlanVerdict::Refused(fault, place) => MakerVerdict::Refused(fault, place),
+    }
 }
 
 // Makes the timetable of a plan for an order and writes it at the front of the buffer: the plan checker's numbers, then 44.
@@ -205,7 +205,7 @@ pub fn make(order: &[u8], plan: &[u8], buffer: &mut [u8]) -> MakerVerdict
 {
     let below = plan::check(order, plan);
     let PlanVerdict::Accepted(k) = below else {
-        return refusal(below);
+        return passed_up(below);
     };
     if buffer.len() < 3 * k + 3 {
         return MakerVerdict::Refused(Fault::TimetableBuffer, 0);

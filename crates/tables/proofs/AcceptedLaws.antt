@@ -18,7 +18,8 @@ use Rattle.field.specs.Bits.{field}
 use Rattle.field.proofs.BitLaws.{field-lt}
 use Rattle.field.proofs.RecordLaws.{length-positions, pairs-lt}
 use Rattle.field.proofs.UnitLaws.{or-left, or-right, fitting}
-use Rattle.order.specs.Order.{positionCount, edgeCount, rackCount, floorOf, startsOf, goalsOf, orderOf, some, repeats, wrongPlaces}
+use Rattle.order.specs.Floor.{some}
+use Rattle.order.specs.Order.{positionCount, edgeCount, rackCount, floorOf, startsOf, goalsOf, orderOf, repeats, wrongPlaces}
 use Rattle.order.specs.Order.{wrongRacks, wrongLength, unitCount, counts, orderAnswer, WellFormed}
 use Rattle.order.proofs.OrderLaws.{right-head, well-formed, accepted-is}
 use Rattle.order.proofs.TailLaws.{tail-room}

@@ -2,7 +2,7 @@
 --
 --     Left fault next x j h ys   of what x replays, the first j had no fault and left the table h: the replay of the others, ys, decides
 --     left-stops, left-goes, left-none          how a loop stops at the next, goes on past it, and ends
---     judged-stopped, judged-misplaced, judged-settled     the judgement of x, by how the loop ended and by the lowest misplaced rack
+--     JudgeTold, judge-told      the answer that the judgement of x is, by how the loop ended and by the lowest misplaced rack
 -- Assumes nothing.
 use Prim.Native.Nat.{ℕ, suc, _+_}
 use mathlib.Core.Path.{_≡_, ap, _∙_}
@@ -10,7 +10,7 @@ use mathlib.Core.List.{List, [], _∷_}
 use native.Mathlib.Omega.{arith}
 use native.Mathlib.Numerals.{add-one}
 use borrow.Author.Tests.{eq-eqb, ne-eqb}
-use Rattle.answers.specs.Answer.{accepted, refusedBy, numberOf}
+use Rattle.answers.specs.Answer.{Answer, accepted, refusedBy, numberOf}
 use Rattle.answers.specs.declared.Fault.{Fault}
 use Rattle.answers.proofs.AnswerLaws.{numberOf-some}
 use Rattle.motion.specs.Replay.{Replayed, ended, replayFrom}
@@ -37,22 +37,25 @@ module _ {X : Type 0} (fault : List ℕ → X → ℕ) (next : List ℕ → X �
   unfolding Left replayFrom
   left-none j h left = left
 
-module _ (off : ℕ) (G counts : List ℕ) (x : Replayed) (r : Replay) (h : List ℕ) (ends : endOf r h ≡ x) where
-  judged-end : judgedOn off G counts (endOf r h) ≡ judgedOn off G counts x
-  judged-end = ap (judgedOn off G counts) ends
+-- r says how the replay ended and h is the table after it; f is the fault of a rack that is not at its goal in G
+pub record JudgeTold (f : Fault) (G counts : List ℕ) (m : ℕ) (r : Replay) (h : List ℕ) (answer : Answer) : Type 0 where
+  pub stopped : (g : Fault) (place : ℕ) → r ≡ Replay.Stopped g place → refusedBy g place ≡ answer
+  pub misplaced : r ≡ Replay.Ended → (q : ℕ) → MisplacedOn h G m q → (q ≡ 0 → ⊥) → refusedBy f q ≡ answer
+  pub settled : r ≡ Replay.Ended → (q : ℕ) → MisplacedOn h G m q → q ≡ 0 → accepted counts ≡ answer
 
-  pub judged-stopped : (f : Fault) (place : ℕ) → r ≡ Replay.Stopped f place → refusedBy f place ≡ judgedOn off G counts x
+module _ (f : Fault) (G counts : List ℕ) (m : ℕ) (x : Replayed) (r : Replay) (h : List ℕ) (ends : endOf r h ≡ x) (answer : Answer)
+    (is : judgedOn (numberOf f) G counts x ≡ answer) where
+  judged-end : judgedOn (numberOf f) G counts (endOf r h) ≡ answer
+  judged-end = ap (judgedOn (numberOf f) G counts) ends ∙ is
+
+  judged-all : r ≡ Replay.Ended → judgedOn (numberOf f) G counts (ended h) ≡ answer
+  judged-all all = rw all at judged-end
+
+  pub judge-told : JudgeTold f G counts m r h answer
   unfolding judgedOn
-  judged-stopped f place e = rw e at judged-end
-
-  module _ (all : r ≡ Replay.Ended) (m q : ℕ) (lowest : MisplacedOn h G m q) where
-    judged-all : judgedOn off G counts (ended h) ≡ judgedOn off G counts x
-    judged-all = rw all at judged-end
-
-    pub judged-misplaced : (f : Fault) → numberOf f ≡ off → (q ≡ 0 → ⊥) → refusedBy f q ≡ judgedOn off G counts x
-    unfolding judgedOn
-    judged-misplaced f e d = rw e (rw (← lowest .is, ne-eqb q 0 d) at judged-all)
-
-    pub judged-settled : q ≡ 0 → accepted counts ≡ judgedOn off G counts x
-    unfolding judgedOn
-    judged-settled z = rw (← lowest .is, eq-eqb q 0 z) at judged-all
+  judge-told =
+      record {
+        stopped = λ g place e. rw e at judged-end;
+        misplaced = λ all q lowest d. rw (← lowest .is, ne-eqb q 0 d) at (judged-all all);
+        settled = λ all q lowest z. rw (← lowest .is, eq-eqb q 0 z) at (judged-all all);
+      }

@@ -13,8 +13,8 @@ use lib.Dec.{lit<, lit≤}
 use lib.ListN.{replicate}
 use Rattle.answers.specs.Answer.{accepted}
 use Rattle.field.specs.Bytes.{BelowPairs, none₂, more₂}
-use Rattle.order.specs.Floor.{isPair, among, joined}
-use Rattle.order.specs.Order.{some, badEdge, precedes, ascending, wrongEdges}
+use Rattle.order.specs.Floor.{some, isPair, joined}
+use Rattle.order.specs.Order.{badEdge, precedes, ascending, wrongEdges}
 use Rattle.order.specs.Tables.{marked, placed}
 use Rattle.motion.specs.Arrangement.{occupied, vacant}
 use Rattle.motion.specs.Move.{onFloor, faultBy, moveFault, goesTo, after, afterMove}
@@ -32,7 +32,7 @@ starts-held : Holds starts (placed (replicate 64 0) 1 starts)
 starts-held = placed-holds 4 starts (lit≤ tt) starts-sound
 
 move-held : Holds (1 ∷ 3 ∷ []) (movedOn (placed (replicate 64 0) 1 starts) (0, 1))
-unfolding occupied vacant afterMove after goesTo
+unfolding occupied some vacant afterMove after goesTo
 move-held = moved-holds 4 starts (placed (replicate 64 0) 1 starts) (lit≤ tt) starts-sound starts-held (0, 1) tt tt (lit< tt)
 
 edges-small : BelowPairs 64 (floorF .edges)
@@ -41,11 +41,11 @@ edges-small =
     (more₂ (lit< tt) (lit< tt) (more₂ (lit< tt) (lit< tt) (more₂ (lit< tt) (lit< tt) (more₂ (lit< tt) (lit< tt) none₂))))
 
 edge-there : edgeAt (marked (replicate 4096 0) (floorF .edges)) (3, 1) ≡ true
-unfolding joined among isPair
+unfolding joined some isPair
 edge-there = matrix-joined floorF 3 1 edges-small (lit< tt) (lit< tt)
 
 none-there : edgeAt (marked (replicate 4096 0) (floorF .edges)) (0, 3) ≡ false
-unfolding joined among isPair
+unfolding joined some isPair
 none-there = matrix-joined floorF 0 3 edges-small (lit< tt) (lit< tt)
 
 lowest-misplaced : misplacedOn 1 (placed (replicate 64 0) 1 starts) (3 ∷ 1 ∷ []) ≡ 1
@@ -60,5 +60,5 @@ unfolding wrongEdges some badEdge precedes ascending
 edges-right = refl
 
 four-judged : judgedOn 33 goals (4 ∷ []) (replayOn (matrixOf floorF) (tableOf starts) plan) ≡ accepted (4 ∷ [])
-unfolding judged misplaced replayMoves replayFrom moveFault faultBy onFloor joined among isPair occupied vacant afterMove after goesTo
+unfolding judged misplaced replayMoves replayFrom moveFault faultBy onFloor joined some isPair occupied vacant afterMove after goesTo
 four-judged = moves-judged floorF (lit≤ tt) edges-small edges-right starts starts-sound plan-small 33 goals (4 ∷ []) refl

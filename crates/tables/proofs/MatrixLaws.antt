@@ -17,9 +17,9 @@ use lib.Seq.{getD-set-same, getD-set-other}
 use lib.Dec.{T, eqb, ltb}
 use Rattle.field.specs.Bytes.{BelowPairs, none₂, more₂}
 use Rattle.field.proofs.UnitLaws.{or-left}
-use Rattle.order.specs.Floor.{Floor, isPair, among, joined}
-use Rattle.order.proofs.EdgeLaws.{good-among}
-use Rattle.order.specs.Order.{some, badEdge, ascending, wrongEdges}
+use Rattle.order.specs.Floor.{Floor, some, isPair, joined}
+use Rattle.order.proofs.EdgeLaws.{good-edge}
+use Rattle.order.specs.Order.{badEdge, ascending, wrongEdges}
 use Rattle.order.specs.Tables.{marked}
 use Rattle.motion.specs.Move.{onFloor}
 use Rattle.motion.proofs.Test.{or-parts, equal?, decided}
@@ -63,8 +63,8 @@ regroup false false true u v = refl
 regroup false false false u v = refl
 
 pub marked-edges : (g : List ℕ) (l : List (ℕ × ℕ)) (a b : ℕ) → length g ≡ 4096 → BelowPairs 64 l → a < 64 → b < 64
-    → edgeAt (marked g l) (a, b) ≡ (edgeAt g (a, b) || (among (a, b) l || among (b, a) l))
-unfolding marked among
+    → edgeAt (marked g l) (a, b) ≡ (edgeAt g (a, b) || (some (isPair (a, b)) l || some (isPair (b, a)) l))
+unfolding marked some
 marked-edges g [] a b n none₂ h k = sym (or-none (edgeAt g (a, b)))
   where
     or-none : (e : Bool) → (e || false) ≡ e
@@ -77,7 +77,7 @@ marked-edges g (x ∷ l) a b n (more₂ h₀ h₁ r) h k =
     let n₂ : length g₂ ≡ 4096 = length-set g₁ (x .1 * 64 + x .0) 1 ∙ n₁ in
     marked-edges g₂ l a b n₂ r h k
     ∙ rw (edge-set g₁ a b (x .1) (x .0) k h₀ (omega arith), edge-set g a b (x .0) (x .1) k h₁ (omega arith), pair-turned a b (x .0) (x .1))
-    (regroup (isPair (b, a) x) (isPair (a, b) x) (edgeAt g (a, b)) (among (a, b) l) (among (b, a) l))
+    (regroup (isPair (b, a) x) (isPair (a, b) x) (edgeAt g (a, b)) (some (isPair (a, b)) l) (some (isPair (b, a)) l))
 
 none-there : (m : ℕ × ℕ) → edgeAt (replicate 4096 0) m ≡ false
 unfolding edgeAt
@@ -88,7 +88,7 @@ pub matrix-joined : (F : Floor) (a b : ℕ) → BelowPairs 64 (F .edges) → a <
 unfolding joined
 matrix-joined F a b r h k =
     marked-edges (replicate 4096 0) (F .edges) a b (length-replicate {A = ℕ} 4096 0) r h k
-    ∙ ap (λ (e : Bool). e || (among (a, b) (F .edges) || among (b, a) (F .edges))) (none-there (a, b))
+    ∙ ap (λ (e : Bool). e || (some (isPair (a, b)) (F .edges) || some (isPair (b, a)) (F .edges))) (none-there (a, b))
 
 module _ (F : Floor) (right : wrongEdges F ≡ false) (a b : ℕ) where
   pub joined-below : T (joined F a b) → (a < F .positions) × (b < F .positions)
@@ -97,13 +97,13 @@ module _ (F : Floor) (right : wrongEdges F ≡ false) (a b : ℕ) where
       let good : some (badEdge (F .positions)) (F .edges) ≡ false =
       or-left (some (badEdge (F .positions)) (F .edges)) (not (ascending (F .edges))) right in
       ⊎-elim
-      (λ (u : T (among (a, b) (F .edges))).
-      let v = good-among (F .positions) (a, b) (F .edges) good (passed (among (a, b) (F .edges)) u) in
+      (λ (u : T (some (isPair (a, b)) (F .edges))).
+      let v = good-edge (F .positions) (a, b) (F .edges) good (passed (some (isPair (a, b)) (F .edges)) u) in
       (omega (arith, v .0, v .1), v .1))
-      (λ (u : T (among (b, a) (F .edges))).
-      let v = good-among (F .positions) (b, a) (F .edges) good (passed (among (b, a) (F .edges)) u) in
+      (λ (u : T (some (isPair (b, a)) (F .edges))).
+      let v = good-edge (F .positions) (b, a) (F .edges) good (passed (some (isPair (b, a)) (F .edges)) u) in
       (v .1, omega (arith, v .0, v .1)))
-      (or-parts (among (a, b) (F .edges)) (among (b, a) (F .edges)) .0 t)
+      (or-parts (some (isPair (a, b)) (F .edges)) (some (isPair (b, a)) (F .edges)) .0 t)
 
   pub onFloor-joined : onFloor F (a, b) ≡ joined F a b
   unfolding onFloor

@@ -1,4 +1,4 @@
-// Replay on tables: the laws of specs/ say how a matrix of edges and a table of racks stand for a floor and an arrangement. Here is what
+// Replay on tables: the laws in proofs/ say how a matrix of edges and a table of racks stand for a floor and an arrangement. Here is what
 // the plan checker and the timetable checker share: how a replay ended, and the test that both end with.
 use answers::Fault;
 ghost use mathlib.Core.Path.{_≡_};

@@ -2,7 +2,7 @@
 // printed, field's specs/Writing.antt what a writer leaves in the buffer, byte for byte, and where the next one begins.
 use answers::Fault;
 use scheduling::MakerVerdict;
-use timetable::TimetableReading;
+use timetable::TimetableVerdict;
 ghost use mathlib.Core.Path.{_≡_};
 ghost use mathlib.Core.Bool.{false};
 ghost use Prim.Native.Nat.{_*_, _≤_};
@@ -88,7 +88,7 @@ pub fn put_timetable(timetable: &[u8], out: &mut [u8], at: usize) -> usize
     requires { ⌜ WellPacked (now timetable) × Fits (now out) at (timetableText (stepsOf (now timetable))) ⌝ }
     ensures { λ r. ⌜ Wrote (now (out .entry)) at (timetableText (stepsOf (now (timetable .entry)))) (now (out .exit)) r ⌝ }
 {
-    let TimetableReading::Accepted { steps, moves } = timetable::read(timetable) else {
+    let TimetableVerdict::Accepted { steps, moves } = timetable::read(timetable) else {
         return at;
     };
     let at = put_first_line(steps, moves, out, at);

@@ -33,14 +33,15 @@ use Rattle.field.specs.Bytes.{Bytes, none, more, none₂, more₂}
 use Rattle.field.proofs.WholeBytes.{below-each}
 use Rattle.field.specs.Units.{recordLength, misfits, unclean}
 use Rattle.field.specs.Front.{wholeLength}
-use Rattle.order.specs.Floor.{isPair, among, joined}
+use Rattle.order.specs.Floor.{some, isPair, joined}
 use Rattle.order.specs.Order.{positionCount, edgeCount, rackCount, unitCount, floorOf, startsOf, goalsOf, orderOf, wrongLength}
-use Rattle.order.specs.Order.{wrongPositions, paddingSet, some, badEdge, precedes, ascending, wrongEdges, repeats, wrongPlaces, wrongRacks}
+use Rattle.order.specs.Order.{wrongPositions, paddingSet, badEdge, precedes, ascending, wrongEdges, repeats, wrongPlaces, wrongRacks}
 use Rattle.order.specs.Order.{counts, orderAnswer, WellFormed}
 use Rattle.motion.specs.Arrangement.{occupied, vacant}
 use Rattle.motion.specs.Move.{onFloor, goesTo, after}
 use Rattle.motion.specs.Step.{every, ascends, leaves, enters, enteredOnce, led, legalStep}
-use Rattle.motion.specs.Replay.{replayFrom, unlessLegal, stepFault, replaySteps, trace}
+use Rattle.motion.specs.Replay.{replayFrom, unlessLegal, stepFault, replaySteps}
+use Rattle.motion.proofs.TraceLaws.{trace}
 use Rattle.motion.proofs.StepDecision.{by-test, legalStep?}
 use Rattle.motion.specs.Judgement.{misplaced, judged}
 use Rattle.motion.specs.StepOf.{moved, insert, sort, stepOf}
@@ -212,10 +213,10 @@ swapTimetable = 0x00 ∷ 0x00 ∷ 0x04 ∷ 0x02 ∷ 0x00 ∷ 0x10 ∷ 0x40 ∷ [
 
 unfoldable pub timetable-open : List ℕ → List ℕ → Answer
 unfolding timetableAnswer judged misplaced replaySteps replayFrom stepFault unlessLegal legalStep? by-test legalStep every ascends
-    leaves enters enteredOnce led occupied vacant onFloor goesTo after joined among isPair orderAnswer counts wrongRacks wrongPlaces repeats
+    leaves enters enteredOnce led occupied vacant onFloor goesTo after joined some isPair orderAnswer counts wrongRacks wrongPlaces repeats
     wrongEdges ascending precedes badEdge paddingSet wrongPositions wrongLength unitCount floorOf startsOf goalsOf orderOf positionCount
     edgeCount rackCount unclean misfits recordLength positions total stepsOf stepMoves pairs wrongTimetableLength timetablePaddingSet
-    wrongSteps some stepPadSet pad partsOf stepParts stepLength stepCount field number bitsOf bits
+    wrongSteps stepPadSet pad partsOf stepParts stepLength stepCount field number bitsOf bits
 timetable-open o s = timetableAnswer o s
 
 pub answer₁ : timetableAnswer order₁ timetable₁ ≡ accepted (2 ∷ 4 ∷ [])

@@ -85,8 +85,7 @@ order-turned-down o s below r =
     order-refused (timetableAnswer o s) (orderAnswer o) (readingAnswer s) (judgement o s) (timetableAnswer-is o s) below r
     (accepted (0 ∷ 0 ∷ []))
 
-pub reading-turned-down : (o s v : List ℕ) (below r : Answer) (number place : ℕ) → accepted v ≡ orderAnswer o → below ≡ readingAnswer s
-    → below ≡ refused number place → r ≡ passUp below (accepted (0 ∷ 0 ∷ [])) → r ≡ timetableAnswer o s
-reading-turned-down o s v below r number place a =
-    record-refused (timetableAnswer o s) (orderAnswer o) (readingAnswer s) (judgement o s) (timetableAnswer-is o s) v a below r
-    (accepted (0 ∷ 0 ∷ [])) number place
+pub reading-turned-down : (o s v : List ℕ) (below : Answer) (number place : ℕ) → accepted v ≡ orderAnswer o → below ≡ readingAnswer s
+    → below ≡ refused number place → below ≡ timetableAnswer o s
+reading-turned-down o s v below number place a =
+    record-refused (timetableAnswer o s) (orderAnswer o) (readingAnswer s) (judgement o s) (timetableAnswer-is o s) v a below number place

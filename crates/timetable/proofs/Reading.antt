@@ -24,7 +24,7 @@ use Rattle.answers.proofs.AnswerLaws.{passUp-refused, passUp-accepted}
 use Rattle.field.specs.Bits.{field, pad}
 use Rattle.field.proofs.BitLaws.{field-drop}
 use Rattle.field.proofs.RecordLaws.{rest-is, up-to-byte}
-use Rattle.order.specs.Order.{some}
+use Rattle.order.specs.Floor.{some}
 use Rattle.timetable.specs.Timetable.{stepLength, wrongSteps, stepParts, stepPadSet, total, partsOf, stepCount, wrongTimetableLength}
 use Rattle.timetable.specs.Timetable.{timetablePaddingSet}
 use Rattle.timetable.specs.Reading.{stepsAnswer, readingAnswer}

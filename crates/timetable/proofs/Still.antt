@@ -19,8 +19,8 @@ use native.Mathlib.Omega.{arith}
 use lib.ListN.{length, length-append}
 use Rattle.answers.specs.Answer.{accepted}
 use Rattle.field.specs.Bits.{bits, number, bitsOf, field}
-use Rattle.order.specs.Floor.{Floor}
-use Rattle.order.specs.Order.{some, rackCount, floorOf, startsOf, goalsOf, WellFormed}
+use Rattle.order.specs.Floor.{Floor, some}
+use Rattle.order.specs.Order.{rackCount, floorOf, startsOf, goalsOf, WellFormed}
 use Rattle.motion.specs.Arrangement.{Arrangement}
 use Rattle.motion.specs.Move.{after}
 use Rattle.motion.proofs.MoveLaws.{after-length}

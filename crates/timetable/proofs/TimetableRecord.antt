@@ -28,8 +28,8 @@ use Rattle.field.specs.Bytes.{Bytes, none, BelowPairs}
 use Rattle.field.proofs.HeadLaws.{headBits, headBits-are, length-headBits}
 use Rattle.field.proofs.RecordLaws.{toBytes-are, toBytes-from, pairs-lt}
 use Rattle.field.proofs.UnitLaws.{or-left, or-right}
-use Rattle.order.specs.Order.{some}
 use Rattle.field.proofs.WholeBytes.{bitsOf-append, padded-whole, toBytes-whole, length-whole, toBytes-append}
+use Rattle.order.specs.Floor.{some}
 use Rattle.timetable.specs.Timetable.{allStepBits, timetableBits, timetableRecord, stepLength, stepCount, wrongSteps, stepParts}
 use Rattle.timetable.specs.Timetable.{partsOf, wrongTimetableLength, stepPadSet, timetablePaddingSet, stepMoves, stepsOf}
 use Rattle.timetable.specs.Reading.{WellPacked}

@@ -1,7 +1,7 @@
 -- The timetable checker's answers above the reading, on tables, and its verdict as document 01's answer.
 --
 --     tableAnswer s e m t v   42 and 43, else accepted with the counts v, where s is the order from its fourth byte on and t the timetable
---     answerOfCheck r         the verdict r on a timetable for an order as an answer
+--     answerOfCheck r         the verdict r on a timetable, on its structure alone or for an order, as an answer
 -- Assumes nothing.
 use Prim.Native.Nat.{ℕ, _+_, _*_}
 use mathlib.Core.List.{List, [], _∷_}

@@ -11,7 +11,6 @@
 --     beginsAt a             where the part of an accepted answer a begins, in bytes from the timetable's first; else 0
 --     partGiven s i          the part that the step reader gives back: the step, or the empty part where the step is refused
 --     placeGiven p s i       and where it stands in memory, where s stands at p: a place is a block and an offset in it, in bytes
---     answerOfReading r      the verdict r on a timetable's structure as an answer
 --     answerOfStep r         the step reader's verdict r as an answer
 -- Assumes nothing.
 use Prim.Native.Nat.{ℕ, _+_, _≤_}
@@ -21,13 +20,11 @@ use mathlib.Core.List.{List, [], _∷_}
 use lib.ListN.{length}
 use lib.Dec.{ltb, eqb}
 use Rattle.answers.specs.Answer.{Answer, accepted, refused, refuse, refusedBy, passUp}
-use Rattle.order.specs.Order.{some}
+use Rattle.order.specs.Floor.{some}
 use Rattle.timetable.specs.Timetable.{stepLength, wrongSteps, stepParts, stepPadSet, total, partsOf, stepCount, wrongTimetableLength}
 use Rattle.timetable.specs.Timetable.{timetablePaddingSet, stepAnswer, stepPart}
-use Rattle.timetable.specs.declared.TimetableReading.{TimetableReading}
-use Rattle.timetable.specs.declared.TimetableReading.the-variants.{Accepted, Refused}
 use Rattle.timetable.specs.declared.StepVerdict.{StepVerdict}
-use Rattle.timetable.specs.declared.StepVerdict.the-variants.{Found, Refused as StepRefused}
+use Rattle.timetable.specs.declared.StepVerdict.the-variants.{Found, Refused}
 
 pub record StepSize (c n : ℕ) : Type 0 where
   pub size-is : n ≡ stepLength c
@@ -73,10 +70,6 @@ partGiven s i = givenBy (stepAnswer s i) (stepPart s i)
 unfoldable pub placeGiven : ℕ × ℕ → List ℕ → ℕ → ℕ × ℕ
 placeGiven p s i = (p .0, beginsAt (stepAnswer s i) + p .1)
 
-abbrev pub answerOfReading : TimetableReading → Answer
-answerOfReading (Accepted steps moves) = accepted (steps ∷ moves ∷ [])
-answerOfReading (Refused f place) = refusedBy f place
-
 abbrev pub answerOfStep : StepVerdict → Answer
 answerOfStep (Found offset len) = accepted (offset ∷ len ∷ [])
-answerOfStep (StepRefused f place) = refusedBy f place
+answerOfStep (Refused f place) = refusedBy f place

@@ -28,7 +28,8 @@ use lib.ListN.{length, getD, take, drop}
 use lib.Dec.{ltb, eqb}
 use Rattle.answers.specs.Answer.{Answer, accepted, refuse, passUp}
 use Rattle.field.specs.Bits.{bits, field, pairs, pairBits, pad, padded, toBytes}
-use Rattle.order.specs.Order.{some, orderAnswer, floorOf, startsOf, goalsOf}
+use Rattle.order.specs.Floor.{some}
+use Rattle.order.specs.Order.{orderAnswer, floorOf, startsOf, goalsOf}
 use Rattle.motion.specs.Replay.{replaySteps}
 use Rattle.motion.proofs.StepDecision.{legalStep?}
 use Rattle.motion.specs.Judgement.{judged}

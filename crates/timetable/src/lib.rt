@@ -10,25 +10,18 @@ ghost use mathlib.Core.Bool.{false};
 ghost use mathlib.Core.List.{[], _∷_};
 ghost use Prim.Native.Nat.{_+_, _*_, _^_, _≤_, _<_};
 ghost use lib.ListN.{length, getD, drop};
-ghost use Rattle.answers.specs.Answer.{accepted, passUp};
+ghost use Rattle.answers.specs.Answer.{accepted, PassedUp};
 ghost use Rattle.order.specs.Verdict.{answerOf as orderAnswerOf};
 ghost use Rattle.tables.specs.Ending.{endOf};
 ghost use Rattle.trains.specs.StepOn.{legalStepOn, ranOn};
 ghost use Rattle.trains.specs.StepsOn.{replayStepsOn};
 ghost use Rattle.timetable.specs.Timetable.{stepLength, stepPadSet, wrongTimetableLength, stepCount, stepMoves, stepsOf};
 ghost use Rattle.timetable.specs.Timetable.{timetableAnswer, offset, stepAnswer};
-ghost use Rattle.timetable.specs.Reading.{StepSize, stepsAnswer, readingAnswer, numberAnswer, partGiven, placeGiven, answerOfReading};
-ghost use Rattle.timetable.specs.Reading.{answerOfStep};
+ghost use Rattle.timetable.specs.Reading.{StepSize, stepsAnswer, readingAnswer, numberAnswer, partGiven, placeGiven, answerOfStep};
 ghost use Rattle.timetable.specs.Checking.{tableAnswer, answerOfCheck};
 ghost use Rattle.timetable.specs.RecordLength.{wholeTimetableLength};
 
-// The verdict on a timetable's structure, with the counts of an accepted one.
-pub enum TimetableReading {
-    Accepted { steps: usize, moves: usize },
-    Refused(Fault, u32),
-}
-
-// The verdict on a timetable for an order, with the counts of an accepted one.
+// The verdict on a timetable, on its structure alone or for an order, with the counts of an accepted one.
 pub enum TimetableVerdict {
     Accepted { steps: usize, moves: usize },
     Refused(Fault, u32),
@@ -84,9 +77,9 @@ fn pad_set(step: &[u8]) -> bool
 }
 
 // 40 and 41 of the steps alone, from the fourth byte on. A set pad bit is remembered and not answered at once: 40 is judged to the end.
-fn read_steps(timetable: &[u8], count: usize) -> TimetableReading
+fn read_steps(timetable: &[u8], count: usize) -> TimetableVerdict
     requires { ⌜ 3 ≤ length (now timetable) ⌝ }
-    ensures { λ r. ⌜ answerOfReading r ≡ stepsAnswer count (drop 3 (now (timetable .entry))) ⌝ }
+    ensures { λ r. ⌜ answerOfCheck r ≡ stepsAnswer count (drop 3 (now (timetable .entry))) ⌝ }
 {
     let mut at = 3;
     let mut moves = 0;
@@ -94,12 +87,12 @@ fn read_steps(timetable: &[u8], count: usize) -> TimetableReading
     let mut i = 0;
     while i < count {
         if timetable.len() <= at {
-            return TimetableReading::Refused(Fault::TimetableLength, 0);
+            return TimetableVerdict::Refused(Fault::TimetableLength, 0);
         }
         let c = timetable[at];
         let size = step_length(c);
         if timetable.len() - at < size {
-            return TimetableReading::Refused(Fault::TimetableLength, 0);
+            return TimetableVerdict::Refused(Fault::TimetableLength, 0);
         }
         let next = at + size;
         if pad_set(&timetable[at..next]) {
@@ -110,48 +103,48 @@ fn read_steps(timetable: &[u8], count: usize) -> TimetableReading
         i += 1;
     }
     if at < timetable.len() {
-        return TimetableReading::Refused(Fault::TimetableLength, 0);
+        return TimetableVerdict::Refused(Fault::TimetableLength, 0);
     }
     if pad_seen {
-        return TimetableReading::Refused(Fault::TimetablePadding, 0);
+        return TimetableVerdict::Refused(Fault::TimetablePadding, 0);
     }
-    TimetableReading::Accepted {
+    TimetableVerdict::Accepted {
         steps: count,
         moves,
     }
 }
 
 // 40 and 41: the verdict on any byte string as a timetable record.
-pub fn read(timetable: &[u8]) -> TimetableReading
-    ensures { λ r. ⌜ answerOfReading r ≡ readingAnswer (now (timetable .entry)) ⌝ }
+pub fn read(timetable: &[u8]) -> TimetableVerdict
+    ensures { λ r. ⌜ answerOfCheck r ≡ readingAnswer (now (timetable .entry)) ⌝ }
 {
     if timetable.len() < 3 {
-        return TimetableReading::Refused(Fault::TimetableLength, 0);
+        return TimetableVerdict::Refused(Fault::TimetableLength, 0);
     }
     let count = field::count_at_head(timetable);
     let steps = read_steps(timetable, count);
-    let TimetableReading::Accepted { steps: _, moves: _ } = steps else {
+    let TimetableVerdict::Accepted { steps: _, moves: _ } = steps else {
         return steps;
     };
     if field::spare_at_head(timetable) != 0 {
-        return TimetableReading::Refused(Fault::TimetablePadding, 0);
+        return TimetableVerdict::Refused(Fault::TimetablePadding, 0);
     }
     steps
 }
 
 // 45, above 40 and 41.
-fn read_number(timetable: &[u8], number: usize) -> TimetableReading
-    ensures { λ r. ⌜ answerOfReading r ≡ numberAnswer (now (timetable .entry)) number ⌝ }
+fn read_number(timetable: &[u8], number: usize) -> TimetableVerdict
+    ensures { λ r. ⌜ answerOfCheck r ≡ numberAnswer (now (timetable .entry)) number ⌝ }
 {
     let reading = read(timetable);
-    let TimetableReading::Accepted { steps, moves: _ } = reading else {
+    let TimetableVerdict::Accepted { steps, moves: _ } = reading else {
         return reading;
     };
     if number == 0 {
-        return TimetableReading::Refused(Fault::StepNumber, 0);
+        return TimetableVerdict::Refused(Fault::StepNumber, 0);
     }
     if steps < number {
-        return TimetableReading::Refused(Fault::StepNumber, 0);
+        return TimetableVerdict::Refused(Fault::StepNumber, 0);
     }
     reading
 }
@@ -175,7 +168,7 @@ pub fn find_step(timetable: &[u8], number: usize) -> StepVerdict
     ensures { λ r. ⌜ answerOfStep r ≡ stepAnswer (now (timetable .entry)) number ⌝ }
 {
     let reading = read_number(timetable, number);
-    let TimetableReading::Refused(fault, place) = reading else {
+    let TimetableVerdict::Refused(fault, place) = reading else {
         let offset = offset_of(timetable, number);
         return StepVerdict::Found {
             offset,
@@ -199,24 +192,14 @@ pub fn step<'a>(timetable: &'a [u8], number: usize) -> &'a [u8]
     &timetable[offset..end]
 }
 
-// The order reader's refusal as the timetable checker's: the same fault at the same place.
-fn order_refusal(order: OrderVerdict) -> TimetableVerdict
-    ensures { λ r. ⌜ answerOfCheck r ≡ passUp (orderAnswerOf order) (accepted (0 ∷ 0 ∷ [])) ⌝ }
+// The order reader's verdict as the timetable checker's: the same fault at the same place, or no steps yet.
+fn passed_up(order: OrderVerdict) -> TimetableVerdict
+    ensures { λ r. ⌜ PassedUp orderAnswerOf order (accepted (0 ∷ 0 ∷ [])) (answerOfCheck r) ⌝ }
 {
-    let OrderVerdict::Refused(fault, place) = order else {
-        return TimetableVerdict::Accepted { steps: 0, moves: 0 };
-    };
-    TimetableVerdict::Refused(fault, place)
-}
-
-// The same of the refusal by 40 or 41.
-fn reading_refusal(reading: TimetableReading) -> TimetableVerdict
-    ensures { λ r. ⌜ answerOfCheck r ≡ passUp (answerOfReading reading) (accepted (0 ∷ 0 ∷ [])) ⌝ }
-{
-    let TimetableReading::Refused(fault, place) = reading else {
-        return TimetableVerdict::Accepted { steps: 0, moves: 0 };
-    };
-    TimetableVerdict::Refused(fault, place)
+    match order {
+        OrderVerdict::Accepted(_) => TimetableVerdict::Accepted { steps: 0, moves: 0 },
+        OrderVerdict::Refused(fault, place) => TimetableVerdict::Refused(fault, place),
+    }
 }
 
 // Judges a step by a matrix of the floor's edges and the rack at each position, and makes it if it is legal. The step is the whole part,
@@ -282,11 +265,11 @@ pub fn check(order: &[u8], timetable: &[u8]) -> TimetableVerdict
 {
     let below = order::read(order);
     let OrderVerdict::Accepted(counts) = below else {
-        return order_refusal(below);
+        return passed_up(below);
     };
     let reading = read(timetable);
-    let TimetableReading::Accepted { steps, moves } = reading else {
-        return reading_refusal(reading);
+    let TimetableVerdict::Accepted { steps, moves } = reading else {
+        return reading;
     };
     let e = counts.edges;
     let m = counts.racks;

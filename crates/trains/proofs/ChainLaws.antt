@@ -19,7 +19,7 @@ use lib.Seq.{getD-set-same, getD-set-other}
 use lib.Dec.{T, eqb, not-T}
 use mir.Facts.{and-yes, yes-and, or-yes}
 use Rattle.field.specs.Bytes.{BelowPairs, none₂, more₂}
-use Rattle.order.specs.Order.{some}
+use Rattle.order.specs.Floor.{some}
 use Rattle.motion.specs.Arrangement.{Arrangement, occupied, vacant}
 use Rattle.motion.specs.Move.{goesTo}
 use Rattle.motion.specs.Step.{leaves, led}
@@ -45,7 +45,7 @@ standing zero h = []
 standing (suc n) h = let rest = standing n h in cond (heldAt h n) (n ∷ rest) rest
 
 standing-held : (n : ℕ) (h : List ℕ) (p : ℕ) → T (occupied (standing n h) p) ↔ ((p < n) × T (heldAt h p))
-unfolding standing occupied
+unfolding standing occupied some
 standing-held zero h p = (λ t. absurd t, λ w. absurd (omega (arith, w .0)))
 standing-held (suc n) h p = on (heldAt h n) refl (standing-held n h p)
   where

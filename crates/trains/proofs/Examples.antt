@@ -22,7 +22,8 @@ use native.Mathlib.Omega.{arith}
 use lib.Dec.{T, ltb, ltb→lt}
 use Rattle.answers.specs.Answer.{accepted}
 use Rattle.field.specs.Bytes.{BelowPairs, none₂, more₂}
-use Rattle.order.specs.Order.{some, badEdge, precedes, ascending, wrongEdges}
+use Rattle.order.specs.Floor.{some}
+use Rattle.order.specs.Order.{badEdge, precedes, ascending, wrongEdges}
 use Rattle.order.specs.Tables.{marked, placed}
 use Rattle.motion.specs.Arrangement.{occupied, vacant}
 use Rattle.motion.specs.Move.{goesTo, after}
@@ -68,11 +69,11 @@ unfolding wrongEdges some badEdge ascending precedes
 floorF-right = refl
 
 pub starts-sound : Sound 4 starts
-unfolding isSound vacant occupied
+unfolding isSound vacant occupied some
 starts-sound = isSound-sound 4 starts .0 tt
 
 pub three-sound : Sound 4 (0 ∷ 1 ∷ 2 ∷ [])
-unfolding isSound vacant occupied
+unfolding isSound vacant occupied some
 three-sound = isSound-sound 4 (0 ∷ 1 ∷ 2 ∷ []) .0 tt
 
 pub starts-held : Holds starts (tableOf starts)

@@ -6,15 +6,15 @@
 --     chain-known        a chain that meets a train of known length is of that length
 --     chain-stays        a rack that stays stops the chain
 --     chain-on, chain-falls    the chain goes on where the move that leaves p enters, and fewer moves are unvisited
---     chain-failed, chain-ended    no leader from there is none from p; a train from there is one move longer from p
---     chain-room         a train's length and one more is no mark of a chain being followed
+--     ChainTold, chain-told    no leader from there is none from p; a train from there is one move longer from p, and its length is no
+--                        mark of a chain being followed
 --     leaders-first, leaders-next   a loop that marks where a move leads
 --     judge              whether each of the moves is led
 --     Leading            a loop over a step's moves: what is left to judge decides
 --     leading-first, leading-chain    before the first move; a chain may be followed from each move
---     leading-room       a led move's train has few moves, so that one more is a mark
---     not-led, leading-next, leading-last   a move without a leader decides; one that is led leaves the rest; after the last the answer
---                        is yes
+--     TrainTold, train-told    a move without a leader decides; one that is led leaves the rest, and its train has few moves, so that
+--                        one more is a mark
+--     leading-last       after the last the answer is yes
 -- Assumes nothing.
 use Prim.Native.Nat.{ℕ, zero, suc, _+_, _-_, _≤_, _<_}
 use mathlib.Core.Path.{_≡_, refl, sym, ap, _∙_, subst}
@@ -73,6 +73,12 @@ led-marked t h w p n room m l =
   where
     at-p : Led t h (getD (set w p n) p 0) p
     at-p = rw (getD-set-same w p n 0 (omega (arith, m .size))) l
+
+-- what the chain ahead, of length r with the marks w, tells of the one from p
+pub record ChainTold (t h v : List ℕ) (p : ℕ) (w : List ℕ) (r : ℕ) : Type 0 where
+  pub failed : r ≡ 0 → Followed t h v w p 0
+  pub room : r ≢ 0 → r ≤ 65
+  pub ended : r ≢ 0 → Followed t h v (set w p (r + 1)) p (r + 1)
 
 module _ (t h v : List ℕ) (p : ℕ) (chain : Chain t h v p) where
   ended : (r : ℕ) → Led t h r p → Followed t h v v p r
@@ -143,17 +149,17 @@ module _ (t h v : List ℕ) (p : ℕ) (chain : Chain t h v p) where
       chain-falls = unvisited-less t v p (λ e. moves (is ∙ e)) fresh wide
 
       module _ (w : List ℕ) (r : ℕ) (f : Followed t h (set v p 255) w (next - 1) r) where
-        pub chain-failed : r ≡ 0 → Followed t h v w p 0
+        chain-failed : r ≡ 0 → Followed t h v w p 0
         chain-failed e = failed w (λ n l. let u = on l in f .unled e (u .0) (u .2))
 
         module _ (some : r ≢ 0) where
-          pub chain-room : r ≤ 65
+          chain-room : r ≤ 65
           chain-room = chain .short r (next - 1) (f .led some)
 
           whole : Led t h (r + 1) p
           whole = rw (add-one r) (follows held (λ z. moves (is ∙ z)) (subst (λ (x : ℕ). Led t h r (x - 1)) is (f .led some)))
 
-          pub chain-ended : Followed t h v (set w p (r + 1)) p (r + 1)
+          chain-ended : Followed t h v (set w p (r + 1)) p (r + 1)
           chain-ended =
               record {
                 led = λ x. whole;
@@ -169,6 +175,9 @@ module _ (t h v : List ℕ) (p : ℕ) (chain : Chain t h v p) where
                   let here : getD (set w p (r + 1)) p 0 ≡ r + 1 = getD-set-same w p (r + 1) 0 (omega (arith, f .marks some .size)) in
                   let there : getD (set w p (r + 1)) p 0 ≡ 255 = ap (λ (i : ℕ). getD (set w p (r + 1)) i 0) (sym s) ∙ z in
                   omega (arith, here, there, chain-room)
+
+        pub chain-told : ChainTold t h v p w r
+        chain-told = record { failed = chain-failed; room = chain-room; ended = chain-ended }
 
 -- marks before any chain is followed
 
@@ -220,6 +229,12 @@ module _ (d : List ℕ) (c : ℕ) (t h : List ℕ) where
     pub none-passed : NonePassed v
     pub taking : Each (Taking t h) (entriesFrom d c j)
 
+  -- what its train's length r, with the marks w, tells of move j, from a
+  pub record TrainTold (j a : ℕ) (w : List ℕ) (r : ℕ) : Type 0 where
+    pub not-led : r ≡ 0 → false ≡ allLed h (entries d 0 c)
+    pub room : r ≢ 0 → r ≤ 65
+    pub next : r ≢ 0 → a < 64 → Leading (set w a (r + 1)) (j + 1)
+
   pub leading-first : (v : List ℕ) → LeadersMarked h v 64 → Each (Taking t h) (entries d 0 c) → Leading v 0
   leading-first v marked each =
       record {
@@ -243,9 +258,9 @@ module _ (d : List ℕ) (c : ℕ) (t h : List ℕ) where
 
     module _ (v : List ℕ) (j a b : ℕ) (left : Leading v j) (at : entriesFrom d c j ≡ ((a, b) ∷ entriesFrom d c (j + 1)))
         (w : List ℕ) (r : ℕ) (f : Followed t h v w b r) where
-      pub not-led : r ≡ 0 → false ≡ allLed h (entries d 0 c)
+      unled : r ≡ 0 → false ≡ allLed h (entries d 0 c)
       unfolding judge every allLed
-      not-led e =
+      unled e =
           rw (unled-on (entries d 0 c) t h targets b (f .unled e))
           at (left-at judge (entriesFrom d c) (entries d 0 c) tt tt j a b (left .judging) at)
 
@@ -253,7 +268,7 @@ module _ (d : List ℕ) (c : ℕ) (t h : List ℕ) where
       here = each-first (subst (Each (Taking t h)) at (left .taking))
 
       module _ (some : r ≢ 0) where
-        pub leading-room : r ≤ 65
+        leading-room : r ≤ 65
         leading-room = short r b (f .led some)
 
         -- who enters the position that the move leaves follows it
@@ -263,7 +278,7 @@ module _ (d : List ℕ) (c : ℕ) (t h : List ℕ) where
             let back : getD t a 0 - 1 ≡ b = omega (arith, taken .1) in
             rw (add-one r) (follows (taken .0) (λ z. omega (arith, taken .1, z)) (subst (Led t h r) (sym back) (f .led some)))
 
-        pub leading-next : a < 64 → Leading (set w a (r + 1)) (j + 1)
+        leading-next : a < 64 → Leading (set w a (r + 1)) (j + 1)
         unfolding judge every
         leading-next room =
             record {
@@ -279,6 +294,9 @@ module _ (d : List ℕ) (c : ℕ) (t h : List ℕ) where
                   (equal? q a);
               taking = here .1;
             }
+
+      pub train-told : TrainTold j a w r
+      train-told = record { not-led = unled; room = leading-room; next = leading-next }
 
   pub leading-last : (v : List ℕ) (j : ℕ) → Leading v j → c ≤ j → true ≡ allLed h (entries d 0 c)
   unfolding judge every allLed

@@ -7,9 +7,8 @@
 --     judge                        that, with the lowest position and the flags as one
 --     Judged t r                   what the pass promises of its answer r and the targets t
 --     Noting                       what is left to judge and to note decides
---     not-ascending, no-edge, no-rack, entered-twice   a move that is not sound decides: the answer is no
---     noting-first                 before the first move
---     noting-next, noting-last     one that is sound leaves the rest; after the last the answer is yes
+--     MoveTold, move-told          a move that is not sound decides: the answer is no; one that is sound leaves the rest
+--     noting-first, noting-last    before the first move; after the last the answer is yes
 -- Assumes nothing.
 use Prim.Native.Nat.{ℕ, _+_, _-_, _*_, _≤_, _<_}
 use mathlib.Core.Path.{_≡_, refl, sym, subst, _∙_}
@@ -24,7 +23,7 @@ use lib.Seq.{getD-set-same, getD-set-other}
 use lib.Dec.{T, leb, eqb, leb·zero, leb→le}
 use mir.Facts.{and-yes}
 use Rattle.field.specs.Bytes.{BelowPairs, none₂, more₂}
-use Rattle.order.specs.Order.{some}
+use Rattle.order.specs.Floor.{some}
 use Rattle.motion.specs.Step.{every, ascends, enters, enteredOnce}
 use Rattle.motion.proofs.Test.{equal?}
 use Rattle.tables.specs.Tables.{edgeAt, heldAt}
@@ -146,6 +145,15 @@ module _ (g h d : List ℕ) (c : ℕ) (t₀ : List ℕ) where
     pub judging : Left judge (entriesFrom d c) (entries d 0 c) (0, replicate 64 0) (lowest, v) j
     pub noting : Left noted (entriesFrom d c) (entries d 0 c) t₀ t j
 
+  -- what the loop's tests tell of move j, from a to b
+  pub record MoveTold (lowest : ℕ) (v t : List ℕ) (j a b : ℕ) : Type 0 where
+    pub not-ascending : a < lowest → Judged t false
+    pub no-edge : getD g (a * 64 + b) 0 ≡ 0 → Judged t false
+    pub no-rack : getD h a 0 ≡ 0 → Judged t false
+    pub entered-twice : (getD v b 0 ≡ 0 → ⊥) → Judged t false
+    pub sound : lowest ≤ a → (getD g (a * 64 + b) 0 ≡ 0 → ⊥) → (getD h a 0 ≡ 0 → ⊥) → getD v b 0 ≡ 0
+        → Noting (a + 1) (set v b 1) (set t a (b + 1)) (j + 1)
+
   pub noting-first : Noting 0 (replicate 64 0) t₀ 0
   noting-first =
       record {
@@ -170,30 +178,23 @@ module _ (g h d : List ℕ) (c : ℕ) (t₀ : List ℕ) where
     wrong : false ≡ soundMoves g h (entries d 0 c) → Judged t false
     wrong e = (e, λ r. absurd (false≢true r))
 
-    pub not-ascending : a < lowest → Judged t false
-    not-ascending l = wrong (simp (lt-leb lowest a l) at next)
-
-    pub no-edge : getD g (a * 64 + b) 0 ≡ 0 → Judged t false
-    unfolding edgeAt
-    no-edge e = wrong (simp (eq-eqb (getD g (a * 64 + b) 0) 0 e, and-false) at next)
-
-    pub no-rack : getD h a 0 ≡ 0 → Judged t false
-    unfolding heldAt
-    no-rack e = wrong (simp (eq-eqb (getD h a 0) 0 e, and-false) at next)
-
-    pub entered-twice : (getD v b 0 ≡ 0 → ⊥) → Judged t false
-    unfolding heldAt
-    entered-twice d = wrong (simp (ne-eqb (getD v b 0) 0 d, and-false) at next)
-
-    pub noting-next : lowest ≤ a → (getD g (a * 64 + b) 0 ≡ 0 → ⊥) → (getD h a 0 ≡ 0 → ⊥) → getD v b 0 ≡ 0
-        → Noting (a + 1) (set v b 1) (set t a (b + 1)) (j + 1)
+    pub move-told : MoveTold lowest v t j a b
     unfolding judge soundAfter edgeAt heldAt noted
-    noting-next l e r f =
+    move-told =
         record {
-          judging =
-              left-next judge (entriesFrom d c) (entries d 0 c) (0, replicate 64 0) (lowest, v) j a b (left .judging) at (a + 1, set v b 1)
-              (λ ms. rw (le-leb lowest a l, ne-eqb (getD g (a * 64 + b) 0) 0 e, ne-eqb (getD h a 0) 0 r, eq-eqb (getD v b 0) 0 f) refl);
-          noting = left-next noted (entriesFrom d c) (entries d 0 c) t₀ t j a b (left .noting) at (set t a (b + 1)) (λ ms. refl);
+          not-ascending = λ l. wrong (simp (lt-leb lowest a l) at next);
+          no-edge = λ e. wrong (simp (eq-eqb (getD g (a * 64 + b) 0) 0 e, and-false) at next);
+          no-rack = λ e. wrong (simp (eq-eqb (getD h a 0) 0 e, and-false) at next);
+          entered-twice = λ d. wrong (simp (ne-eqb (getD v b 0) 0 d, and-false) at next);
+          sound = λ l e r f.
+              record {
+                judging =
+                    left-next judge (entriesFrom d c) (entries d 0 c) (0, replicate 64 0) (lowest, v) j a b (left .judging) at
+                    (a + 1, set v b 1)
+                    (λ ms.
+                    rw (le-leb lowest a l, ne-eqb (getD g (a * 64 + b) 0) 0 e, ne-eqb (getD h a 0) 0 r, eq-eqb (getD v b 0) 0 f) refl);
+                noting = left-next noted (entriesFrom d c) (entries d 0 c) t₀ t j a b (left .noting) at (set t a (b + 1)) (λ ms. refl);
+              };
         }
 
   pub noting-last : (lowest : ℕ) (v t : List ℕ) (j : ℕ) → Noting lowest v t j → c ≤ j → Judged t true

@@ -5,17 +5,8 @@ use borrow.Author.Needs.{needs}
 use Rattle.controller.proofs.refusal.Statement.{statement}
 use Rattle.controller.proofs.refusal.Tie as tie
 
-number-requires : tie.Need-number-requires
-number-requires c κs = search needs
-
-mul-result : tie.Need-mul-result
-mul-result c = search needs
-
 add-result : tie.Need-add-result
 add-result c = omega (arith, numberOf-le (c .before .args .fault))
 
-returns : tie.Need-returns
-returns c = search needs
-
 pub refusal-spec : {M : Type 1} → statement M
-refusal-spec = tie.close (tie.spec number-requires mul-result add-result returns)
+refusal-spec = tie.close (tie.spec (λ c κs. search needs) (λ c. search needs) add-result (λ c. search needs))

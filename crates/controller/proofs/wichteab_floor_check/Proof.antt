@@ -8,18 +8,6 @@ use borrow.Author.Needs.{needs}
 use Rattle.controller.proofs.wichteab_floor_check.Statement.{statement}
 use Rattle.controller.proofs.wichteab_floor_check.Tie as tie
 
-check-requires : tie.Need-check-requires
-check-requires c κs = search needs
-
-enum-told : tie.Need-enum-told
-enum-told c = search needs
-
-enum-known-fault : tie.Need-enum-known-fault
-enum-known-fault c = search needs
-
-refusal-requires : tie.Need-refusal-requires
-refusal-requires c κs = search needs
-
 returns : tie.Need-returns
 returns c =
     tells nothing-packs (floor-sized _)
@@ -34,4 +22,4 @@ returns-2 c =
 pub wichteab-floor-check-spec : {M : Type 1} → statement M
 wichteab-floor-check-spec =
     tie.close
-    (tie.spec check-requires enum-told enum-known-fault refusal-requires returns returns-2)
+    (tie.spec (λ c κs. search needs) (λ c. search needs) (λ c. search needs) (λ c κs. search needs) returns returns-2)

@@ -9,18 +9,6 @@ use borrow.Author.Needs.{needs}
 use Rattle.controller.proofs.wichteab_order_check.Statement.{statement}
 use Rattle.controller.proofs.wichteab_order_check.Tie as tie
 
-read-requires : tie.Need-read-requires
-read-requires c κs = search needs
-
-enum-told : tie.Need-enum-told
-enum-told c = search needs
-
-enum-known-fault : tie.Need-enum-known-fault
-enum-known-fault c = search needs
-
-refusal-requires : tie.Need-refusal-requires
-refusal-requires c κs = search needs
-
 returns : tie.Need-returns
 returns c =
     let read = c .before .before in let entry = read .before .before in
@@ -39,4 +27,4 @@ returns-2 c =
 pub wichteab-order-check-spec : {M : Type 1} → statement M
 wichteab-order-check-spec =
     tie.close
-    (tie.spec read-requires enum-told enum-known-fault refusal-requires returns returns-2)
+    (tie.spec (λ c κs. search needs) (λ c. search needs) (λ c. search needs) (λ c κs. search needs) returns returns-2)

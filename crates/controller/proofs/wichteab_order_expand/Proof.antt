@@ -11,12 +11,6 @@ use borrow.Author.Needs.{needs}
 use Rattle.controller.proofs.wichteab_order_expand.Statement.{statement}
 use Rattle.controller.proofs.wichteab_order_expand.Tie as tie
 
-expand-requires : tie.Need-expand-requires
-expand-requires c κs = search needs
-
-enum-known-length : tie.Need-enum-known-length
-enum-known-length c = search needs
-
 mul-result : tie.Need-mul-result
 mul-result c =
     let found = c .before in
@@ -26,24 +20,12 @@ mul-result c =
     let small = accepted-length (a .short .now) (length (a .buffer .now)) (found .length .given .0 .0) is in
     record { fits = omega arith }
 
-enum-known-fault : tie.Need-enum-known-fault
-enum-known-fault c = search needs
-
-refusal-requires : tie.Need-refusal-requires
-refusal-requires c κs = search needs
-
-same-length : tie.Need-same-length
-same-length c = search needs
-
 returns : tie.Need-returns
 returns c =
     let found = c .before in
     let made = found .before .before .before .before .expand .ensures in
     let is = ap answerOf (sym (found .length .given .1)) ∙ made .0 in
     (tells record-length-packs (expand-sized _ _) (ap (packed oneCount) is), made .1)
-
-same-length-2 : tie.Need-same-length-2
-same-length-2 c = search needs
 
 returns-2 : tie.Need-returns-2
 returns-2 c =
@@ -56,12 +38,12 @@ pub wichteab-order-expand-spec : {M : Type 1} → statement M
 wichteab-order-expand-spec =
     tie.close
     (tie.spec
-    expand-requires
-    enum-known-length
+    (λ c κs. search needs)
+    (λ c. search needs)
     mul-result
-    enum-known-fault
-    refusal-requires
-    same-length
+    (λ c. search needs)
+    (λ c κs. search needs)
+    (λ c. search needs)
     returns
-    same-length-2
+    (λ c. search needs)
     returns-2)

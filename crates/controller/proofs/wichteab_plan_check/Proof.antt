@@ -11,12 +11,6 @@ use borrow.Author.Needs.{needs}
 use Rattle.controller.proofs.wichteab_plan_check.Statement.{statement}
 use Rattle.controller.proofs.wichteab_plan_check.Tie as tie
 
-check-requires : tie.Need-check-requires
-check-requires c κs = search needs
-
-enum-known-moves : tie.Need-enum-known-moves
-enum-known-moves c = search needs
-
 mul-result : tie.Need-mul-result
 mul-result c =
     let check = c .before .before .before in let entry = check .before .before .before in
@@ -25,12 +19,6 @@ mul-result c =
       moves-small (entry .args .order .now) (entry .args .plan .now) (c .before .moves .given .0 .0)
           (ap answerOf (sym (c .before .moves .given .1)) ∙ check .check .ensures),
     )
-
-enum-known-fault : tie.Need-enum-known-fault
-enum-known-fault c = search needs
-
-refusal-requires : tie.Need-refusal-requires
-refusal-requires c κs = search needs
 
 returns : tie.Need-returns
 returns c =
@@ -47,10 +35,10 @@ pub wichteab-plan-check-spec : {M : Type 1} → statement M
 wichteab-plan-check-spec =
     tie.close
     (tie.spec
-    check-requires
-    enum-known-moves
+    (λ c κs. search needs)
+    (λ c. search needs)
     mul-result
-    enum-known-fault
-    refusal-requires
+    (λ c. search needs)
+    (λ c κs. search needs)
     returns
     returns-2)

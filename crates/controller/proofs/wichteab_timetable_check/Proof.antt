@@ -10,12 +10,6 @@ use borrow.Author.Needs.{needs}
 use Rattle.controller.proofs.wichteab_timetable_check.Statement.{statement}
 use Rattle.controller.proofs.wichteab_timetable_check.Tie as tie
 
-check-requires : tie.Need-check-requires
-check-requires c κs = search needs
-
-enum-known-steps : tie.Need-enum-known-steps
-enum-known-steps c = search needs
-
 mul-result : tie.Need-mul-result
 mul-result c =
     let steps = c .before in let check = steps .before .before in let shared-slice-known2 = check .before in
@@ -49,12 +43,6 @@ mul-result-2 c =
           (ap answerOfCheck (sym (steps .steps .given .1)) ∙ check .check .ensures),
     )
 
-enum-known-fault : tie.Need-enum-known-fault
-enum-known-fault c = search needs
-
-refusal-requires : tie.Need-refusal-requires
-refusal-requires c κs = search needs
-
 returns : tie.Need-returns
 returns c =
     let check = c .before .before .before in let shared-slice-known2 = check .before in
@@ -71,12 +59,12 @@ pub wichteab-timetable-check-spec : {M : Type 1} → statement M
 wichteab-timetable-check-spec =
     tie.close
     (tie.spec
-    check-requires
-    enum-known-steps
+    (λ c κs. search needs)
+    (λ c. search needs)
     mul-result
     add-result
     mul-result-2
-    enum-known-fault
-    refusal-requires
+    (λ c. search needs)
+    (λ c κs. search needs)
     returns
     returns-2)

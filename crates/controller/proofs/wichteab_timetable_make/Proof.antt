@@ -12,12 +12,6 @@ use borrow.Author.Needs.{needs}
 use Rattle.controller.proofs.wichteab_timetable_make.Statement.{statement}
 use Rattle.controller.proofs.wichteab_timetable_make.Tie as tie
 
-make-requires : tie.Need-make-requires
-make-requires c κs = search needs
-
-enum-known-steps : tie.Need-enum-known-steps
-enum-known-steps c = search needs
-
 mul-result : tie.Need-mul-result
 mul-result c =
     let match = c .before .before in let make = match .before .before .before in
@@ -28,23 +22,11 @@ mul-result c =
           (ap answerOf (sym (c .before .steps .given .1)) ∙ make .make .ensures .0),
     )
 
-enum-known-fault : tie.Need-enum-known-fault
-enum-known-fault c = search needs
-
-refusal-requires : tie.Need-refusal-requires
-refusal-requires c κs = search needs
-
-same-length : tie.Need-same-length
-same-length c = search needs
-
 returns : tie.Need-returns
 returns c =
     let match = c .before .before in let make = match .before .before .before in
     let made = make .make .ensures in
     (tells made-steps-pack (maker-sized _ _ _) (ap (packed oneCount) (ap answerOf (sym (c .before .steps .given .1)) ∙ made .0)), made .1)
-
-same-length-2 : tie.Need-same-length-2
-same-length-2 c = search needs
 
 returns-2 : tie.Need-returns-2
 returns-2 c =
@@ -59,12 +41,12 @@ pub wichteab-timetable-make-spec : {M : Type 1} → statement M
 wichteab-timetable-make-spec =
     tie.close
     (tie.spec
-    make-requires
-    enum-known-steps
+    (λ c κs. search needs)
+    (λ c. search needs)
     mul-result
-    enum-known-fault
-    refusal-requires
-    same-length
+    (λ c. search needs)
+    (λ c κs. search needs)
+    (λ c. search needs)
     returns
-    same-length-2
+    (λ c. search needs)
     returns-2)

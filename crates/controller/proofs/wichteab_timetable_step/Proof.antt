@@ -10,12 +10,6 @@ use borrow.Author.Needs.{needs}
 use Rattle.controller.proofs.wichteab_timetable_step.Statement.{statement}
 use Rattle.controller.proofs.wichteab_timetable_step.Tie as tie
 
-find-step-requires : tie.Need-find-step-requires
-find-step-requires c κs = search needs
-
-enum-known-offset : tie.Need-enum-known-offset
-enum-known-offset c = search needs
-
 mul-result : tie.Need-mul-result
 mul-result c =
     let offset = c .before in let find-step = offset .before .before in let shared-slice-known = find-step .before in
@@ -49,12 +43,6 @@ mul-result-2 c =
           (ap answerOfStep (sym (offset .offset .given .1)) ∙ find-step .find-step .ensures),
     )
 
-enum-known-fault : tie.Need-enum-known-fault
-enum-known-fault c = search needs
-
-refusal-requires : tie.Need-refusal-requires
-refusal-requires c κs = search needs
-
 returns : tie.Need-returns
 returns c =
     let find-step = c .before .before .before in let shared-slice-known = find-step .before in
@@ -72,12 +60,12 @@ pub wichteab-timetable-step-spec : {M : Type 1} → statement M
 wichteab-timetable-step-spec =
     tie.close
     (tie.spec
-    find-step-requires
-    enum-known-offset
+    (λ c κs. search needs)
+    (λ c. search needs)
     mul-result
     add-result
     mul-result-2
-    enum-known-fault
-    refusal-requires
+    (λ c. search needs)
+    (λ c κs. search needs)
     returns
     returns-2)

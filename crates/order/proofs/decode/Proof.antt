@@ -30,15 +30,6 @@ accepted-by k = let called = k .before .before .before in ap answerOf (sym (k .b
 gave : (k : tie.After-known-told) → HeadGave (bytes k) (told k .positions) (told k .edges) (told k .racks)
 gave k = edges-gave (bytes k) (told k .positions) (told k .edges) (told k .racks) (accepted-by k)
 
-decode-edges-requires : tie.Need-decode-edges-requires
-decode-edges-requires c κs = search needs
-
-enum-known-edges : tie.Need-enum-known-edges
-enum-known-edges c = search needs
-
-enum-told : tie.Need-enum-told
-enum-told c = search needs
-
 returns : tie.Need-returns
 returns c =
     let told = c .before .before .before in
@@ -55,9 +46,6 @@ sub-racks-sound c = tail-there (bytes c) (told c .positions) (told c .edges) (to
 
 part-racks-sound-start : tie.Need-part-racks-sound-start
 part-racks-sound-start c = tail-there (bytes c) (told c .positions) (told c .edges) (told c .racks) (gave c)
-
-part-racks-sound-end : tie.Need-part-racks-sound-end
-part-racks-sound-end c = search needs
 
 racks-sound-requires : tie.Need-racks-sound-requires
 racks-sound-requires c κs =
@@ -99,13 +87,13 @@ pub decode-spec : {M : Type 1} → statement M
 decode-spec =
     tie.close
     (tie.spec
-    decode-edges-requires
-    enum-known-edges
-    enum-told
+    (λ c κs. search needs)
+    (λ c. search needs)
+    (λ c. search needs)
     returns
     sub-racks-sound
     part-racks-sound-start
-    part-racks-sound-end
+    (λ c. search needs)
     racks-sound-requires
     returns-2
     returns-3)

@@ -28,15 +28,6 @@ accepted-by k = let called = k .before .before .before in ap answerOf (sym (k .b
 gave : (k : tie.After-known-told) → HeadGave (bytes k) (told k .positions) (told k .edges) (told k .racks)
 gave k = head-gave (bytes k) (told k .positions) (told k .edges) (told k .racks) (accepted-by k)
 
-read-head-requires : tie.Need-read-head-requires
-read-head-requires c κs = search needs
-
-enum-known-head : tie.Need-enum-known-head
-enum-known-head c = search needs
-
-enum-told : tie.Need-enum-told
-enum-told c = search needs
-
 returns : tie.Need-returns
 unfolding edgesAnswer
 returns c =
@@ -49,9 +40,6 @@ sub-join-edges c = tail-there (bytes c) (told c .positions) (told c .edges) (tol
 
 part-join-edges-start : tie.Need-part-join-edges-start
 part-join-edges-start c = tail-there (bytes c) (told c .positions) (told c .edges) (told c .racks) (gave c)
-
-part-join-edges-end : tie.Need-part-join-edges-end
-part-join-edges-end c = search needs
 
 join-edges-requires : tie.Need-join-edges-requires
 join-edges-requires c κs =
@@ -84,13 +72,13 @@ pub decode-edges-spec : {M : Type 1} → statement M
 decode-edges-spec =
     tie.close
     (tie.spec
-    read-head-requires
-    enum-known-head
-    enum-told
+    (λ c κs. search needs)
+    (λ c. search needs)
+    (λ c. search needs)
     returns
     sub-join-edges
     part-join-edges-start
-    part-join-edges-end
+    (λ c. search needs)
     join-edges-requires
     returns-2
     returns-3)

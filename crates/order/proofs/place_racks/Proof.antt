@@ -18,27 +18,6 @@ loop-holds c = (
   place-first (c .before .args .tail .now) (c .before .args .from) (c .before .args .m) (c .before .args .racks .now),
 )
 
-add-position-at : tie.Need-add-position-at Inv-loop μ-loop
-add-position-at c = omega arith
-
-position-at-requires : tie.Need-position-at-requires Inv-loop μ-loop
-position-at-requires c κs = omega arith
-
-add-racks : tie.Need-add-racks Inv-loop μ-loop
-add-racks c = omega arith
-
-cast-racks : tie.Need-cast-racks Inv-loop μ-loop
-cast-racks c = omega arith
-
-element-write-racks : tie.Need-element-write-racks Inv-loop μ-loop
-element-write-racks c = omega arith
-
-add-i : tie.Need-add-i Inv-loop μ-loop
-add-i c = omega arith
-
-loop-less : tie.Need-loop-less Inv-loop μ-loop
-loop-less c = omega arith
-
 loop-again : tie.Need-loop-again Inv-loop μ-loop
 loop-again c =
     let round = c .before .before in let entry = round .before .before in (
@@ -59,12 +38,12 @@ place-racks-spec =
     Inv-loop
     μ-loop
     loop-holds
-    add-position-at
-    position-at-requires
-    add-racks
-    cast-racks
-    element-write-racks
-    add-i
-    loop-less
+    (λ c. omega arith)
+    (λ c κs. omega arith)
+    (λ c. omega arith)
+    (λ c. omega arith)
+    (λ c. omega arith)
+    (λ c. omega arith)
+    (λ c. omega arith)
     loop-again
     returns)

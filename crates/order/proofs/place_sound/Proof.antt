@@ -21,12 +21,6 @@ abbrev μ-loop : tie.MeasureT-loop
 loop-holds : tie.Need-loop-holds Inv-loop μ-loop
 loop-holds c = (omega arith, left-first _ _ _ _ (omega arith), place-first _ _ _ _)
 
-add-position-at : tie.Need-add-position-at Inv-loop μ-loop
-add-position-at c = omega arith
-
-position-at-requires : tie.Need-position-at-requires Inv-loop μ-loop
-position-at-requires c κs = omega arith
-
 returns : tie.Need-returns Inv-loop μ-loop
 returns c =
     let at = c .before .before .before in
@@ -36,9 +30,6 @@ returns c =
           (read .ensures .is) (omega arith),
       λ y. absurd (false≢true y),
     )
-
-element-copy-out-if2 : tie.Need-element-copy-out-if2 Inv-loop μ-loop
-element-copy-out-if2 c = omega arith
 
 returns-2 : tie.Need-returns-2 Inv-loop μ-loop
 returns-2 c =
@@ -50,21 +41,6 @@ returns-2 c =
           (read .ensures .is) (c .if2 .taken),
       λ y. absurd (false≢true y),
     )
-
-add-table : tie.Need-add-table Inv-loop μ-loop
-add-table c = omega arith
-
-cast-table : tie.Need-cast-table Inv-loop μ-loop
-cast-table c = omega arith
-
-element-write-table : tie.Need-element-write-table Inv-loop μ-loop
-element-write-table c = omega arith
-
-add-i : tie.Need-add-i Inv-loop μ-loop
-add-i c = omega arith
-
-loop-less : tie.Need-loop-less Inv-loop μ-loop
-loop-less c = omega arith
 
 loop-again : tie.Need-loop-again Inv-loop μ-loop
 loop-again c =
@@ -95,15 +71,15 @@ place-sound-spec =
     Inv-loop
     μ-loop
     loop-holds
-    add-position-at
-    position-at-requires
+    (λ c. omega arith)
+    (λ c κs. omega arith)
     returns
-    element-copy-out-if2
+    (λ c. omega arith)
     returns-2
-    add-table
-    cast-table
-    element-write-table
-    add-i
-    loop-less
+    (λ c. omega arith)
+    (λ c. omega arith)
+    (λ c. omega arith)
+    (λ c. omega arith)
+    (λ c. omega arith)
     loop-again
     returns-3)

@@ -11,15 +11,6 @@ use borrow.Author.Needs.{needs}
 use Rattle.order.proofs.read_edges.Statement.{statement}
 use Rattle.order.proofs.read_edges.Tie as tie
 
-read-head-requires : tie.Need-read-head-requires
-read-head-requires c κs = search needs
-
-enum-known-head : tie.Need-enum-known-head
-enum-known-head c = search needs
-
-enum-told : tie.Need-enum-told
-enum-told c = search needs
-
 returns : tie.Need-returns
 unfolding edgesAnswer
 returns c =
@@ -41,9 +32,6 @@ part-edges-sound-start c =
     (head .head .given .0 .0 .racks)
     (head-gave (entry .args .order .now) (head .head .given .0 .0 .positions) (head .head .given .0 .0 .edges)
     (head .head .given .0 .0 .racks) (ap answerOf (sym (head .head .given .1)) ∙ read-head .read-head .ensures))
-
-part-edges-sound-end : tie.Need-part-edges-sound-end
-part-edges-sound-end c = search needs
 
 edges-sound-requires : tie.Need-edges-sound-requires
 edges-sound-requires c κs =
@@ -82,13 +70,13 @@ pub read-edges-spec : {M : Type 1} → statement M
 read-edges-spec =
     tie.close
     (tie.spec
-    read-head-requires
-    enum-known-head
-    enum-told
+    (λ c κs. search needs)
+    (λ c. search needs)
+    (λ c. search needs)
     returns
     sub-edges-sound
     part-edges-sound-start
-    part-edges-sound-end
+    (λ c. search needs)
     edges-sound-requires
     returns-2
     returns-3)

@@ -4,6 +4,7 @@ use mathlib.Core.Path.{_≡_, ap, sym, _∙_}
 use Prim.Native.Nat.{ℕ}
 use mathlib.Core.List.{List, [], _∷_}
 use Rattle.answers.specs.Answer.{accepted}
+use Rattle.answers.proofs.AnswerLaws.{passed-up}
 use Rattle.order.specs.Order.{orderAnswer}
 use Rattle.order.specs.declared.Counts.{Counts}
 use Rattle.order.specs.Verdict.{answerOf as orderAnswerOf}
@@ -49,34 +50,13 @@ module _ (c : tie.After-known-told2) where
   of-record : RecordGave p (c .before .head .given .0 .0)
   of-record = record-gave p (c .before .head .given .0 .0) record-accepted
 
-read-requires : tie.Need-read-requires
-read-requires c κs = search needs
-
-enum-known-below : tie.Need-enum-known-below
-enum-known-below c = search needs
-
-enum-told : tie.Need-enum-told
-enum-told c = search needs
-
-refusal-requires : tie.Need-refusal-requires
-refusal-requires c κs = search needs
-
 returns : tie.Need-returns
 returns c =
     let told = c .before in
     let read = told .before .before in
     let entry = read .before .before .before .args in
     order-turned-down (entry .order .now) (entry .plan .now) _ _ _ _ (read .read .ensures) (ap orderAnswerOf (told .enum-told .given .1))
-    (c .refusal .ensures)
-
-read-record-requires : tie.Need-read-record-requires
-read-record-requires c κs = search needs
-
-enum-known-head : tie.Need-enum-known-head
-enum-known-head c = search needs
-
-enum-told-2 : tie.Need-enum-told-2
-enum-told-2 c = search needs
+    (passed-up (c .passed-up .ensures))
 
 returns-2 : tie.Need-returns-2
 returns-2 c =
@@ -94,17 +74,11 @@ sub-judge c = of-order c .head-there
 part-judge-start : tie.Need-part-judge-start
 part-judge-start c = of-order c .head-there
 
-part-judge-end : tie.Need-part-judge-end
-part-judge-end c = search needs
-
 sub-judge-2 : tie.Need-sub-judge-2
 sub-judge-2 c = of-record (c .before) .fit .head-there
 
 part-judge-start-2 : tie.Need-part-judge-start-2
 part-judge-start-2 c = of-record (c .before) .fit .head-there
-
-part-judge-end-2 : tie.Need-part-judge-end-2
-part-judge-end-2 c = search needs
 
 judge-requires : tie.Need-judge-requires
 judge-requires c κs =
@@ -129,20 +103,20 @@ pub check-spec : {M : Type 1} → statement M
 check-spec =
     tie.close
     (tie.spec
-    read-requires
-    enum-known-below
-    enum-told
-    refusal-requires
+    (λ c κs. search needs)
+    (λ c. search needs)
+    (λ c. search needs)
+    (λ c κs. search needs)
     returns
-    read-record-requires
-    enum-known-head
-    enum-told-2
+    (λ c κs. search needs)
+    (λ c. search needs)
+    (λ c. search needs)
     returns-2
     sub-judge
     part-judge-start
-    part-judge-end
+    (λ c. search needs)
     sub-judge-2
     part-judge-start-2
-    part-judge-end-2
+    (λ c. search needs)
     judge-requires
     returns-3)

@@ -5,6 +5,7 @@ use mathlib.Core.Path.{_≡_, ap, sym, _∙_}
 use mathlib.Core.List.{List, [], _∷_}
 use native.Mathlib.Omega.{arith}
 use Rattle.answers.specs.Answer.{accepted}
+use Rattle.answers.proofs.AnswerLaws.{passed-up}
 use Rattle.order.specs.Order.{orderAnswer}
 use Rattle.order.specs.declared.Counts.{Counts}
 use Rattle.floor.specs.Plannable.{Plannable}
@@ -42,25 +43,13 @@ read k =
     let judged = k .before .before .before .judge .ensures in
     counted (bytes k) (can k) _ (ap handedOn (sym (k .before .below .given .1)) ∙ judged .1 .0)
 
-judge-requires : tie.Need-judge-requires
-judge-requires c κs = search needs
-
-enum-known-below : tie.Need-enum-known-below
-enum-known-below c = search needs
-
-enum-told : tie.Need-enum-told
-enum-told c = search needs
-
-refusal-requires : tie.Need-refusal-requires
-refusal-requires c κs = search needs
-
 returns : tie.Need-returns
 returns c =
     let called = c .before .before .before in
     let lent = called .before .before .before in
     let start = lent .before .before .before in
     planner-refused (start .args .order .now) (start .args .buffer .now) _ _ _ _ (called .judge .ensures .0)
-    (ap floorAnswerOf (c .before .enum-told .given .1)) (c .refusal .ensures)
+    (ap floorAnswerOf (c .before .enum-told .given .1)) (passed-up (c .passed-up .ensures))
 
 mul-if1 : tie.Need-mul-if1
 mul-if1 c =
@@ -87,15 +76,6 @@ returns-2 c =
     let k = c .before in
     planner-short (bytes k) (lent k) (can k) (told k .positions) (told k .edges) (told k .racks) (read k) (omega (arith, c .if1 .taken))
 
-sub-plan-moves : tie.Need-sub-plan-moves
-sub-plan-moves c = search needs
-
-part-plan-moves-start : tie.Need-part-plan-moves-start
-part-plan-moves-start c = search needs
-
-part-plan-moves-end : tie.Need-part-plan-moves-end
-part-plan-moves-end c = search needs
-
 plan-moves-requires : tie.Need-plan-moves-requires
 plan-moves-requires c κs =
     let k = c .before .before .before in
@@ -119,9 +99,6 @@ put-head-requires c κs =
     (planned .plan-moves .ensures .moves-of (bytes k) t) in
     (search needs, omega (arith, few))
 
-same-length : tie.Need-same-length
-same-length c = search needs
-
 returns-3 : tie.Need-returns-3
 returns-3 c =
     let put = c .before .before in
@@ -138,20 +115,20 @@ pub make-spec : {M : Type 1} → statement M
 make-spec =
     tie.close
     (tie.spec
-    judge-requires
-    enum-known-below
-    enum-told
-    refusal-requires
+    (λ c κs. search needs)
+    (λ c. search needs)
+    (λ c. search needs)
+    (λ c κs. search needs)
     returns
     mul-if1
     mul-if1-2
     mul-if1-3
     add-if1
     returns-2
-    sub-plan-moves
-    part-plan-moves-start
-    part-plan-moves-end
+    (λ c. search needs)
+    (λ c. search needs)
+    (λ c. search needs)
     plan-moves-requires
     put-head-requires
-    same-length
+    (λ c. search needs)
     returns-3)

@@ -2,6 +2,7 @@
 -- Assumes nothing.
 use mathlib.Core.Path.{ap, sym, _∙_}
 use native.Mathlib.Omega.{arith}
+use Rattle.answers.proofs.AnswerLaws.{passed-up}
 use Rattle.plan.specs.Verdict.{answerOf as planAnswerOf}
 use Rattle.scheduling.proofs.Making.{maker-refused, count-below, head-there, tail-fits, maker-short, maker-room, head-room}
 use Rattle.scheduling.proofs.Making.{maker-made}
@@ -9,24 +10,12 @@ use borrow.Author.Needs.{needs}
 use Rattle.scheduling.proofs.make.Statement.{statement}
 use Rattle.scheduling.proofs.make.Tie as tie
 
-check-requires : tie.Need-check-requires
-check-requires c κs = search needs
-
-enum-known-below : tie.Need-enum-known-below
-enum-known-below c = search needs
-
-enum-told : tie.Need-enum-told
-enum-told c = search needs
-
-refusal-requires : tie.Need-refusal-requires
-refusal-requires c κs = search needs
-
 returns : tie.Need-returns
 returns c =
     let check = c .before .before .before in let shared-slice-known = check .before .before .before in
     let entry = shared-slice-known .before in
     maker-refused (entry .args .order .now) (entry .args .plan .now) (entry .args .buffer .now) _ _ _ _ (check .check .ensures)
-    (ap planAnswerOf (c .before .enum-told .given .1)) (c .refusal .ensures)
+    (ap planAnswerOf (c .before .enum-told .given .1)) (passed-up (c .passed-up .ensures))
 
 mul-if1 : tie.Need-mul-if1
 mul-if1 c =
@@ -69,9 +58,6 @@ part-make-steps-start c =
     head-there (entry .args .order .now) (entry .args .plan .now) (entry .args .buffer .now) (below .below .given .0 .0)
     (ap planAnswerOf (sym (below .below .given .1)) ∙ check .check .ensures)
 
-part-make-steps-end : tie.Need-part-make-steps-end
-part-make-steps-end c = search needs
-
 make-steps-requires : tie.Need-make-steps-requires
 make-steps-requires c κs =
     let else1 = c .before .before in let below = else1 .before .before in let check = below .before .before in
@@ -93,9 +79,6 @@ put-head-requires c κs =
     (ap planAnswerOf (sym (below .below .given .1)) ∙ check .check .ensures) (else1 .if1 .left) (make-steps .make-steps .result)
     (make-steps .make-steps .last .1 .1 .0) (make-steps .make-steps .ensures .0) (make-steps .make-steps .ensures .1)
 
-same-length : tie.Need-same-length
-same-length c = search needs
-
 returns-3 : tie.Need-returns-3
 returns-3 c =
     let put-head = c .before .before in let buffer = put-head .before .before .before in
@@ -111,18 +94,18 @@ pub make-spec : {M : Type 1} → statement M
 make-spec =
     tie.close
     (tie.spec
-    check-requires
-    enum-known-below
-    enum-told
-    refusal-requires
+    (λ c κs. search needs)
+    (λ c. search needs)
+    (λ c. search needs)
+    (λ c κs. search needs)
     returns
     mul-if1
     add-if1
     returns-2
     sub-make-steps
     part-make-steps-start
-    part-make-steps-end
+    (λ c. search needs)
     make-steps-requires
     put-head-requires
-    same-length
+    (λ c. search needs)
     returns-3)

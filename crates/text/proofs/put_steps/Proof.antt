@@ -30,9 +30,6 @@ shared-slice-read-step-length c =
     let round = c .before .before in let entry = round .before .before .before in
     stands-room (entry .args .timetable .now) (round .loop .i) (round .loop .begin) (round .loop .inv .1) (omega arith) .begins
 
-step-length-requires : tie.Need-step-length-requires Inv-loop μ-loop
-step-length-requires c κs = search needs
-
 add-end : tie.Need-add-end Inv-loop μ-loop
 add-end c =
     let round = c .before .before .before in let entry = round .before .before .before in
@@ -41,15 +38,6 @@ add-end c =
       cut-ends (entry .args .timetable .now) (round .loop .i) (round .loop .begin) (round .loop .inv .1) (omega arith)
           (c .step-length .result) (c .step-length .ensures .size-is),
     )
-
-add-put-step : tie.Need-add-put-step Inv-loop μ-loop
-add-put-step c = omega arith
-
-sub-put-step : tie.Need-sub-put-step Inv-loop μ-loop
-sub-put-step c = omega arith
-
-part-put-step-start : tie.Need-part-put-step-start Inv-loop μ-loop
-part-put-step-start c = omega arith
 
 part-put-step-end : tie.Need-part-put-step-end Inv-loop μ-loop
 part-put-step-end c =
@@ -76,12 +64,6 @@ put-step-requires c κs =
           (step-length .step-length .result) (step-length .step-length .ensures .size-is))
           (entry .pre .2) (round .loop .inv .2),
     )
-
-add-i : tie.Need-add-i Inv-loop μ-loop
-add-i c = omega arith
-
-loop-less : tie.Need-loop-less Inv-loop μ-loop
-loop-less c = omega arith
 
 loop-again : tie.Need-loop-again Inv-loop μ-loop
 loop-again c =
@@ -117,15 +99,15 @@ put-steps-spec =
     μ-loop
     loop-holds
     shared-slice-read-step-length
-    step-length-requires
+    (λ c κs. search needs)
     add-end
-    add-put-step
-    sub-put-step
-    part-put-step-start
+    (λ c. omega arith)
+    (λ c. omega arith)
+    (λ c. omega arith)
     part-put-step-end
     put-step-requires
-    add-i
-    loop-less
+    (λ c. omega arith)
+    (λ c. omega arith)
     loop-again
     same-length
     returns)

@@ -1,6 +1,6 @@
 -- `text::put_timetable` meets its contract: the reading gives the counts, and the lines follow. Assumes nothing.
 use mathlib.Core.Path.{ap, sym, _∙_}
-use Rattle.timetable.specs.Reading.{answerOfReading}
+use Rattle.timetable.specs.Checking.{answerOfCheck}
 use Rattle.text.specs.Text.{timetableText}
 use Rattle.field.proofs.WritingLaws.{fits-front, fits-next, fits-as, wrote-then, wrote-as}
 use Rattle.text.proofs.Counts.{not-refused, steps-are, line-is}
@@ -22,7 +22,7 @@ returns c =
     let read = c .before .before in let entry = read .before .before .before in
     absurd
     (not-refused (entry .args .timetable .now) (entry .pre .0) _ _
-    (ap answerOfReading (sym (c .enum-told .given .1)) ∙ read .read .ensures))
+    (ap answerOfCheck (sym (c .enum-told .given .1)) ∙ read .read .ensures))
 
 put-first-line-requires : tie.Need-put-first-line-requires
 unfolding timetableText
@@ -30,7 +30,7 @@ put-first-line-requires c κs =
     let steps = c .before .before in let read = steps .before .before in let entry = read .before .before .before in
     fits-as
     (line-is (entry .args .timetable .now) (entry .pre .0) (steps .steps .given .0 .0) (steps .steps .given .0 .1 .0)
-    (ap answerOfReading (sym (steps .steps .given .1)) ∙ read .read .ensures))
+    (ap answerOfCheck (sym (steps .steps .given .1)) ∙ read .read .ensures))
     (fits-front _ _ (entry .pre .1))
 
 put-steps-requires : tie.Need-put-steps-requires
@@ -40,11 +40,11 @@ put-steps-requires c κs =
     let read = steps .before .before in let entry = read .before .before .before in (
       entry .pre .0 .length-right,
       steps-are (entry .args .timetable .now) (entry .pre .0) (steps .steps .given .0 .0) (steps .steps .given .0 .1 .0)
-          (ap answerOfReading (sym (steps .steps .given .1)) ∙ read .read .ensures),
+          (ap answerOfCheck (sym (steps .steps .given .1)) ∙ read .read .ensures),
       fits-next _ _
           (wrote-as
           (line-is (entry .args .timetable .now) (entry .pre .0) (steps .steps .given .0 .0) (steps .steps .given .0 .1 .0)
-          (ap answerOfReading (sym (steps .steps .given .1)) ∙ read .read .ensures))
+          (ap answerOfCheck (sym (steps .steps .given .1)) ∙ read .read .ensures))
           (put-first-line .put-first-line .ensures))
           (entry .pre .1),
     )
@@ -61,7 +61,7 @@ returns-2 c =
     wrote-then _ _ (entry .pre .1)
     (wrote-as
     (line-is (entry .args .timetable .now) (entry .pre .0) (steps .steps .given .0 .0) (steps .steps .given .0 .1 .0)
-    (ap answerOfReading (sym (steps .steps .given .1)) ∙ read .read .ensures))
+    (ap answerOfCheck (sym (steps .steps .given .1)) ∙ read .read .ensures))
     (put-first-line .put-first-line .ensures))
     (put-steps .put-steps .ensures)
 

@@ -4,12 +4,14 @@ use mathlib.Core.Path.{_≡_, ap, sym, _∙_}
 use Prim.Native.Nat.{ℕ}
 use mathlib.Core.List.{List, [], _∷_}
 use Rattle.answers.specs.Answer.{accepted}
+use Rattle.answers.proofs.AnswerLaws.{passed-up}
 use Rattle.order.specs.Order.{orderAnswer}
 use Rattle.order.specs.declared.Counts.{Counts}
 use Rattle.order.specs.Verdict.{answerOf as orderAnswerOf}
 use Rattle.tables.specs.Accepted.{OrderGave}
 use Rattle.tables.proofs.AcceptedLaws.{order-gave}
-use Rattle.timetable.specs.Reading.{readingAnswer, answerOfReading}
+use Rattle.timetable.specs.Reading.{readingAnswer}
+use Rattle.timetable.specs.Checking.{answerOfCheck}
 use Rattle.timetable.proofs.Layers.{order-turned-down, reading-turned-down, ReadingGave, reading-told, answer-is}
 use borrow.Author.Needs.{needs}
 use Rattle.timetable.proofs.check.Statement.{statement}
@@ -46,7 +48,7 @@ module _ (c : tie.After-known-told2) where
   order-accepted = ap orderAnswerOf (sym (order-told .below .given .1)) ∙ order-read .read .ensures
 
   reading-accepted : accepted (steps ∷ moves ∷ []) ≡ readingAnswer s
-  reading-accepted = ap answerOfReading (sym (c .before .reading .given .1)) ∙ timetable-read .read2 .ensures
+  reading-accepted = ap answerOfCheck (sym (c .before .reading .given .1)) ∙ timetable-read .read2 .ensures
 
   of-order : OrderGave o (given .positions) (given .edges) (given .racks)
   of-order = order-gave o (given .positions) (given .edges) (given .racks) order-accepted
@@ -54,57 +56,29 @@ module _ (c : tie.After-known-told2) where
   of-reading : ReadingGave s steps moves
   of-reading = reading-told s steps moves reading-accepted
 
-read-requires : tie.Need-read-requires
-read-requires c κs = search needs
-
-enum-known-below : tie.Need-enum-known-below
-enum-known-below c = search needs
-
-enum-told : tie.Need-enum-told
-enum-told c = search needs
-
-order-refusal-requires : tie.Need-order-refusal-requires
-order-refusal-requires c κs = search needs
-
 returns : tie.Need-returns
 returns c =
     let told = c .before in
     let read = told .before .before in
     let entry = read .before .before .before .args in
     order-turned-down (entry .order .now) (entry .timetable .now) _ _ _ _ (read .read .ensures)
-    (ap orderAnswerOf (told .enum-told .given .1)) (c .order-refusal .ensures)
-
-read-requires-2 : tie.Need-read-requires-2
-read-requires-2 c κs = search needs
-
-enum-known-reading : tie.Need-enum-known-reading
-enum-known-reading c = search needs
-
-enum-told-2 : tie.Need-enum-told-2
-enum-told-2 c = search needs
-
-reading-refusal-requires : tie.Need-reading-refusal-requires
-reading-refusal-requires c κs = search needs
+    (ap orderAnswerOf (told .enum-told .given .1)) (passed-up (c .passed-up .ensures))
 
 returns-2 : tie.Need-returns-2
 returns-2 c =
-    let refused = c .before in
-    let timetable-read = refused .before .before in
+    let timetable-read = c .before .before in
     let told = timetable-read .before .before in
     let read = told .before .before in
     let entry = read .before .before .before .args in
-    reading-turned-down (entry .order .now) (entry .timetable .now) _ _ _ _ _
+    reading-turned-down (entry .order .now) (entry .timetable .now) _ _ _ _
     (ap orderAnswerOf (sym (told .below .given .1)) ∙ read .read .ensures) (timetable-read .read2 .ensures)
-    (ap answerOfReading (refused .enum-told2 .given .1)) (c .reading-refusal .ensures)
+    (ap answerOfCheck (c .enum-told2 .given .1))
 
 sub-judge : tie.Need-sub-judge
 sub-judge c = of-order c .head-there
 
 part-judge-start : tie.Need-part-judge-start
 part-judge-start c = of-order c .head-there
-
-part-judge-end : tie.Need-part-judge-end
-part-judge-end c = search needs
 
 judge-requires : tie.Need-judge-requires
 judge-requires c κs =
@@ -124,18 +98,17 @@ pub check-spec : {M : Type 1} → statement M
 check-spec =
     tie.close
     (tie.spec
-    read-requires
-    enum-known-below
-    enum-told
-    order-refusal-requires
+    (λ c κs. search needs)
+    (λ c. search needs)
+    (λ c. search needs)
+    (λ c κs. search needs)
     returns
-    read-requires-2
-    enum-known-reading
-    enum-told-2
-    reading-refusal-requires
+    (λ c κs. search needs)
+    (λ c. search needs)
+    (λ c. search needs)
     returns-2
     sub-judge
     part-judge-start
-    part-judge-end
+    (λ c. search needs)
     judge-requires
     returns-3)

@@ -21,9 +21,6 @@ shared-slice-read-step-length c =
     let round = c .before .before in let entry = round .before .before in
     (stands-room (entry .args .timetable .now) (round .loop .i - 1) (round .loop .at) (round .loop .inv .2) (omega arith)) .begins
 
-step-length-requires : tie.Need-step-length-requires Inv-loop μ-loop
-step-length-requires c κs = search needs
-
 add-at : tie.Need-add-at Inv-loop μ-loop
 add-at c =
     let round = c .before .before .before in let entry = round .before .before in
@@ -32,12 +29,6 @@ add-at c =
       (stands-room (entry .args .timetable .now) (round .loop .i - 1) (round .loop .at) (round .loop .inv .2) (omega arith)) .ends,
       c .step-length .ensures .size-is,
     )
-
-add-i : tie.Need-add-i Inv-loop μ-loop
-add-i c = omega arith
-
-loop-less : tie.Need-loop-less Inv-loop μ-loop
-loop-less c = omega arith
 
 loop-again : tie.Need-loop-again Inv-loop μ-loop
 loop-again c = (
@@ -60,9 +51,9 @@ offset-of-spec =
     μ-loop
     loop-holds
     shared-slice-read-step-length
-    step-length-requires
+    (λ c κs. search needs)
     add-at
-    add-i
-    loop-less
+    (λ c. omega arith)
+    (λ c. omega arith)
     loop-again
     returns)

@@ -13,17 +13,8 @@ sub-pad-after c = omega (arith, stepLength-some (getD (c .before .args .step .no
 part-pad-after-start : tie.Need-part-pad-after-start
 part-pad-after-start c = omega (arith, stepLength-some (getD (c .before .args .step .now) 0 0))
 
-part-pad-after-end : tie.Need-part-pad-after-end
-part-pad-after-end c = search needs
-
 shared-slice-read-wide : tie.Need-shared-slice-read-wide
 shared-slice-read-wide c = omega (arith, stepLength-some (getD (c .before .before .before .args .step .now) 0 0))
-
-wide-requires : tie.Need-wide-requires
-wide-requires c κs = search needs
-
-mul-pad-after : tie.Need-mul-pad-after
-mul-pad-after c = search needs
 
 pad-after-requires : tie.Need-pad-after-requires
 pad-after-requires c κs =
@@ -50,10 +41,10 @@ pad-set-spec =
     (tie.spec
     sub-pad-after
     part-pad-after-start
-    part-pad-after-end
+    (λ c. search needs)
     shared-slice-read-wide
-    wide-requires
-    mul-pad-after
+    (λ c κs. search needs)
+    (λ c. search needs)
     pad-after-requires
     returns
     returns-2)

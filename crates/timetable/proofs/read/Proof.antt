@@ -2,7 +2,7 @@
 -- Assumes nothing.
 use native.Mathlib.Omega.{arith}
 use mathlib.Core.Path.{ap}
-use Rattle.timetable.specs.Reading.{answerOfReading}
+use Rattle.timetable.specs.Checking.{answerOfCheck}
 use Rattle.timetable.proofs.Reading.{short, passed-up, spare-set, sound}
 use borrow.Author.Needs.{needs}
 use Rattle.timetable.proofs.read.Statement.{statement}
@@ -28,7 +28,7 @@ returns-2 c =
     let read-steps = c .before .before in let count-at-head = read-steps .before in
     let entry = count-at-head .before .before .before in
     passed-up (entry .args .timetable .now) (omega arith) (count-at-head .count-at-head .result) (count-at-head .count-at-head .ensures) _
-    (read-steps .read-steps .ensures) _ _ (ap answerOfReading (c .enum-told2 .given .1))
+    (read-steps .read-steps .ensures) _ _ (ap answerOfCheck (c .enum-told2 .given .1))
 
 spare-at-head-requires : tie.Need-spare-at-head-requires
 spare-at-head-requires c κs = search needs
@@ -38,7 +38,7 @@ returns-3 c =
     let enum-told = c .before .before in let read-steps = enum-told .before .before in
     let count-at-head = read-steps .before in let entry = count-at-head .before .before .before in
     spare-set (entry .args .timetable .now) (omega arith) (count-at-head .count-at-head .result) (count-at-head .count-at-head .ensures) _
-    (read-steps .read-steps .ensures) _ (ap answerOfReading (enum-told .enum-told .given .1)) (c .before .spare-at-head .result)
+    (read-steps .read-steps .ensures) _ (ap answerOfCheck (enum-told .enum-told .given .1)) (c .before .spare-at-head .result)
     (c .before .spare-at-head .ensures) (c .if2 .taken)
 
 returns-4 : tie.Need-returns-4
@@ -46,7 +46,7 @@ returns-4 c =
     let enum-told = c .before .before in let read-steps = enum-told .before .before in
     let count-at-head = read-steps .before in let entry = count-at-head .before .before .before in
     sound (entry .args .timetable .now) (omega arith) (count-at-head .count-at-head .result) (count-at-head .count-at-head .ensures) _
-    (read-steps .read-steps .ensures) _ (ap answerOfReading (enum-told .enum-told .given .1)) (c .before .spare-at-head .result)
+    (read-steps .read-steps .ensures) _ (ap answerOfCheck (enum-told .enum-told .given .1)) (c .before .spare-at-head .result)
     (c .before .spare-at-head .ensures) (omega arith)
 
 pub read-spec : {M : Type 1} → statement M

@@ -3,7 +3,8 @@
 use native.Mathlib.Omega.{arith}
 use mathlib.Core.Path.{ap, sym, _∙_}
 use Rattle.answers.proofs.AnswerLaws.{passUp-refused}
-use Rattle.timetable.specs.Reading.{answerOfReading, numberAnswer}
+use Rattle.timetable.specs.Reading.{numberAnswer}
+use Rattle.timetable.specs.Checking.{answerOfCheck}
 use Rattle.timetable.proofs.StepReader.{step-zero, step-above, step-there}
 use borrow.Author.Needs.{needs}
 use Rattle.timetable.proofs.read_number.Statement.{statement}
@@ -22,25 +23,25 @@ returns : tie.Need-returns
 unfolding numberAnswer
 returns c =
     c .before .before .read .ensures
-    ∙ passUp-refused _ _ _ _ (sym (c .before .before .read .ensures) ∙ ap answerOfReading (c .enum-told .given .1))
+    ∙ passUp-refused _ _ _ _ (sym (c .before .before .read .ensures) ∙ ap answerOfCheck (c .enum-told .given .1))
 
 returns-2 : tie.Need-returns-2
 returns-2 c =
     let reading = c .before .before in let read = reading .before .before in let entry = read .before .before in
     step-zero (entry .args .timetable .now) (entry .args .number) (reading .reading .given .0 .0) (reading .reading .given .0 .1 .0)
-    (ap answerOfReading (sym (reading .reading .given .1)) ∙ read .read .ensures) (omega arith)
+    (ap answerOfCheck (sym (reading .reading .given .1)) ∙ read .read .ensures) (omega arith)
 
 returns-3 : tie.Need-returns-3
 returns-3 c =
     let reading = c .before .before .before in let read = reading .before .before in let entry = read .before .before in
     step-above (entry .args .timetable .now) (entry .args .number) (reading .reading .given .0 .0) (reading .reading .given .0 .1 .0)
-    (ap answerOfReading (sym (reading .reading .given .1)) ∙ read .read .ensures) (omega arith)
+    (ap answerOfCheck (sym (reading .reading .given .1)) ∙ read .read .ensures) (omega arith)
 
 returns-4 : tie.Need-returns-4
 returns-4 c =
     let reading = c .before .before .before in let read = reading .before .before in let entry = read .before .before in
     step-there (entry .args .timetable .now) (entry .args .number) (reading .reading .given .0 .0) (reading .reading .given .0 .1 .0)
-    (ap answerOfReading (sym (reading .reading .given .1)) ∙ read .read .ensures) (c .before .if1 .left) (omega arith)
+    (ap answerOfCheck (sym (reading .reading .given .1)) ∙ read .read .ensures) (c .before .if1 .left) (omega arith)
 
 pub read-number-spec : {M : Type 1} → statement M
 read-number-spec =

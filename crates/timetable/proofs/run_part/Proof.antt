@@ -15,14 +15,8 @@ sub-run-step c = omega (arith, stepLength-some (getD (c .before .args .step .now
 part-run-step-start : tie.Need-part-run-step-start
 part-run-step-start c = omega (arith, stepLength-some (getD (c .before .args .step .now) 0 0))
 
-part-run-step-end : tie.Need-part-run-step-end
-part-run-step-end c = search needs
-
 shared-slice-read-wide : tie.Need-shared-slice-read-wide
 shared-slice-read-wide c = omega (arith, stepLength-some (getD (c .before .before .before .args .step .now) 0 0))
-
-wide-requires : tie.Need-wide-requires
-wide-requires c κs = search needs
 
 run-step-requires : tie.Need-run-step-requires
 run-step-requires c κs =
@@ -44,8 +38,8 @@ run-part-spec =
     (tie.spec
     sub-run-step
     part-run-step-start
-    part-run-step-end
+    (λ c. search needs)
     shared-slice-read-wide
-    wide-requires
+    (λ c κs. search needs)
     run-step-requires
     returns)

@@ -4,8 +4,7 @@ use mathlib.Core.Path.{sym, _∙_, subst}
 use native.Mathlib.Omega.{arith}
 use lib.ListN.{set}
 use Rattle.trains.proofs.ChainsLaws.{unvisited}
-use Rattle.trains.proofs.Following.{chain-leads, chain-ring, chain-known, chain-stays, chain-on, chain-falls}
-use Rattle.trains.proofs.Following.{chain-failed, chain-room, chain-ended}
+use Rattle.trains.proofs.Following.{chain-leads, chain-ring, chain-known, chain-stays, chain-on, chain-falls, ChainTold, chain-told}
 use Prim.Native.Nat.{ℕ, _<_}
 use borrow.Fn.Kinds.{In}
 use borrow.Fn.PlainCycle.{Measures, is, falls, and}
@@ -31,98 +30,74 @@ follow-chain-below t =
     (falls 3 follow-chain-kinds.ps _<_ μ-follow-chain t)
     follow-chain.Pre
 
-follow-chain-element-copy-out-if1 : (t : ℕ) → follow-chain-lts.Need-element-copy-out-if1 (
+abbrev follow-chain-told : (t : ℕ) → follow-chain-lts.After-follow-chain (
   wide-reads.Asked,
   wide-reads.Learnt,
   follow-chain-below t,
   follow-chain.Post,
-) (follow-chain-at t) follow-chain.Post
-follow-chain-element-copy-out-if1 t c = omega arith
+) (follow-chain-at t) follow-chain.Post → Type 0
+follow-chain-told t call =
+    let moving = call .before .before in
+    let looked = moving .before in
+    let fresh = looked .before .before in
+    let other = fresh .before .before in
+    let held = other .before .before in
+    let a = held .before .before .args in
+    ChainTold (a .target .now) (a .racks .now) (a .marks .now) (a .p) (call .follow-chain .last .1 .1 .1 .0) (call .follow-chain .result)
 
-follow-chain-returns : (t : ℕ) → follow-chain-lts.Need-returns (
+-- what the chain ahead tells
+told : (t : ℕ) (call : follow-chain-lts.After-follow-chain (
   wide-reads.Asked,
   wide-reads.Learnt,
   follow-chain-below t,
   follow-chain.Post,
-) (follow-chain-at t) follow-chain.Post
-follow-chain-returns t c =
+) (follow-chain-at t) follow-chain.Post) → follow-chain-told t call
+told t call =
+    let moving = call .before .before in
+    let looked = moving .before in
+    let fresh = looked .before .before in
+    let other = fresh .before .before in
+    let held = other .before .before in
+    let entry = held .before .before in
+    let a = entry .args in
+    let wide = looked .wide in
+    let ahead = call .follow-chain in
+    chain-told (a .target .now) (a .racks .now) (a .marks .now) (a .p) (entry .pre .1 .1) (held .if1 .left) (omega arith)
+    (fresh .if3 .left) (wide .result) (wide .ensures .0) (moving .if4 .left)
+    (ahead .last .1 .1 .1 .0) (ahead .result) (ahead .ensures)
+
+pub +follow-chain-spec : {M : Type 1} → statement M
++follow-chain-spec = close μ-follow-chain λ t. follow-chain-lts.spec (
+  wide-reads.Asked,
+  wide-reads.Learnt,
+  follow-chain-below t,
+  follow-chain.Post,
+)
+    (follow-chain-at t)
+    follow-chain.Post
+    (λ c. omega arith)
+    (λ c.
     let entry = c .before .before in
     let a = entry .args in
-    chain-leads (a .target .now) (a .racks .now) (a .marks .now) (a .p) (entry .pre .1 .1) (c .if1 .taken)
-
-follow-chain-element-copy-out-if2 : (t : ℕ) → follow-chain-lts.Need-element-copy-out-if2 (
-  wide-reads.Asked,
-  wide-reads.Learnt,
-  follow-chain-below t,
-  follow-chain.Post,
-) (follow-chain-at t) follow-chain.Post
-follow-chain-element-copy-out-if2 t c = omega arith
-
-follow-chain-returns-2 : (t : ℕ) → follow-chain-lts.Need-returns-2 (
-  wide-reads.Asked,
-  wide-reads.Learnt,
-  follow-chain-below t,
-  follow-chain.Post,
-) (follow-chain-at t) follow-chain.Post
-follow-chain-returns-2 t c =
+    chain-leads (a .target .now) (a .racks .now) (a .marks .now) (a .p) (entry .pre .1 .1) (c .if1 .taken))
+    (λ c. omega arith)
+    (λ c.
     let held = c .before .before in
     let entry = held .before .before in
     let a = entry .args in
-    chain-ring (a .target .now) (a .racks .now) (a .marks .now) (a .p) (entry .pre .1 .1) (c .if2 .taken)
-
-follow-chain-element-copy-out-if3 : (t : ℕ) → follow-chain-lts.Need-element-copy-out-if3 (
-  wide-reads.Asked,
-  wide-reads.Learnt,
-  follow-chain-below t,
-  follow-chain.Post,
-) (follow-chain-at t) follow-chain.Post
-follow-chain-element-copy-out-if3 t c = omega arith
-
-follow-chain-element-copy-out-result : (t : ℕ) → follow-chain-lts.Need-element-copy-out-result (
-  wide-reads.Asked,
-  wide-reads.Learnt,
-  follow-chain-below t,
-  follow-chain.Post,
-) (follow-chain-at t) follow-chain.Post
-follow-chain-element-copy-out-result t c = omega arith
-
-follow-chain-returns-3 : (t : ℕ) → follow-chain-lts.Need-returns-3 (
-  wide-reads.Asked,
-  wide-reads.Learnt,
-  follow-chain-below t,
-  follow-chain.Post,
-) (follow-chain-at t) follow-chain.Post
-follow-chain-returns-3 t c =
+    chain-ring (a .target .now) (a .racks .now) (a .marks .now) (a .p) (entry .pre .1 .1) (c .if2 .taken))
+    (λ c. omega arith)
+    (λ c. omega arith)
+    (λ c.
     let marked = c .before in
     let other = marked .before .before in
     let held = other .before .before in
     let entry = held .before .before in
     let a = entry .args in
-    chain-known (a .target .now) (a .racks .now) (a .marks .now) (a .p) (entry .pre .1 .1) (marked .if3 .taken) (other .if2 .left)
-
-follow-chain-element-copy-out-wide : (t : ℕ) → follow-chain-lts.Need-element-copy-out-wide (
-  wide-reads.Asked,
-  wide-reads.Learnt,
-  follow-chain-below t,
-  follow-chain.Post,
-) (follow-chain-at t) follow-chain.Post
-follow-chain-element-copy-out-wide t c = omega arith
-
-follow-chain-wide-requires : (t : ℕ) → follow-chain-lts.Need-wide-requires (
-  wide-reads.Asked,
-  wide-reads.Learnt,
-  follow-chain-below t,
-  follow-chain.Post,
-) (follow-chain-at t) follow-chain.Post
-follow-chain-wide-requires t c κs = tt
-
-follow-chain-returns-4 : (t : ℕ) → follow-chain-lts.Need-returns-4 (
-  wide-reads.Asked,
-  wide-reads.Learnt,
-  follow-chain-below t,
-  follow-chain.Post,
-) (follow-chain-at t) follow-chain.Post
-follow-chain-returns-4 t c =
+    chain-known (a .target .now) (a .racks .now) (a .marks .now) (a .p) (entry .pre .1 .1) (marked .if3 .taken) (other .if2 .left))
+    (λ c. omega arith)
+    (λ c κs. tt)
+    (λ c.
     let looked = c .before in
     let fresh = looked .before .before in
     let other = fresh .before .before in
@@ -130,31 +105,10 @@ follow-chain-returns-4 t c =
     let entry = held .before .before in
     let a = entry .args in
     chain-stays (a .target .now) (a .racks .now) (a .marks .now) (a .p) (entry .pre .1 .1) (held .if1 .left)
-    (sym (looked .wide .ensures .0) ∙ c .if4 .taken)
-
-follow-chain-sub-entered : (t : ℕ) → follow-chain-lts.Need-sub-entered (
-  wide-reads.Asked,
-  wide-reads.Learnt,
-  follow-chain-below t,
-  follow-chain.Post,
-) (follow-chain-at t) follow-chain.Post
-follow-chain-sub-entered t c = omega arith
-
-follow-chain-element-write-marks : (t : ℕ) → follow-chain-lts.Need-element-write-marks (
-  wide-reads.Asked,
-  wide-reads.Learnt,
-  follow-chain-below t,
-  follow-chain.Post,
-) (follow-chain-at t) follow-chain.Post
-follow-chain-element-write-marks t c = omega arith
-
-follow-chain-follow-chain-requires : (t : ℕ) → follow-chain-lts.Need-follow-chain-requires (
-  wide-reads.Asked,
-  wide-reads.Learnt,
-  follow-chain-below t,
-  follow-chain.Post,
-) (follow-chain-at t) follow-chain.Post
-follow-chain-follow-chain-requires t c κs =
+    (sym (looked .wide .ensures .0) ∙ c .if4 .taken))
+    (λ c. omega arith)
+    (λ c. omega arith)
+    (λ c κs.
     let moving = c .before in
     let looked = moving .before in
     let fresh = looked .before .before in
@@ -169,104 +123,8 @@ follow-chain-follow-chain-requires t c κs =
     (fresh .if3 .left) (wide .result) (wide .ensures .0) (moving .if4 .left) in
     let less : unvisited (a .target .now) (set (a .marks .now) (a .p) 255) < t = subst
     (λ (j : ℕ). unvisited (a .target .now) (set (a .marks .now) (a .p) 255) < j) (entry .pre .0) falls in
-    (less, (omega (arith, entry .pre .1 .1 .below (a .p), wide .ensures .0), on))
-
-follow-chain-returns-5 : (t : ℕ) → follow-chain-lts.Need-returns-5 (
-  wide-reads.Asked,
-  wide-reads.Learnt,
-  follow-chain-below t,
-  follow-chain.Post,
-) (follow-chain-at t) follow-chain.Post
-follow-chain-returns-5 t c =
-    let call = c .before in
-    let moving = call .before .before in
-    let looked = moving .before in
-    let fresh = looked .before .before in
-    let other = fresh .before .before in
-    let held = other .before .before in
-    let entry = held .before .before in
-    let a = entry .args in
-    let wide = looked .wide in
-    let ahead = call .follow-chain in
-    chain-failed (a .target .now) (a .racks .now) (a .marks .now) (a .p) (entry .pre .1 .1) (held .if1 .left) (omega arith)
-    (fresh .if3 .left) (wide .result) (wide .ensures .0) (moving .if4 .left)
-    (ahead .last .1 .1 .1 .0) (ahead .result) (ahead .ensures) (c .if5 .taken)
-
-follow-chain-add-moves : (t : ℕ) → follow-chain-lts.Need-add-moves (
-  wide-reads.Asked,
-  wide-reads.Learnt,
-  follow-chain-below t,
-  follow-chain.Post,
-) (follow-chain-at t) follow-chain.Post
-follow-chain-add-moves t c =
-    let call = c .before in
-    let moving = call .before .before in
-    let looked = moving .before in
-    let fresh = looked .before .before in
-    let other = fresh .before .before in
-    let held = other .before .before in
-    let entry = held .before .before in
-    let a = entry .args in
-    let wide = looked .wide in
-    let ahead = call .follow-chain in
-    let room = chain-room (a .target .now) (a .racks .now) (a .marks .now) (a .p) (entry .pre .1 .1) (held .if1 .left) (omega arith)
-    (fresh .if3 .left) (wide .result) (wide .ensures .0) (moving .if4 .left)
-    (ahead .last .1 .1 .1 .0) (ahead .result) (ahead .ensures) (c .if5 .left) in
-    omega arith
-
-follow-chain-element-write-marks-2 : (t : ℕ) → follow-chain-lts.Need-element-write-marks-2 (
-  wide-reads.Asked,
-  wide-reads.Learnt,
-  follow-chain-below t,
-  follow-chain.Post,
-) (follow-chain-at t) follow-chain.Post
-follow-chain-element-write-marks-2 t c = omega arith
-
-follow-chain-returns-6 : (t : ℕ) → follow-chain-lts.Need-returns-6 (
-  wide-reads.Asked,
-  wide-reads.Learnt,
-  follow-chain-below t,
-  follow-chain.Post,
-) (follow-chain-at t) follow-chain.Post
-follow-chain-returns-6 t c =
-    let led = c in
-    let call = led .before in
-    let moving = call .before .before in
-    let looked = moving .before in
-    let fresh = looked .before .before in
-    let other = fresh .before .before in
-    let held = other .before .before in
-    let entry = held .before .before in
-    let a = entry .args in
-    let wide = looked .wide in
-    let ahead = call .follow-chain in
-    chain-ended (a .target .now) (a .racks .now) (a .marks .now) (a .p) (entry .pre .1 .1) (held .if1 .left) (omega arith)
-    (fresh .if3 .left) (wide .result) (wide .ensures .0) (moving .if4 .left)
-    (ahead .last .1 .1 .1 .0) (ahead .result) (ahead .ensures) (led .if5 .left)
-
-pub +follow-chain-spec : {M : Type 1} → statement M
-+follow-chain-spec = close μ-follow-chain λ t. follow-chain-lts.spec (
-  wide-reads.Asked,
-  wide-reads.Learnt,
-  follow-chain-below t,
-  follow-chain.Post,
-)
-    (follow-chain-at t)
-    follow-chain.Post
-    (follow-chain-element-copy-out-if1 t)
-    (follow-chain-returns t)
-    (follow-chain-element-copy-out-if2 t)
-    (follow-chain-returns-2 t)
-    (follow-chain-element-copy-out-if3 t)
-    (follow-chain-element-copy-out-result t)
-    (follow-chain-returns-3 t)
-    (follow-chain-element-copy-out-wide t)
-    (follow-chain-wide-requires t)
-    (follow-chain-returns-4 t)
-    (follow-chain-sub-entered t)
-    (follow-chain-element-write-marks t)
-    (follow-chain-follow-chain-requires t)
-    (follow-chain-returns-5 t)
-    (follow-chain-add-moves t)
-    (follow-chain-element-write-marks-2 t)
-    (follow-chain-returns-6 t)
+    (less, (omega (arith, entry .pre .1 .1 .below (a .p), wide .ensures .0), on)))
+    (λ c. told t (c .before) .failed (c .if5 .taken))
+    (λ c. let room = told t (c .before) .room (c .if5 .left) in omega arith)
+    (λ c. omega arith)
+    (λ c. told t (c .before) .ended (c .if5 .left))

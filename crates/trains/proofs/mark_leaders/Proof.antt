@@ -16,20 +16,8 @@ abbrev μ-loop : tie.MeasureT-loop
 loop-holds : tie.Need-loop-holds Inv-loop μ-loop
 loop-holds c = let a = c .args in (omega arith, leaders-first (a .racks .now) (a .marks .now) (c .pre))
 
-element-copy-out-leader-mark : tie.Need-element-copy-out-leader-mark Inv-loop μ-loop
-element-copy-out-leader-mark c = omega arith
-
 leader-mark-requires : tie.Need-leader-mark-requires Inv-loop μ-loop
 leader-mark-requires c κs = tt
-
-element-write-marks : tie.Need-element-write-marks Inv-loop μ-loop
-element-write-marks c = omega arith
-
-add-p : tie.Need-add-p Inv-loop μ-loop
-add-p c = omega arith
-
-loop-less : tie.Need-loop-less Inv-loop μ-loop
-loop-less c = omega arith
 
 loop-again : tie.Need-loop-again Inv-loop μ-loop
 loop-again c =
@@ -51,10 +39,10 @@ mark-leaders-spec =
     Inv-loop
     μ-loop
     loop-holds
-    element-copy-out-leader-mark
+    (λ c. omega arith)
     leader-mark-requires
-    element-write-marks
-    add-p
-    loop-less
+    (λ c. omega arith)
+    (λ c. omega arith)
+    (λ c. omega arith)
     loop-again
     returns)

@@ -20,35 +20,11 @@ loop-holds c =
     let first = entries-first (a .step .now) (a .c) in
     (omega arith, left-first (putDown (a .before .now)) (entriesFrom (a .step .now) (a .c)) all (a .racks .now) first)
 
-mul-first-of : tie.Need-mul-first-of Inv-loop μ-loop
-mul-first-of c = omega arith
-
-element-copy-out-first-of : tie.Need-element-copy-out-first-of Inv-loop μ-loop
-element-copy-out-first-of c = omega arith
-
 first-of-requires : tie.Need-first-of-requires Inv-loop μ-loop
 first-of-requires c κs = tt
 
-mul-second-of : tie.Need-mul-second-of Inv-loop μ-loop
-mul-second-of c = omega arith
-
-element-copy-out-second-of : tie.Need-element-copy-out-second-of Inv-loop μ-loop
-element-copy-out-second-of c = omega arith
-
 second-of-requires : tie.Need-second-of-requires Inv-loop μ-loop
 second-of-requires c κs = tt
-
-element-copy-out-racks : tie.Need-element-copy-out-racks Inv-loop μ-loop
-element-copy-out-racks c = omega arith
-
-element-write-racks : tie.Need-element-write-racks Inv-loop μ-loop
-element-write-racks c = omega arith
-
-add-j : tie.Need-add-j Inv-loop μ-loop
-add-j c = omega arith
-
-loop-less : tie.Need-loop-less Inv-loop μ-loop
-loop-less c = omega arith
 
 loop-again : tie.Need-loop-again Inv-loop μ-loop
 unfolding putDown
@@ -79,15 +55,15 @@ put-down-spec =
     Inv-loop
     μ-loop
     loop-holds
-    mul-first-of
-    element-copy-out-first-of
+    (λ c. omega arith)
+    (λ c. omega arith)
     first-of-requires
-    mul-second-of
-    element-copy-out-second-of
+    (λ c. omega arith)
+    (λ c. omega arith)
     second-of-requires
-    element-copy-out-racks
-    element-write-racks
-    add-j
-    loop-less
+    (λ c. omega arith)
+    (λ c. omega arith)
+    (λ c. omega arith)
+    (λ c. omega arith)
     loop-again
     returns)

@@ -19,23 +19,8 @@ loop-holds c =
     let all = entries (a .step .now) 0 (a .c) in
     (omega arith, left-first takenUp (entriesFrom (a .step .now) (a .c)) all (a .racks .now) (entries-first (a .step .now) (a .c)))
 
-mul-first-of : tie.Need-mul-first-of Inv-loop μ-loop
-mul-first-of c = omega arith
-
-element-copy-out-first-of : tie.Need-element-copy-out-first-of Inv-loop μ-loop
-element-copy-out-first-of c = omega arith
-
 first-of-requires : tie.Need-first-of-requires Inv-loop μ-loop
 first-of-requires c κs = tt
-
-element-write-racks : tie.Need-element-write-racks Inv-loop μ-loop
-element-write-racks c = omega arith
-
-add-j : tie.Need-add-j Inv-loop μ-loop
-add-j c = omega arith
-
-loop-less : tie.Need-loop-less Inv-loop μ-loop
-loop-less c = omega arith
 
 loop-again : tie.Need-loop-again Inv-loop μ-loop
 unfolding takenUp
@@ -63,11 +48,11 @@ take-up-spec =
     Inv-loop
     μ-loop
     loop-holds
-    mul-first-of
-    element-copy-out-first-of
+    (λ c. omega arith)
+    (λ c. omega arith)
     first-of-requires
-    element-write-racks
-    add-j
-    loop-less
+    (λ c. omega arith)
+    (λ c. omega arith)
+    (λ c. omega arith)
     loop-again
     returns)
