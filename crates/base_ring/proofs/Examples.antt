@@ -24,7 +24,7 @@ use Rattle.shunting.specs.Table.{Table}
 use Rattle.shunting.specs.declared.State.{State}
 use Rattle.base_ring.specs.declared.Circle.{Circle}
 use Rattle.base_ring.specs.Circle.{place, On, BaseRing, OnRing, Open, RestSettled, Ringing}
-use Rattle.base_ring.specs.Moves.{ringMoves}
+use Rattle.base_ring.specs.Moves.{exchangeMoves, ringMoves}
 
 unfoldable pub square : List ℕ
 square = 26 ∷ 5 ∷ 26 ∷ 5 ∷ 5 ∷ []
@@ -136,7 +136,8 @@ pub settle-ring-met :
     Rows 5 square
     × BaseRing (Edge square) circle
     × RestSettled circle (row racks) (row racks)
-    × Space state (replicate 648 0) (ringMoves 5 4)
+    × Space state (replicate 648 0) (ringMoves 4)
+unfolding exchangeMoves
 settle-ring-met =
     let h = length-replicate {A = ℕ} 59 0 in
     let t = length-replicate {A = ℕ} 648 0 in (

@@ -32,6 +32,7 @@ use Rattle.shunting.proofs.WentLaws.{same-refl}
 use Rattle.shunting.specs.Journey.{row, Packed, Trip}
 use Rattle.shunting.proofs.JourneyLaws.{packed-nothing, trip-packed, went-written}
 use Rattle.solving.specs.Placed.{Placed, Filled}
+use Rattle.solving.specs.Moves.{solveMoves}
 use Rattle.solving.proofs.Planned.{trip-planned}
 use Rattle.floor.specs.FloorAnswer.{Joins}
 use Rattle.floor.proofs.FloorRows.{edge-joins, filled-is, filled-rows}
@@ -100,7 +101,7 @@ module _ (o : List ℕ) (n e m : ℕ) (gave : OrderGave o n e m) where
       pub planned : (h k start goal t : List ℕ) {t′ : List ℕ} {s : State} → Holds (startsOf o) h → Holds (goalsOf o) k
           → (((p : ℕ) → p < 64 → row h p ≡ row k p) → ⊥)
           → Filled m (row h) (row start) → Filled m (row k) (row goal) → 12 * (n * (n * n)) ≤ length t
-          → Trip g (8 * (n * (n * n))) (begun start) t s t′ → Same (row (s .racks)) (row goal)
+          → Trip g (solveMoves n) (begun start) t s t′ → Same (row (s .racks)) (row goal)
           → Moves o n t t′ (s .written)
       planned h k start goal t a b differ fa fb room trip ends =
           let well = gave .placed-well in
