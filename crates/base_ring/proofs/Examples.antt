@@ -10,7 +10,7 @@
 --     square-ringing         the state in which places from 2 on are settled
 --     state, settle-ring-met    what `base_ring::settle_ring` asks for, all of it at once
 -- Assumes nothing.
-use Prim.Native.Nat.{ℕ, zero, suc, _+_, _-_, _*_, _≤_, _<_}
+use Prim.Native.Nat.{ℕ, zero, suc, _+_, _≤_, _<_}
 use mathlib.Core.Path.{_≡_, refl, _∙_}
 use mathlib.Core.List.{List, [], _∷_}
 use mathlib.Core.Logic.{_⊎_, inl, inr, ⊎-elim}
@@ -23,7 +23,7 @@ use Rattle.shunting.specs.Journey.{row, Space}
 use Rattle.shunting.specs.Table.{Table}
 use Rattle.shunting.specs.declared.State.{State}
 use Rattle.base_ring.specs.declared.Circle.{Circle}
-use Rattle.base_ring.specs.Circle.{place, On, BaseRing, OnRing, Open, RestSettled, Ringing}
+use Rattle.base_ring.specs.Circle.{place, BaseRing, OnRing, Open, RestSettled, Ringing}
 use Rattle.base_ring.specs.Moves.{exchangeMoves, ringMoves}
 
 unfoldable pub square : List ℕ

@@ -1,5 +1,6 @@
 -- How many moves settling the base ring takes at most, where it has r positions. Clearing a position takes fewer moves than there are
--- positions that are not held, and bringing a rack through at most c + 1 positions at most c × c (crates/shunting). Off the ring all is held.
+-- positions that are not held, and bringing a rack through at most c + 1 positions at most c × c (crates/shunting). Off the ring all is
+-- held.
 --
 --     asideMoves r          a rack beside the ring steps onto it, a rack is brought to place 0, and steps aside
 --     nextMoves r           a rack is brought to place 1, place 0 is cleared with place 1 held, and the last place with both held

@@ -23,7 +23,7 @@ use Rattle.graph.proofs.ConnectedLaws.{third}
 use Rattle.graph.specs.Rows.{Edge, Rows}
 use Rattle.graph.specs.Nearest.{Nearest}
 use Rattle.graph.proofs.NearestLaws.{nearest-found}
-use Rattle.breakdown.specs.Breakdown.{Among, Between}
+use Rattle.breakdown.specs.Breakdown.{Among}
 use Rattle.breakdown.specs.Part.{Places, Part}
 use Rattle.breakdown.proofs.StageLaws.{among, Two, robust-neighbours}
 use Rattle.shunting.specs.Journey.{row}

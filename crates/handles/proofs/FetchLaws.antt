@@ -13,7 +13,7 @@
 --     fetch-carried            carried to y it is in the stage
 -- Assumes nothing.
 use Prim.Native.Nat.{ℕ, suc, _+_, _-_, _*_, _≤_, _<_}
-use mathlib.Core.Path.{_≡_, refl, sym, ap, subst, _∙_}
+use mathlib.Core.Path.{_≡_, refl, sym, ap, _∙_}
 use mathlib.Core.Bool.{Bool, true, false}
 use mathlib.Core.List.{List}
 use mathlib.Core.Logic.{_↔_, _≢_, by-cases, inl, inr, ⊎-elim}
@@ -50,7 +50,10 @@ pub fails : {b : Bool} {P : Type 0} → (b ≡ true) ↔ P → b ≡ false → P
 fails both f x = let t = both .1 x in let z : _≡_ {A = ℕ} 0 1 = cc in omega arith
 
 pub home-few : (n : ℕ) → n ≤ 64 → homeMoves n ≤ 8256
-home-few n l = let s : (n - 2) * (n - 2) ≤ 3844 = mul-le-mul (let a : n - 2 ≤ 62 = omega arith in a) (let b : n - 2 ≤ 62 = omega arith in b) in omega arith
+home-few n l =
+    let less : n - 2 ≤ 62 = omega arith in
+    let square = mul-le-mul less less in
+    omega arith
 
 -- the stage is opened, and then a rack fetched; the rest begins the log anew
 pub place-open : (n : ℕ) {x : State} {l t : List ℕ} → Room x l t (placeMoves n) → Room x l t (openMoves n)

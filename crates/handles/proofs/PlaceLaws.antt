@@ -13,7 +13,7 @@
 use Prim.Native.Nat.{ℕ, suc, _+_, _-_, _≤_, _<_}
 use mathlib.Core.Path.{_≡_, refl, sym, ap, subst, _∙_}
 use mathlib.Core.List.{List}
-use mathlib.Core.Logic.{_↔_, _≢_, by-cases, inl, inr, ⊎-elim}
+use mathlib.Core.Logic.{_↔_, _≢_, by-cases, inl}
 use native.Mathlib.Decide.{ℕ-discrete, decLt}
 use native.Mathlib.Omega.{arith}
 use Rattle.sets.specs.Sets.{Has}
@@ -143,7 +143,8 @@ module _ {n : ℕ} {g : List ℕ} {at : ℕ → ℕ} {s e u v : ℕ} (rows : Row
           let way = stage-robust .without u (stage-in rows lane stage has u (lane .handle .left)) v (z .at)
           (record { there = stage-in rows lane stage has v (lane .handle .right); other = λ x. lane .handle .ends (sym x) })
           (record { there = z .there; other = away }) in
-          reaches-back (rows .symmetric) (z .at) (way .size) (z .vacant) (walk-inside (λ p x. without p .1 (x .there, x .other)) (way .walk))
+          reaches-back (rows .symmetric) (z .at) (way .size) (z .vacant)
+          (walk-inside (λ p x. without p .1 (x .there, x .other)) (way .walk))
 
       -- the stage leaves out a position of the floor, and u is held
       pub rest-few : AtMost (suc (n - 3)) (Has rest)

@@ -17,8 +17,7 @@
 use Prim.Native.Nat.{ℕ, suc, _+_, _-_, _*_, _≤_, _<_}
 use mathlib.Core.Path.{_≡_, refl, sym, ap, subst, _∙_}
 use mathlib.Core.List.{List, [], _∷_}
-use mathlib.Core.Logic.{_↔_, _≢_, by-cases}
-use native.Mathlib.Decide.{ℕ-discrete}
+use mathlib.Core.Logic.{_↔_, _≢_}
 use native.Mathlib.Nat.{mul-suc, mul-comm, mul-le-mul-right}
 use native.Mathlib.Omega.{arith}
 use lib.ListN.{length}
@@ -33,7 +32,7 @@ use Rattle.shunting.specs.declared.State.{State}
 use Rattle.shunting.specs.Journey.{row, Fits, Joins, Journey, JourneyOn}
 use Rattle.shunting.proofs.JourneyLaws.{journey-none, journey-append, journey-more, fits-less, fits-then}
 use Rattle.shunting.specs.Turned.{Movable, Passed}
-use Rattle.shunting.specs.Distance.{Distance, Reaches, AtMost}
+use Rattle.shunting.specs.Distance.{Reaches, AtMost}
 use Rattle.shunting.proofs.DistanceLaws.{at-most-less, at-most-except, shortest-few, distance-same, distance-few, reaches-back}
 use Rattle.shunting.specs.Cleared.{Inside, Vacancy, Cleared, RoomToClear, Clears}
 use Rattle.shunting.specs.Cleared.{Bringable, RoomToBring, Brings, sum, bringMoves, BroughtBy, Brought}
@@ -76,7 +75,8 @@ pub record Bringing (P : ℕ → Type 0) (at : ℕ → ℕ) (a size : ℕ) (h cu
   pub outside : (q : ℕ) → (P q → ⊥) → cur q ≡ h q
 
 -- how it came there, the moves counted, and room for the rounds to come
-pub record BringingBy (P : ℕ → Type 0) (g : List ℕ) (at : ℕ → ℕ) (a k : ℕ) (s : State) (l t : List ℕ) (s′ : State) (l′ t′ : List ℕ) : Type 0 where
+pub record BringingBy (P : ℕ → Type 0) (g : List ℕ) (at : ℕ → ℕ) (a k : ℕ) (s : State) (l t : List ℕ) (s′ : State)
+    (l′ t′ : List ℕ) : Type 0 where
   pub clearings : List ℕ
   pub brings : Brings (Edge g) P (row (s .racks)) a clearings (at (k - 1)) (row (s′ .racks))
   pub count : length clearings ≡ k - 1
@@ -273,6 +273,7 @@ module _ {n : ℕ} {g : List ℕ} {h at : ℕ → ℕ} {region from to size : �
   unfolding sum
   bringing-begun {s} {l} {t} room =
       let journey = journey-none s l t in
+      let first : room .most ≡ room .most + 1 - 1 = omega arith in
       record {
         clearings = [];
         brings = subst (λ (z : ℕ). Brings (Edge g) (Has region) (row (s .racks)) from [] z (row (s .racks)))
@@ -282,5 +283,5 @@ module _ {n : ℕ} {g : List ℕ} {h at : ℕ → ℕ} {region from to size : �
         exactly = (let none = journey .trip .few in omega arith);
         most = room .most;
         few = room .few;
-        room = subst (λ (z : ℕ). Fits s l t (room .most * z)) (let same : room .most ≡ room .most + 1 - 1 = omega arith in same) (room .fits);
+        room = subst (λ (z : ℕ). Fits s l t (room .most * z)) first (room .fits);
       }

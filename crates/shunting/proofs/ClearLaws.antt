@@ -9,8 +9,8 @@
 --     way-short, way-inside, way-simple, way-shiftable, way-joined, way-distance, way-cleared    the way
 --     cleared                 the way shifted
 --     clears-same, room-same, within-clears    the same of the positions of a region
---     outcome-told, outcome-none, outcome-held    the number that is told; that there is no way is told exactly where there is none; what is
---                             held does not move
+--     outcome-told, outcome-none, outcome-held    the number that is told; that there is no way is told exactly where there is none; and
+--                             what is held does not move
 --     clear-room, clear-few   a clearing takes fewer moves than there are free positions: room for it, and its journey
 -- Assumes nothing.
 use Prim.Native.Nat.{ℕ, suc, _+_, _-_, _≤_, _<_}
@@ -30,7 +30,8 @@ use Rattle.graph.proofs.NearestLaws.{nearest-short, nearest-inner}
 use Rattle.shunting.specs.declared.State.{State}
 use Rattle.shunting.specs.declared.Clearing.{Clearing}
 use Rattle.shunting.specs.Journey.{row, Fits, Joins, Along, JourneyIn, JourneyOn, JourneyAlong}
-use Rattle.shunting.proofs.JourneyLaws.{journey-in-none, journey-in-append, journey-in-more, journey-in-less, journey-in-one, fits-less}
+use Rattle.shunting.proofs.JourneyLaws.{journey-in-none, journey-in-append, journey-in-more, journey-in-less, journey-in-one}
+use Rattle.shunting.proofs.JourneyLaws.{fits-less}
 use Rattle.shunting.specs.Turned.{Movable, Passed, Simple, Shiftable, Shifted}
 use Rattle.shunting.specs.Distance.{Unheld, WayFrom, NoWay, Distance, Reaches, AtMost}
 use Rattle.shunting.proofs.DistanceLaws.{way-same, distance-same, distance-one, distance-way, distance-few}

@@ -15,7 +15,7 @@
 --     reaches-back      a vacancy has a way where a walk leads to it, since edges join both ways
 --     free-within       where all is held but a region, the free positions are those of the region
 -- Assumes nothing.
-use Prim.Native.Nat.{ℕ, zero, suc, _+_, _-_, _≤_, _<_}
+use Prim.Native.Nat.{ℕ, zero, suc, _-_, _≤_, _<_}
 use mathlib.Core.Path.{_≡_, refl, sym, ap, subst, _∙_}
 use mathlib.Core.Bool.{cond}
 use mathlib.Core.Logic.{_↔_, _≢_, _⊎_, inl, inr, ⊎-elim, by-cases}
@@ -137,7 +137,11 @@ module _ {E : ℕ → ℕ → Type 0} where
       none l h = omega arith
   shortest-few (suc (suc k)) {c = c} few (step {a = a} p e w) least =
       ⊎-elim
-      (λ v. let r = shortest-few (suc k) (at-most-except p (at-most-more (suc (c - 1)) (omega arith) few)) v (λ j u. let m = least (suc j) (step p e (walk-inside (λ q x. x .there) u)) in omega arith) in omega arith)
+      (λ v.
+      let others = at-most-except p (at-most-more (suc (c - 1)) (omega arith) few) in
+      let rest = shortest-few (suc k) others v
+      (λ j u. let m = least (suc j) (step p e (walk-inside (λ q x. x .there) u)) in omega arith) in
+      omega arith)
       (λ v. let m = least (v .0) (v .2) in let l = v .1 in omega arith)
       (walk-avoids a w)
 

@@ -12,8 +12,8 @@
 --     away                 they avoid position 3
 --     exchanged            racks 1 and 2 exchanged meanwhile: they lead to the first table with those two exchanged
 --     carried-away         rack 2 carried to position 3 meanwhile: its own move is skipped
---     near, here, fast     with racks 1 and 2 at the first two positions, the second is 1 away from the nearest vacancy, and the last, which
---                          is vacant, 0; held it has no way
+--     near, here, fast     with racks 1 and 2 at the first two positions, the second is 1 away from the nearest vacancy, and the last,
+--                          which is vacant, 0; held it has no way
 --     lined, log, fits     what `shunting::clear` asks for, and `shunting::bring` of its room: clear-met, bring-room
 -- Assumes nothing.
 use Prim.Native.Nat.{ℕ, zero, suc, _≤_, _<_}

@@ -1,5 +1,5 @@
--- What clearing a position and bringing a rack ask for, and what they do. s, l and t are the state, the log and the plan's bytes before, s′, l′ and
--- t′ afterwards; h and k are tables.
+-- What clearing a position and bringing a rack ask for, and what they do. s, l and t are the state, the log and the plan's bytes before,
+-- s′, l′ and t′ afterwards; h and k are tables.
 --
 --     VacantBelow n h v      the set v has the vacant positions below n, and no others
 --     Inside n v             the set v has positions below n alone
@@ -11,8 +11,8 @@
 --                            changed
 --     Bringable P a b h      a and b are positions of P, a rack stands at a, and a position of P is vacant
 --     RoomToBring P s l t    there is room for c × c moves, where P has at most c + 1 positions
---     Brings E P h a ds b k  a rack goes from a to b along edges, and the table h becomes k; ds are the moves of the clearings, one for each
---                            position gone, the last of them first
+--     Brings E P h a ds b k  a rack goes from a to b along edges, and the table h becomes k; ds are the moves of the clearings, one for
+--                            each position gone, the last of them first
 --     sum ds                 the numbers ds in all
 --     bringMoves ds          so many moves that takes: the sum of the clearings, and one for each position gone
 --     BroughtBy P g a b s l t s′ l′ t′    the rack at a is brought to b: by a shortest way, in just so many moves

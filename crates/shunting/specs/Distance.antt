@@ -20,7 +20,8 @@ pub record Unheld (n held p : ℕ) : Type 0 where
   pub inside : p < n
   pub loose : Has held p → ⊥
 
--- "way from a vacancy avoiding the held ones, both ends included": P are the positions that are not held. A walk of d edges has d + 1 positions.
+-- "way from a vacancy avoiding the held ones, both ends included": P are the positions that are not held. A walk of d edges has d + 1
+-- positions.
 pub record WayFrom (E : ℕ → ℕ → Type 0) (P : ℕ → Type 0) (h : ℕ → ℕ) (p d : ℕ) : Type 0 where
   pub from : ℕ
   pub vacant : h from ≡ 0

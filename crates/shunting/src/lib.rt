@@ -173,8 +173,8 @@ pub struct Clearing {
     pub moves: usize,
 }
 
-// Clears p by the nearest vacancy: a shortest way leads from it to p, both ends included past the held positions, and the racks on it are
-// shifted along it by one. Where no vacancy has a way, nothing moves.
+// Clears p by the nearest vacancy: of the ways from a vacancy to p that avoid the held positions, both ends included, a shortest is taken,
+// and the racks on it are shifted along it by one. Where no vacancy has a way, nothing moves.
 pub fn clear(
     rows: &[u64; 64],
     n: usize,

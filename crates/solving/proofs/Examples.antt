@@ -11,10 +11,10 @@
 --     start-held, goal-held       the tables hold the order's starts and goals
 --     after, four-moves           the moves 0>1, 3>2, 2>0, 1>3 are a trip from the one to the other
 -- Assumes nothing.
-use Prim.Native.Nat.{ℕ, zero, suc, _+_, _-_, _*_, _≤_, _<_}
+use Prim.Native.Nat.{ℕ, zero, suc, _+_, _≤_, _<_}
 use mathlib.Core.Path.{_≡_, refl, _∙_}
 use mathlib.Core.List.{List, [], _∷_}
-use mathlib.Core.Logic.{_↔_, _≢_, _⊎_, inl, inr, ⊎-elim}
+use mathlib.Core.Logic.{_≢_, _⊎_, inl, inr, ⊎-elim}
 use native.Mathlib.Omega.{arith}
 use lib.Dec.{lit<, lit≤}
 use lib.ListN.{getD, length, replicate, length-replicate}
@@ -23,7 +23,7 @@ use Rattle.graph.specs.Connected.{BiConnected}
 use Rattle.graph.specs.Rows.{Edge, Rows}
 use Rattle.graph.proofs.Examples.{floorF, floorF-rows}
 use Rattle.breakdown.specs.Answer.{BreaksDown}
-use Rattle.breakdown.proofs.Examples.{inRow, floorF-breakdown, floorF-biConnected}
+use Rattle.breakdown.proofs.Examples.{floorF-breakdown, floorF-biConnected}
 use Rattle.shunting.specs.Went.Went.{stay}
 use Rattle.shunting.proofs.WentLaws.{same-refl}
 use Rattle.shunting.specs.declared.State.{State}

@@ -6,9 +6,9 @@
 --     tail-kept        and the plan's bytes stay as they are
 --     shifted          both clearings make the shift
 -- Assumes nothing.
-use Prim.Native.Nat.{ℕ, suc, _+_, _-_, _≤_, _<_}
+use Prim.Native.Nat.{ℕ, suc, _-_, _≤_, _<_}
 use mathlib.Core.Path.{_≡_, refl, sym, ap, _∙_}
-use mathlib.Core.List.{List, [], _∷_, _++_}
+use mathlib.Core.List.{List, []}
 use mathlib.Core.Logic.{_↔_, _≢_}
 use native.Mathlib.Omega.{arith}
 use lib.ListN.{length}
@@ -20,7 +20,7 @@ use Rattle.graph.specs.Rows.{Edge, Rows}
 use Rattle.shunting.specs.Went.{Went}
 use Rattle.shunting.specs.Went.Went.{stay, real, stand-in}
 use Rattle.shunting.specs.declared.State.{State}
-use Rattle.shunting.specs.Journey.{row, packedOn, onto, Trip, Journey}
+use Rattle.shunting.specs.Journey.{row, packedOn, Trip, Journey}
 use Rattle.shunting.specs.Journey.Trail.{start}
 use Rattle.shunting.proofs.JourneyLaws.{journey-append}
 use Rattle.shunting.specs.Distance.{Reaches, AtMost}

@@ -235,7 +235,8 @@ loop-again c =
     let leaves = off on near (near .there) (l .i) (omega arith) more in
     let enters = carry-next on near from more rack (l .inv .0) next .other in
     let one = journey-in-one {P = λ q. lane (at t) .beside ≢ q} _ _ can (m .1 .0) leaves (λ z. enters (sym z)) go in
-    let table = table-went (rows .inside) (go .trip .went) (table-went (rows .inside) (cl .journey .journey .trip .went) (l .inv .0 .table)) in
+    let between = table-went (rows .inside) (cl .journey .journey .trip .went) (l .inv .0 .table) in
+    let table = table-went (rows .inside) (go .trip .went) between in
     let up = round t in (
       carrying-step on near from more rack (l .inv .0) next (λ q x. has free q .0 x) (cl .cleared) table (m .1 .0),
       journey-in-more _ (omega arith) (journey-in-append (l .inv .1) (journey-in-append way one)),

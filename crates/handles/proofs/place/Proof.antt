@@ -17,7 +17,8 @@ use Rattle.handles.specs.Moves.{homeMoves}
 use Rattle.handles.proofs.StageLaws.{handle-places}
 use Rattle.handles.proofs.CycleLaws.{lane-floor, lane-places, left-below, stage-in}
 use Rattle.handles.proofs.PlaceLaws.{rack-some, rack-there, rack-held, placing-turned, stage-robust, stage-vacancy, place-from}
-use Rattle.handles.proofs.PlaceLaws.{stage-few, rest-few, place-below, place-brought, place-below-rest, place-cleared, place-held, place-reaches}
+use Rattle.handles.proofs.PlaceLaws.{stage-few, rest-few, place-below, place-brought, place-below-rest, place-cleared}
+use Rattle.handles.proofs.PlaceLaws.{place-held, place-reaches}
 use Rattle.handles.proofs.PlaceLaws.{cycle-simple, cycle-round, cycle-vacancy}
 use Rattle.handles.proofs.FetchLaws.{place-open, place-room, place-fits, place-trip}
 use Rattle.handles.proofs.place.Statement.{statement}
@@ -180,12 +181,10 @@ turn-requires c κs =
     let cl = clear .clear-within .ensures in
     let stage = part at .part .ensures in
     let few = stage-few (p .0) (p .1 .0) _ stage in
-    let rest = rest-few (p .0) (p .1 .0) _ stage _ (held clear .without .ensures) in (
+    let rest = rest-few (p .0) (p .1 .0) _ stage _ (held clear .without .ensures) in
+    let room = fits-then (fits-then (fits at) (brought-few few (bring .bring .ensures .0))) (clear-few rest cl .journey) in (
       cycle-simple (p .0) (p .1 .0) closed,
-      (
-        cycle-vacancy (p .0) (p .1 .0) closed (cl .cleared),
-        fits-less _ (closed .short) (fits-then (fits-then (fits at) (brought-few few (bring .bring .ensures .0))) (clear-few rest cl .journey)),
-      ),
+      (cycle-vacancy (p .0) (p .1 .0) closed (cl .cleared), fits-less _ (closed .short) room),
     )
 
 same-length : tie.Need-same-length

@@ -1,6 +1,6 @@
 -- `handles::settle_handle` meets its contract. The invariant: the record `Settling`.
 -- Assumes nothing.
-use Prim.Native.Nat.{_-_, _*_}
+use Prim.Native.Nat.{_-_}
 use mathlib.Core.Path.{refl}
 use native.Mathlib.Omega.{arith}
 use Rattle.shunting.specs.Journey.{row}
