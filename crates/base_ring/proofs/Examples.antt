@@ -10,7 +10,7 @@
 --     square-ringing         the state in which places from 2 on are settled
 --     state, settle-ring-met    what `base_ring::settle_ring` asks for, all of it at once
 -- Assumes nothing.
-use Prim.Native.Nat.{ℕ, zero, suc, _+_, _-_, _*_, _≤_, _<_}
+use Prim.Native.Nat.{ℕ, zero, suc, _+_, _≤_, _<_}
 use mathlib.Core.Path.{_≡_, refl, _∙_}
 use mathlib.Core.List.{List, [], _∷_}
 use mathlib.Core.Logic.{_⊎_, inl, inr, ⊎-elim}
@@ -23,8 +23,8 @@ use Rattle.shunting.specs.Journey.{row, Space}
 use Rattle.shunting.specs.Table.{Table}
 use Rattle.shunting.specs.declared.State.{State}
 use Rattle.base_ring.specs.declared.Circle.{Circle}
-use Rattle.base_ring.specs.Circle.{place, On, BaseRing, OnRing, Open, RestSettled, Ringing}
-use Rattle.base_ring.specs.Moves.{ringMoves}
+use Rattle.base_ring.specs.Circle.{place, BaseRing, OnRing, Open, RestSettled, Ringing}
+use Rattle.base_ring.specs.Moves.{exchangeMoves, ringMoves}
 
 unfoldable pub square : List ℕ
 square = 26 ∷ 5 ∷ 26 ∷ 5 ∷ 5 ∷ []
@@ -136,7 +136,8 @@ pub settle-ring-met :
     Rows 5 square
     × BaseRing (Edge square) circle
     × RestSettled circle (row racks) (row racks)
-    × Space state (replicate 648 0) (ringMoves 5 4)
+    × Space state (replicate 648 0) (ringMoves 4)
+unfolding exchangeMoves
 settle-ring-met =
     let h = length-replicate {A = ℕ} 59 0 in
     let t = length-replicate {A = ℕ} 648 0 in (

@@ -18,16 +18,18 @@
 --     exchange-aside, exchange-swappable    a is still aside then, and the two can be swapped
 --     exchange-swapped       two racks swapped where they stand are swapped everywhere
 --     exchange-undoing       what taking back the moves before the swap leads to
---     exchange-moves, exchange-most    the moves before the swap are at most 2 × n × n, and they fit the log
+--     exchange-most          an exchange takes at most 4 × r × r moves
+--     exchange-fits          room for the moves before the swap, and for the six
 --     Swapping, exchange-made    the two racks brought and swapped: what is left is to take back the moves before the swap
+--     exchange-entries, exchange-space, exchange-trip    the log has them, there is room for that, and all is one trip
 -- Assumes nothing.
-use Prim.Native.Nat.{ℕ, suc, _+_, _-_, _*_, _≤_, _<_}
+use Prim.Native.Nat.{ℕ, _+_, _-_, _*_, _≤_, _<_}
 use mathlib.Core.Path.{_≡_, refl, sym, ap, subst, _∙_}
 use mathlib.Core.Bool.{Bool, cond}
 use mathlib.Core.List.{List, []}
 use mathlib.Core.Logic.{_↔_, _≢_, by-cases}
 use native.Mathlib.Decide.{ℕ-discrete}
-use native.Mathlib.Nat.{mul-suc, mul-le-mul}
+use native.Mathlib.Nat.{mul-add, mul-le-mul, mul-le-mul-right}
 use native.Mathlib.Omega.{arith}
 use lib.Dec.{eqb}
 use lib.ListN.{length}
@@ -39,18 +41,19 @@ use Rattle.breakdown.specs.Part.{Part}
 use Rattle.shunting.specs.declared.State.{State}
 use Rattle.shunting.specs.Went.Back.{done}
 use Rattle.shunting.proofs.WentLaws.{same-refl}
-use Rattle.shunting.specs.Journey.{row, relogged, onto, Trip, Journey, JourneyOn}
+use Rattle.shunting.specs.Journey.{row, relogged, onto, Fits, Room, Space, Trip, Journey, JourneyOn}
 use Rattle.shunting.specs.Journey.Trail.{start}
 use Rattle.shunting.proofs.JourneyLaws.{trail-below, journey-append, trip-append, trip-anew, trip-more}
+use Rattle.shunting.proofs.JourneyLaws.{fits-anew, space-then, space-less}
 use Rattle.shunting.proofs.BackLaws.{back-from, back-renamed}
 use Rattle.shunting.specs.Turned.{Movable, Passed}
-use Rattle.shunting.specs.Undone.{Undoing}
+use Rattle.shunting.specs.Undone.{Entries, Undoing}
 use Rattle.shunting.specs.Cleared.{Cleared, Bringable, Brought}
 use Rattle.shunting.specs.Table.{Table, StandsAt}
 use Rattle.shunting.proofs.TableLaws.{table-rack, table-went}
 use Rattle.base_ring.specs.declared.Circle.{Circle}
 use Rattle.base_ring.specs.Circle.{place, On, BaseRing, OnRing, TwoOnRing, RestHeld, Open, Aside, Ready, swapped, Exchanged}
-use Rattle.base_ring.specs.Moves.{asideMoves, nextMoves}
+use Rattle.base_ring.specs.Moves.{asideMoves, nextMoves, exchangeMoves}
 use Rattle.base_ring.specs.Swap.{Swappable, Joined, Swapped}
 use Rattle.base_ring.proofs.RingLaws.{on-surely, circle-on, circle-apart, circle-small, circle-off, circle-beside, held-open}
 use Rattle.base_ring.proofs.RingLaws.{ring-has, ring-on, ring-vacancy}
@@ -283,35 +286,57 @@ module _ (a b : ℕ) where
               (done (same-refl (λ x. swapped a b (row (s .racks) x)))));
         }
 
-pub exchange-moves : (n : ℕ) → 0 < n → asideMoves n + nextMoves n ≡ 2 * (n * n)
-exchange-moves n some =
-    let less : n ≡ suc (n - 1) = omega arith in
-    let e : n * n ≡ n * suc (n - 1) = ap (λ (x : ℕ). n * x) less in
-    let f = mul-suc n (n - 1) in
+pub exchange-fits : (r : ℕ) {s : State} {l t : List ℕ} (d : ℕ) → r < 64 → d ≤ asideMoves r + nextMoves r + 6
+    → Room s l t (exchangeMoves r) → Fits (relogged s 0) l t d
+unfolding exchangeMoves
+exchange-fits r d small few room =
+    let a : r - 1 ≤ 62 = omega arith in
+    let square = mul-le-mul a a in
+    fits-anew d (omega arith) (omega arith) room
+
+pub exchange-most : (r : ℕ) → 3 ≤ r → exchangeMoves r ≤ 4 * (r * r)
+unfolding exchangeMoves
+exchange-most r three =
+    let less : r ≡ r - 1 + 1 = omega arith in
+    let one : r * r ≡ r * (r - 1) + r * 1 = ap (λ (x : ℕ). r * x) less ∙ mul-add r (r - 1) 1 in
+    let brought = mul-le-mul-right (r - 1) (let l : r - 1 ≤ r = omega arith in l) in
     omega arith
 
-pub exchange-most : (n : ℕ) → n ≤ 64 → n * n ≤ 4096
-exchange-most n small = mul-le-mul small small
-
 -- The state s₂ after the moves that bring the two racks where they are swapped, and s₃ after the swap, for a state s with no moves logged.
-pub record Swapping (g : List ℕ) (n a b : ℕ) (s : State) (l t : List ℕ) (s₂ s₃ : State) (l₃ t₃ : List ℕ) : Type 0 where
-  pub trip : Trip g (2 * (n * n) + 6) s t s₃ t₃
+pub record Swapping (g : List ℕ) (r a b : ℕ) (s : State) (l t : List ℕ) (s₂ s₃ : State) (l₃ t₃ : List ℕ) : Type 0 where
+  pub trip : Trip g (asideMoves r + nextMoves r + 6) s t s₃ t₃
   pub log : length l₃ ≡ length l
-  pub few : s₂ .logged ≤ 2 * (n * n)
+  pub few : s₂ .logged ≤ asideMoves r + nextMoves r
   pub past : List (ℕ × ℕ)
   pub undoing : Undoing g (s₃ .racks) l₃ 0 (s₂ .logged) past (λ x. swapped a b (row (s .racks) x))
 
+module _ {g : List ℕ} (r : ℕ) {a b : ℕ} {s s₂ s₃ : State} {l t l₃ t₃ : List ℕ} (made : Swapping g r a b s l t s₂ s₃ l₃ t₃) where
+  pub exchange-entries : r < 64 → Entries 0 (s₂ .logged)
+  exchange-entries small =
+      let c : r - 1 ≤ 62 = omega arith in
+      let square = mul-le-mul c c in
+      let few = made .few in
+      record { ordered = omega arith; within = omega arith }
+
+  pub exchange-space : Room s l t (exchangeMoves r) → Space s₃ t₃ (s₂ .logged - 0)
+  unfolding exchangeMoves
+  exchange-space room =
+      let few = made .few in
+      space-less (s₂ .logged - 0) (omega arith) (space-then (record { racks = room .racks; room = room .room }) (made .trip))
+
+  pub exchange-trip : {s₄ : State} {t₄ : List ℕ} → Trip g (s₂ .logged - 0) s₃ t₃ s₄ t₄ → Trip g (exchangeMoves r) s t s₄ t₄
+  unfolding exchangeMoves
+  exchange-trip back = let few = made .few in trip-more (exchangeMoves r) (omega arith) (trip-append (made .trip) back)
+
 pub exchange-made : {g : List ℕ} {c : Circle} {a b : ℕ} (s : State) {s₁ s₂ s₃ : State} {l t l₁ t₁ l₂ t₂ l₃ t₃ : List ℕ}
     → Rows (c .positions) g → BaseRing (Edge g) c → Open c (row (s .racks)) → TwoOnRing c a b (row (s .racks))
-    → Journey g (asideMoves (c .positions)) (relogged s 0) l t s₁ l₁ t₁ → Aside c a (row (s .racks)) (row (s₁ .racks))
-    → Journey g (nextMoves (c .positions)) s₁ l₁ t₁ s₂ l₂ t₂ → Ready c b (row (s₁ .racks)) (row (s₂ .racks))
+    → Journey g (asideMoves (c .size)) (relogged s 0) l t s₁ l₁ t₁ → Aside c a (row (s .racks)) (row (s₁ .racks))
+    → Journey g (nextMoves (c .size)) s₁ l₁ t₁ s₂ l₂ t₂ → Ready c b (row (s₁ .racks)) (row (s₂ .racks))
     → JourneyOn (Joined (place c 0) (place c 1) (place c (c .size - 1)) (c .beside)) 6 s₂ l₂ t₂ s₃ l₃ t₃
     → Swapped (place c 1) (c .beside) (row (s₂ .racks)) (row (s₃ .racks))
-    → Swapping g (c .positions) a b s l t s₂ s₃ l₃ t₃
+    → Swapping g (c .size) a b s l t s₂ s₃ l₃ t₃
 exchange-made {g} {c} {a} {b} s rows circle o pair m aside n ready u swap =
     let three = circle .three in
-    let less = circle .less in
-    let all = exchange-moves (c .positions) (omega arith) in
     let one = journey-append m n in
     let two = u g (record {
       symmetric = rows .symmetric;
@@ -327,7 +352,7 @@ exchange-made {g} {c} {a} {b} s rows circle o pair m aside n ready u swap =
     let few = one .trip .few in
     let logged = one .logged in
     record {
-      trip = trip-more _ (omega arith) (trip-anew (trip-append (one .trip) (two .trip)));
+      trip = trip-anew (trip-append (one .trip) (two .trip));
       log = two .log ∙ one .log;
       few = omega arith;
       past = _;

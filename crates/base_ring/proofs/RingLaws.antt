@@ -13,6 +13,7 @@
 --     held-open            so it is where places 0 and 1 are vacant
 --     held-same            and where the same stands off the ring
 --     ring-has, ring-on, ring-below, ring-robust    the ring as a set
+--     ring-few, ring-few-without, ring-few-last    it has no more positions than places; without one place, and without places 0 and 1
 --     ring-vacancy         the set has a vacancy
 --     ring-reaches         a walk leads from each place to a vacancy, where every position off the ring holds a rack
 --     ring-reaches-without    and to one that is not at place i, without it
@@ -33,7 +34,9 @@ use Rattle.graph.specs.Rows.{Edge, Rows}
 use Rattle.breakdown.specs.Breakdown.{Among}
 use Rattle.breakdown.specs.Part.{Places, Part}
 use Rattle.breakdown.proofs.StageLaws as stage
-use Rattle.shunting.specs.Cleared.{Reaches, Vacancy}
+use Rattle.shunting.specs.Distance.{Reaches, AtMost}
+use Rattle.shunting.proofs.DistanceLaws.{at-most-less, at-most-more, at-most-seats, at-most-without, reaches-back}
+use Rattle.shunting.specs.Cleared.{Vacancy}
 use Rattle.shunting.specs.Table.{Table}
 use Rattle.shunting.proofs.TableLaws.{table-other}
 use Rattle.base_ring.specs.declared.Circle.{Circle}
@@ -140,6 +143,27 @@ module _ {g : List ℕ} {c : Circle} (rows : Rows (c .positions) g) (circle : Ba
     pub ring-robust : Robust (Edge g) (Has ring)
     ring-robust = robust-same ring-has ring-on (circle-robust circle (rows .symmetric))
 
+    seats : AtMost (c .size) (Has ring)
+    seats = at-most-less ring-on (at-most-seats (place c) (c .size) (λ p x. (x .place, x .before, x .is)))
+
+    pub ring-few : AtMost (suc (c .size - 1)) (Has ring)
+    ring-few = at-most-more (suc (c .size - 1)) (omega arith) seats
+
+    pub ring-few-without : (i : ℕ) → i < c .size → (free : ℕ) → ((p : ℕ) → Has free p ↔ (Has ring p × (p ≢ place c i)))
+        → AtMost (suc (c .size - 2)) (Has free)
+    ring-few-without i l free has =
+        at-most-without ring free (ring-has (place c i) (circle-on circle i l)) has
+        (at-most-more (suc (suc (c .size - 2))) (omega arith) seats)
+
+    pub ring-few-last : (free more : ℕ) → ((p : ℕ) → Has free p ↔ (Has ring p × (p ≢ place c 1)))
+        → ((p : ℕ) → Has more p ↔ (Has free p × (p ≢ place c 0))) → AtMost (suc (c .size - 3)) (Has more)
+    ring-few-last free more has has-more =
+        let three = circle .three in
+        let first = has (place c 0) .1
+        (ring-has (place c 0) (circle-on circle 0 (omega arith)), circle-apart circle 0 1 (omega arith) (omega arith) (omega arith)) in
+        at-most-without free more first has-more
+        (at-most-more (suc (suc (c .size - 3))) (omega arith) (ring-few-without 1 (omega arith) free has))
+
     module _ {h : ℕ → ℕ} (table : Table (c .positions) h) (filled : RestHeld c h) where
       pub ring-vacancy : Vacancy (Has ring) h
       ring-vacancy =
@@ -153,7 +177,7 @@ module _ {g : List ℕ} {c : Circle} (rows : Rows (c .positions) g) (circle : Ba
       ring-reaches i l =
           let z = ring-vacancy in
           let way = ring-robust .whole (place c i) (z .at) (ring-has (place c i) (circle-on circle i l)) (z .there) in
-          record { to = z .at; size = way .size; walk = way .walk; vacant = z .vacant }
+          reaches-back (rows .symmetric) (z .at) (way .size) (z .vacant) (way .walk)
 
       module _ (i j : ℕ) (hi : i < c .size) (hj : j < c .size) (other : j ≢ i) (free : ℕ)
           (has : (p : ℕ) → Has free p ↔ (Has ring p × (p ≢ place c i))) where
@@ -163,7 +187,7 @@ module _ {g : List ℕ} {c : Circle} (rows : Rows (c .positions) g) (circle : Ba
             let way = ring-robust .without (place c i) (ring-has (place c i) (circle-on circle i hi)) (place c j) (z .0)
             (record { there = ring-has (place c j) (circle-on circle j hj); other = circle-apart circle j i hj hi other })
             (record { there = ring-has (z .0) (held-on c filled (z .0) (z .1) (z .3)); other = z .2 }) in
-            record { to = z .0; size = way .size; walk = walk-inside (λ p x. has p .1 (x .there, x .other)) (way .walk); vacant = z .3 }
+            reaches-back (rows .symmetric) (z .0) (way .size) (z .3) (walk-inside (λ p x. has p .1 (x .there, x .other)) (way .walk))
 
       module _ (held : h (place c 1) ≢ 0) (free more : ℕ) (has : (p : ℕ) → Has free p ↔ (Has ring p × (p ≢ place c 1)))
           (has-more : (p : ℕ) → Has more p ↔ (Has free p × (p ≢ place c 0))) where
@@ -194,4 +218,4 @@ module _ {g : List ℕ} {c : Circle} (rows : Rows (c .positions) g) (circle : Ba
             let first : on .place ≢ 0 = λ e. z .2 (sym (on .is) ∙ ap (place c) e) in
             let second : on .place ≢ 1 = λ e. held (ap h (sym (ap (place c) e) ∙ on .is) ∙ z .3) in
             let way = down (on .place) (omega arith) (on .before) in
-            record { to = place c (on .place); size = way .size; walk = way .walk; vacant = ap h (on .is) ∙ z .3 }
+            reaches-back (rows .symmetric) (place c (on .place)) (way .size) (ap h (on .is) ∙ z .3) (way .walk)

@@ -5,7 +5,6 @@
 --     place-same, place-done                it holds the goal's rack; the two were exchanged
 --     ringing-all           all places are settled: the table is the goal
 --     rounds-left, rounds-made, rounds-all  the rounds to come, the rounds made and one more, all of them
---     in-all                two clearings, and then the rounds
 --     Settling              the state of the loop of `settle_ring`
 --     settling-begin, settling-next, settling-end    where the loop begins, goes on and ends
 --     settling-room         there is room for a round more
@@ -13,7 +12,7 @@
 use Prim.Native.Nat.{ℕ, suc, _+_, _-_, _*_, _≤_, _<_}
 use mathlib.Core.Path.{_≡_, refl, sym, ap, subst, _∙_}
 use mathlib.Core.List.{List}
-use mathlib.Core.Logic.{_↔_, _≢_, by-cases, _⊎_, ⊎-elim}
+use mathlib.Core.Logic.{_↔_, _≢_, by-cases, ⊎-elim}
 use native.Mathlib.Decide.{ℕ-discrete}
 use native.Mathlib.Nat.{mul-suc, mul-comm, mul-le-mul-right}
 use native.Mathlib.Omega.{arith}
@@ -165,9 +164,6 @@ rounds-made i m l =
 pub rounds-all : (k size m : ℕ) → k ≤ size → k * m ≤ size * m
 rounds-all k size m l = mul-le-mul-right m l
 
-pub in-all : (n k : ℕ) → (n - 1) + (n - 1) + k ≤ 2 * (n - 1) + k
-in-all n k = omega arith
-
 -- s and t are what the loop began with, s′, l′ and t′ what it has now; a round is m moves at most.
 pub record Settling (g : List ℕ) (c : Circle) (T : ℕ → ℕ) (m : ℕ) (s : State) (t : List ℕ) (s′ : State) (l′ t′ : List ℕ)
     (i : ℕ) : Type 0 where
@@ -178,7 +174,7 @@ pub record Settling (g : List ℕ) (c : Circle) (T : ℕ → ℕ) (m : ℕ) (s :
   pub room : Room s′ l′ t′ ((c .size - i) * m)
 
 module _ {g : List ℕ} {c : Circle} {T : ℕ → ℕ} (m : ℕ) where
-  pub settling-begin : {s : State} {l t : List ℕ} → 2 ≤ c .size → Ringing c T 2 (row (s .racks)) → Room s l t (c .size * m)
+  pub settling-begin : {s : State} {l t : List ℕ} → 2 ≤ c .size → Ringing c T 2 (row (s .racks)) → Room s l t ((c .size - 2) * m)
       → Settling g c T m s t s l t 2
   settling-begin {s} {l} {t} two state room =
       record {
@@ -186,7 +182,7 @@ module _ {g : List ℕ} {c : Circle} {T : ℕ → ℕ} (m : ℕ) where
         high = two;
         ringing = state;
         trip = trip-more ((2 - 2) * m) (omega arith) (trip-none s t);
-        room = room-less ((c .size - 2) * m) (rounds-all (c .size - 2) (c .size) m (omega arith)) room;
+        room = room;
       }
 
   module _ {s s′ : State} {t l′ t′ : List ℕ} {i : ℕ} (x : Settling g c T m s t s′ l′ t′ i) where
@@ -207,7 +203,7 @@ module _ {g : List ℕ} {c : Circle} {T : ℕ → ℕ} (m : ℕ) where
           room = room-then (room-less (m + (c .size - (i + 1)) * m) (omega arith) (x .room)) log trip;
         }
 
-    pub settling-end : c .size ≤ i → Trip g (c .size * m) s t s′ t′ × Same (row (s′ .racks)) T
+    pub settling-end : c .size ≤ i → Trip g ((c .size - 2) * m) s t s′ t′ × Same (row (s′ .racks)) T
     settling-end done =
         let high = x .high in
-        (trip-more (c .size * m) (rounds-all (i - 2) (c .size) m (omega arith)) (x .trip), ringing-all done (x .ringing))
+        (trip-more ((c .size - 2) * m) (rounds-all (i - 2) (c .size - 2) m (omega arith)) (x .trip), ringing-all done (x .ringing))

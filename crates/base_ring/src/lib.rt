@@ -71,8 +71,8 @@ fn bring_aside(
     requires { ⌜ BaseRing (Edge (now rows)) circle ⌝ }
     requires { ⌜ Open circle (row (state .racks)) ⌝ }
     requires { ⌜ OnRing circle rack (row (state .racks)) ⌝ }
-    requires { ⌜ Fits state (now log) (now tail) (asideMoves (circle .positions)) ⌝ }
-    ensures { λ r. ⌜ Journey (now (rows .entry)) (asideMoves (circle .positions)) state (now (log .entry)) (now (tail .entry))
+    requires { ⌜ Fits state (now log) (now tail) (asideMoves (circle .size)) ⌝ }
+    ensures { λ r. ⌜ Journey (now (rows .entry)) (asideMoves (circle .size)) state (now (log .entry)) (now (tail .entry))
         r (now (log .exit)) (now (tail .exit)) ⌝ }
     ensures { λ r. ⌜ Aside circle rack (row (state .racks)) (row (r .racks)) ⌝ }
 {
@@ -102,8 +102,8 @@ fn bring_next(
     requires { ⌜ Table (circle .positions) (row (state .racks)) ⌝ }
     requires { ⌜ RestHeld circle (row (state .racks)) ⌝ }
     requires { ⌜ OnRing circle rack (row (state .racks)) ⌝ }
-    requires { ⌜ Fits state (now log) (now tail) (nextMoves (circle .positions)) ⌝ }
-    ensures { λ r. ⌜ Journey (now (rows .entry)) (nextMoves (circle .positions)) state (now (log .entry)) (now (tail .entry))
+    requires { ⌜ Fits state (now log) (now tail) (nextMoves (circle .size)) ⌝ }
+    ensures { λ r. ⌜ Journey (now (rows .entry)) (nextMoves (circle .size)) state (now (log .entry)) (now (tail .entry))
         r (now (log .exit)) (now (tail .exit)) ⌝ }
     ensures { λ r. ⌜ Ready circle rack (row (state .racks)) (row (r .racks)) ⌝ }
 {
@@ -118,8 +118,8 @@ fn bring_next(
     let stands = shunting::where_is(&racks, n, rack);
     let brought = shunting::bring(rows, n, ring, stands, next, state, log, tail);
     let free = sets::without(ring, next);
-    let cleared = shunting::clear(rows, n, free, x, brought, log, tail);
-    shunting::clear(rows, n, sets::without(free, x), last, cleared, log, tail)
+    let cleared = shunting::clear_within(rows, n, free, x, brought, log, tail);
+    shunting::clear_within(rows, n, sets::without(free, x), last, cleared, log, tail)
 }
 
 // Exchanges the racks a and b, which stand on the ring, while its places 0 and 1 are vacant: a is brought aside and b to place 1, six moves
@@ -137,8 +137,8 @@ fn exchange(
     requires { ⌜ BaseRing (Edge (now rows)) circle ⌝ }
     requires { ⌜ Open circle (row (state .racks)) ⌝ }
     requires { ⌜ TwoOnRing circle a b (row (state .racks)) ⌝ }
-    requires { ⌜ Room state (now log) (now tail) (exchangeMoves (circle .positions)) ⌝ }
-    ensures { λ r. ⌜ Trip (now (rows .entry)) (exchangeMoves (circle .positions)) state (now (tail .entry)) r (now (tail .exit)) ⌝ }
+    requires { ⌜ Room state (now log) (now tail) (exchangeMoves (circle .size)) ⌝ }
+    ensures { λ r. ⌜ Trip (now (rows .entry)) (exchangeMoves (circle .size)) state (now (tail .entry)) r (now (tail .exit)) ⌝ }
     ensures { λ r. ⌜ Exchanged a b (row (state .racks)) (row (r .racks)) ⌝ }
     ensures { λ _. ⌜ length (now (log .exit)) ≡ length (now (log .entry)) ⌝ }
 {
@@ -171,8 +171,8 @@ fn settle_place(
     requires { ⌜ BaseRing (Edge (now rows)) circle ⌝ }
     requires { ⌜ (2 ≤ i) × (i < circle .size) ⌝ }
     requires { ⌜ Ringing circle (row (now goal)) i (row (state .racks)) ⌝ }
-    requires { ⌜ Room state (now log) (now tail) (exchangeMoves (circle .positions)) ⌝ }
-    ensures { λ r. ⌜ Trip (now (rows .entry)) (exchangeMoves (circle .positions)) state (now (tail .entry)) r (now (tail .exit)) ⌝ }
+    requires { ⌜ Room state (now log) (now tail) (exchangeMoves (circle .size)) ⌝ }
+    ensures { λ r. ⌜ Trip (now (rows .entry)) (exchangeMoves (circle .size)) state (now (tail .entry)) r (now (tail .exit)) ⌝ }
     ensures { λ r. ⌜ Ringing circle (row (now (goal .entry))) (i + 1) (row (r .racks)) ⌝ }
     ensures { λ _. ⌜ length (now (log .exit)) ≡ length (now (log .entry)) ⌝ }
 {
@@ -198,8 +198,8 @@ fn open_ring(
     requires { ⌜ Rows (circle .positions) (now rows) ⌝ }
     requires { ⌜ BaseRing (Edge (now rows)) circle ⌝ }
     requires { ⌜ RestSettled circle (row (now goal)) (row (state .racks)) ⌝ }
-    requires { ⌜ Room state (now log) (now tail) (openMoves (circle .positions)) ⌝ }
-    ensures { λ r. ⌜ Trip (now (rows .entry)) (openMoves (circle .positions)) state (now (tail .entry)) r (now (tail .exit)) ⌝ }
+    requires { ⌜ Room state (now log) (now tail) (openMoves (circle .size)) ⌝ }
+    ensures { λ r. ⌜ Trip (now (rows .entry)) (openMoves (circle .size)) state (now (tail .entry)) r (now (tail .exit)) ⌝ }
     ensures { λ r. ⌜ Ringing circle (row (now (goal .entry))) 2 (row (r .racks)) ⌝ }
     ensures { λ _. ⌜ length (now (log .exit)) ≡ length (now (log .entry)) ⌝ }
 {
@@ -210,8 +210,8 @@ fn open_ring(
     let ring = breakdown::part(&at, 0, circle.size);
     let mut begun = state;
     begun.logged = 0;
-    let cleared = shunting::clear(rows, n, ring, x, begun, log, tail);
-    shunting::clear(rows, n, sets::without(ring, x), next, cleared, log, tail)
+    let cleared = shunting::clear_within(rows, n, ring, x, begun, log, tail);
+    shunting::clear_within(rows, n, sets::without(ring, x), next, cleared, log, tail)
 }
 
 // Settles the ring, where all else holds what the goal has there.
@@ -225,8 +225,8 @@ pub fn settle_ring(
     requires { ⌜ Rows (circle .positions) (now rows) ⌝ }
     requires { ⌜ BaseRing (Edge (now rows)) circle ⌝ }
     requires { ⌜ RestSettled circle (row (now goal)) (row (state .racks)) ⌝ }
-    requires { ⌜ Space state (now tail) (ringMoves (circle .positions) (circle .size)) ⌝ }
-    ensures { λ r. ⌜ Trip (now (rows .entry)) (ringMoves (circle .positions) (circle .size)) state (now (tail .entry))
+    requires { ⌜ Space state (now tail) (ringMoves (circle .size)) ⌝ }
+    ensures { λ r. ⌜ Trip (now (rows .entry)) (ringMoves (circle .size)) state (now (tail .entry))
         r (now (tail .exit)) ⌝ }
     ensures { λ r. ⌜ Same (row (r .racks)) (row (now (goal .entry))) ⌝ }
 {

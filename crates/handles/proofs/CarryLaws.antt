@@ -21,7 +21,7 @@ use mathlib.Core.Path.{_≡_, refl, sym, ap, subst, _∙_}
 use mathlib.Core.List.{List, []}
 use mathlib.Core.Logic.{_↔_, _≢_, _⊎_, inl, inr, ⊎-elim, by-cases}
 use native.Mathlib.Decide.{ℕ-discrete, decLt}
-use native.Mathlib.Nat.{mul-suc, mul-comm, mul-le-mul-right}
+use native.Mathlib.Nat.{mul-suc, mul-comm, mul-le-mul, mul-le-mul-right}
 use native.Mathlib.Omega.{arith}
 use Rattle.sets.specs.Sets.{Has}
 use Rattle.graph.specs.Walk.{Symmetric}
@@ -41,31 +41,30 @@ use Rattle.shunting.proofs.JourneyLaws.{journey-trail, space-then, space-less}
 use Rattle.shunting.specs.Undone.{carried, Entries, Undoing}
 use Rattle.shunting.proofs.BackLaws.{back-from, back-carried, carried-there, carried-left, carried-other}
 use Rattle.shunting.specs.Turned.{Movable, Passed}
-use Rattle.shunting.specs.Cleared.{Reaches, Cleared}
+use Rattle.shunting.specs.Distance.{Reaches, AtMost}
+use Rattle.shunting.proofs.DistanceLaws.{at-most-less, at-most-more, at-most-except, reaches-back}
+use Rattle.shunting.specs.Cleared.{Cleared}
 use Rattle.shunting.specs.Table.{Table}
 use Rattle.shunting.proofs.TableLaws.{table-other}
 use Rattle.handles.specs.Lane.{HandleOn, BesideEnd, After}
-use Rattle.handles.proofs.StageLaws.{apart, between-among, among-between}
+use Rattle.handles.proofs.StageLaws.{apart, between-among, among-between, among-few}
 
-pub carry-rounds : (n i q : ℕ) → q ≤ i → 0 < n → n * (i - q) + ((n - 1) + 1) ≡ n * (i + 1 - q)
-carry-rounds n i q le some =
+pub carry-rounds : (c i q : ℕ) → q ≤ i → c * (i - q) + c ≡ c * (i + 1 - q)
+carry-rounds c i q le =
     let next : i + 1 - q ≡ suc (i - q) = omega arith in
-    let e : n * (i + 1 - q) ≡ n * suc (i - q) = ap (λ (x : ℕ). n * x) next in
-    let f = mul-suc n (i - q) in
+    let e : c * (i + 1 - q) ≡ c * suc (i - q) = ap (λ (x : ℕ). c * x) next in
+    let f = mul-suc c (i - q) in
     omega arith
 
-pub carry-all : (n i q : ℕ) → i ≤ n → 3 ≤ q → n * (i - q) ≤ n * (n - 3)
-carry-all n i q le three =
-    let x = mul-le-mul-right n (let d : i - q ≤ n - 3 = omega arith in d) in
-    let e = mul-comm n (i - q) in
-    let f = mul-comm n (n - 3) in
+pub carry-all : (c n i q : ℕ) → i ≤ n → 3 ≤ q → c * (i - q) ≤ c * (n - 3)
+carry-all c n i q le three =
+    let x = mul-le-mul-right c (let d : i - q ≤ n - 3 = omega arith in d) in
+    let e = mul-comm c (i - q) in
+    let f = mul-comm c (n - 3) in
     omega arith
 
-pub carry-few : (n : ℕ) → n ≤ 64 → n * (n - 3) ≤ 3904
-carry-few n le =
-    let x = mul-le-mul-right n (let d : n - 3 ≤ 61 = omega arith in d) in
-    let e = mul-comm n (n - 3) in
-    omega arith
+pub carry-few : (n : ℕ) → n ≤ 64 → (n - 2) * (n - 3) ≤ 3782
+carry-few n le = mul-le-mul (let a : n - 2 ≤ 62 = omega arith in a) (let b : n - 3 ≤ 61 = omega arith in b)
 
 pub record Free (at : ℕ → ℕ) (e y i p : ℕ) : Type 0 where
   pub there : Among at e p
@@ -161,6 +160,18 @@ module _ {n : ℕ} {E : ℕ → ℕ → Type 0} {at : ℕ → ℕ} {s e u v y : 
         (λ l. subst (Free at e y i) (sym (after .last (omega arith)))
         (record { there = among-more (lane .handle .right); other = (near .right); away = off (lane .handle .right) i low more }))
 
+    -- two positions of the floor are held
+    pub carry-most : {P : ℕ → Type 0} → ((p : ℕ) → P p → Free at e y i p) → AtMost (suc (n - 3)) P
+    carry-most free =
+        let within = lane .within in
+        let three = lane .three in
+        let inner = lane .handle .inner in
+        let held : Except (Among at e) y (at i) =
+        record { there = record { place = i; before = more; is = refl }; other = λ z. off (near .there) i low more (sym z) } in
+        at-most-less
+        (λ p x. record { there = record { there = free p x .there; other = free p x .other }; other = free p x .away })
+        (at-most-except held (at-most-except (among-more (near .there)) (at-most-more (suc (suc (suc (n - 3)))) (omega arith) among-few)))
+
     pub carry-reaches : {P : ℕ → Type 0} → Symmetric E → ((p : ℕ) → Free at e y i p → P p) → Reaches E P cur next
     carry-reaches sy into =
         let z = table-other (state .table) y in
@@ -172,7 +183,7 @@ module _ {n : ℕ} {E : ℕ → ℕ → Type 0} {at : ℕ → ℕ} {s e u v y : 
         }
         in
         let way = whole next (z .0) carry-next vacancy in
-        record { to = z .0; size = way .size; walk = walk-inside into (way .walk); vacant = z .3 }
+        reaches-back sy (z .0) (way .size) (z .3) (walk-inside into (way .walk))
       where
         -- the handle's places before i hang on its left end, those after i on its right end
         split : Whole E (Both (Both (Except (Among at s) y) (Between at s i)) (Between at (i + 1) e))

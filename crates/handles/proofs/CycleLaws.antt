@@ -18,18 +18,17 @@ use native.Mathlib.Omega.{arith}
 use lib.Bits.{bitAnd}
 use Rattle.sets.specs.Sets.{Has}
 use Rattle.sets.proofs.SetLaws.{has-and, has-positive}
-use Rattle.sets.proofs.CountLaws.{pigeonhole}
 use Rattle.graph.proofs.WalkLaws.{walk-inside}
 use Rattle.graph.proofs.ConnectedLaws.{third}
 use Rattle.graph.specs.Rows.{Edge, Rows}
 use Rattle.graph.specs.Nearest.{Nearest}
 use Rattle.graph.proofs.NearestLaws.{nearest-found}
-use Rattle.breakdown.specs.Breakdown.{Among, Between}
+use Rattle.breakdown.specs.Breakdown.{Among}
 use Rattle.breakdown.specs.Part.{Places, Part}
 use Rattle.breakdown.proofs.StageLaws.{among, Two, robust-neighbours}
 use Rattle.shunting.specs.Journey.{row}
 use Rattle.handles.specs.Lane.{HandleOn, BesideEnd, Closed, Copied}
-use Rattle.handles.proofs.StageLaws.{apart, between-among, among-between}
+use Rattle.handles.proofs.StageLaws.{apart, between-among, among-between, among-few}
 
 module _ {n : ℕ} {g : List ℕ} {at : ℕ → ℕ} {s e u v : ℕ} (rows : Rows n g) (lane : HandleOn n (Edge g) at s e u v) where
   pub lane-stage : s < n
@@ -119,26 +118,8 @@ module _ {n : ℕ} {g : List ℕ} {at : ℕ → ℕ} {s e u v : ℕ} (rows : Row
       on : (i : ℕ) → i < size → Among at s (f i)
       on i l = stage-out (f i) (nearest .path route-some .inside i l)
 
-      -- the place of each position of the way
-      seat : (i : ℕ) → Dec (i < size) → ℕ
-      seat i (yes l) = on i l .place
-      seat i (no l) = 0
-
-      seat-less : (i : ℕ) (d : Dec (i < size)) → i < size → seat i d < s
-      unfolding seat
-      seat-less i (yes l) h = on i l .before
-      seat-less i (no l) h = absurd (l h)
-
-      seat-is : (i : ℕ) (d : Dec (i < size)) → i < size → at (seat i d) ≡ f i
-      unfolding seat
-      seat-is i (yes l) h = on i l .is
-      seat-is i (no l) h = absurd (l h)
-
       pub route-short : size ≤ s
-      route-short =
-          pigeonhole s (λ i. seat i (decLt i size)) size (λ i l. seat-less i (decLt i size) l)
-          (λ i j l h e. nearest .path route-some .distinct i j l h
-          (sym (seat-is i (decLt i size) (omega arith)) ∙ ap at e ∙ seat-is j (decLt j size) h))
+      route-short = among-few .different f size on (nearest .path route-some .distinct)
 
       module _ {none first cycle : ℕ → ℕ} (copied : Copied at s 0 none first (e - s)) (behind : Copied f 0 (e - s) first cycle size) where
         inner : (j : ℕ) → j < e - s → cycle j ≡ at (s + j)

@@ -10,7 +10,7 @@
 --     aside, aside-table   rack 1 moved aside to 1, so that both 0 and the right end are vacant
 --     carry-met            what `handles::carry` asks for
 -- Assumes nothing.
-use Prim.Native.Nat.{ℕ, zero, suc, _+_, _-_, _*_, _≤_, _<_}
+use Prim.Native.Nat.{ℕ, zero, suc, _-_, _*_, _≤_, _<_}
 use mathlib.Core.Path.{_≡_, refl}
 use mathlib.Core.List.{List, [], _∷_}
 use mathlib.Core.Logic.{_≢_}
@@ -35,6 +35,7 @@ use Rattle.shunting.proofs.TableLaws.{table-went}
 use Rattle.shunting.proofs.TableExamples.{start, goal, start-table, goal-table}
 use Rattle.handles.specs.declared.Lane.{Lane}
 use Rattle.handles.specs.Lane.{Filled, LaneOn, LaneBeside, LaneClosed, LaneStage, LanePlacing, InLane, LaneCarriable}
+use Rattle.handles.specs.Moves.{carryMoves, placeMoves}
 use Rattle.handles.proofs.LaneExamples.{goal-filled, laneF, aroundF, closedF, placingF, openF, besideF}
 
 abbrev pub log : List ℕ
@@ -70,8 +71,9 @@ pub settle-handles-met :
     × Table 4 (row start)
     × Table 4 (row goal)
     × Filled (row inRow) (row goal) 3 4
-    × Space (state start) tail ((4 - 3) * (4 * (4 * 4)))
-settle-handles-met = (floorF-rows, floorF-breakdown, start-table, goal-table, goal-filled, space start (four-long 1 0 0 2) 64 (lit≤ tt))
+    × Space (state start) tail ((4 - 3) * placeMoves 4)
+unfolding placeMoves
+settle-handles-met = (floorF-rows, floorF-breakdown, start-table, goal-table, goal-filled, space start (four-long 1 0 0 2) 22 (lit≤ tt))
 
 pub place-met :
     Rows 4 floorF
@@ -81,8 +83,9 @@ pub place-met :
     × LanePlacing lane (row goal) 0 (row start)
     × (0 < 4 - 3)
     × Vacancy (LaneStage lane) (row start)
-    × Room (state start) log tail (4 * (4 * 4))
-place-met = (floorF-rows, laneF, besideF, closedF, placingF, lit< tt, openF, room start (four-long 1 0 0 2) 64 (lit≤ tt))
+    × Room (state start) log tail (placeMoves 4)
+unfolding placeMoves
+place-met = (floorF-rows, laneF, besideF, closedF, placingF, lit< tt, openF, room start (four-long 1 0 0 2) 22 (lit≤ tt))
 
 abbrev pub aside : List ℕ
 aside = 0 ∷ 1 ∷ 0 ∷ 2 ∷ replicate 60 0
@@ -108,12 +111,12 @@ pub carry-met :
     × LaneBeside (Edge floorF) lane
     × InLane lane 3
     × LaneCarriable lane 3 (row aside)
-    × Room (state aside) log tail (2 * (4 * (4 - 3)) + 1)
+    × Room (state aside) log tail (carryMoves 4)
 carry-met = (
   floorF-rows,
   laneF,
   besideF,
   record { from = lit≤ tt; before = lit< tt },
   record { table = aside-table; vacant = record { end = refl; beside = refl }; held = λ e. omega arith },
-  room aside (four-long 0 1 0 2) 9 (lit≤ tt),
+  room aside (four-long 0 1 0 2) 5 (lit≤ tt),
 )

@@ -1,25 +1,24 @@
 -- Laws of fetching the next rack for a handle into the stage.
 --
 --     fails                    a test that failed
---     square-less, square-three, square-four, square-most    n * n against n * (n - 1), n * (n - 3), 4 * n and 4096
---     fetch-bound              two clearings and a carrying are within the bound
---     place-bound              opening, fetching, bringing, clearing and turning are
---     place-room, place-fits, place-trip    so there is room for each of them, and all are one trip
+--     home-few                 the log holds what brings a rack home
+--     place-open, place-room, place-fits, place-trip    there is room for each part of placing a rack, and all are one trip
+--     place-most               placing a rack takes at most 3 × n × n moves
 --     lane-four                a floor with a handle has four positions
 --     end-below, end-inside    the region without y, as a set, is on the floor, and inside the region
---     end-reaches              from v a walk inside it leads to a vacancy
+--     end-reaches              from v a walk inside it leads to a vacancy; end-few    it has at most n - 1 positions
 --     end-beside               y stays vacant while v is cleared
 --     fetch-already            the rack is in the stage already
 --     fetch-place              where the rack is not in the stage, it is inside the handle
 --     fetch-carried            carried to y it is in the stage
 -- Assumes nothing.
 use Prim.Native.Nat.{ℕ, suc, _+_, _-_, _*_, _≤_, _<_}
-use mathlib.Core.Path.{_≡_, refl, sym, ap, subst, _∙_}
+use mathlib.Core.Path.{_≡_, refl, sym, ap, _∙_}
 use mathlib.Core.Bool.{Bool, true, false}
 use mathlib.Core.List.{List}
 use mathlib.Core.Logic.{_↔_, _≢_, by-cases, inl, inr, ⊎-elim}
 use native.Mathlib.Decide.{decLt}
-use native.Mathlib.Nat.{mul-suc, mul-le-mul}
+use native.Mathlib.Nat.{mul-add, mul-le-mul, mul-le-mul-right}
 use native.Mathlib.Omega.{arith}
 use lib.ListN.{length}
 use Rattle.sets.specs.Sets.{Has}
@@ -35,65 +34,59 @@ use Rattle.shunting.specs.Journey.{relogged, Fits, Room, Trip}
 use Rattle.shunting.proofs.JourneyLaws.{trip-more, trip-append, trip-anew, fits-anew, room-less, room-then}
 use Rattle.shunting.specs.Undone.{carried}
 use Rattle.shunting.proofs.BackLaws.{carried-there, carried-other}
-use Rattle.shunting.specs.Cleared.{Inside, Reaches, Vacancy, Cleared}
+use Rattle.shunting.specs.Distance.{Reaches, AtMost}
+use Rattle.shunting.proofs.DistanceLaws.{at-most-more, at-most-without, reaches-back}
+use Rattle.shunting.specs.Cleared.{Inside, Vacancy, Cleared}
 use Rattle.shunting.specs.Table.{Table}
 use Rattle.shunting.proofs.TableLaws.{table-other}
 use Rattle.handles.specs.Lane.{HandleOn, BesideEnd, Placing, Fetched}
+use Rattle.handles.specs.Moves.{openMoves, fetchMoves, homeMoves, placeMoves}
 use Rattle.handles.proofs.CycleLaws.{lane-stage, lane-new, stage-in, stage-out}
-use Rattle.handles.proofs.StageLaws.{Region, region-below, region-vacant, placing-stays}
+use Rattle.handles.proofs.StageLaws.{Region, region-below, region-few, region-vacant, placing-stays}
 use Rattle.handles.proofs.PlaceLaws.{rack-some, rack-other}
 
 -- a test that failed
 pub fails : {b : Bool} {P : Type 0} → (b ≡ true) ↔ P → b ≡ false → P → ⊥
 fails both f x = let t = both .1 x in let z : _≡_ {A = ℕ} 0 1 = cc in omega arith
 
-pub square-less : (n : ℕ) → 0 < n → n * n ≡ n * (n - 1) + n
-square-less n some =
-    let e : n * n ≡ n * suc (n - 1) = ap (λ (x : ℕ). n * x) (let s : n ≡ suc (n - 1) = omega arith in s) in
-    let f = mul-suc n (n - 1) in
+pub home-few : (n : ℕ) → n ≤ 64 → homeMoves n ≤ 8256
+home-few n l =
+    let less : n - 2 ≤ 62 = omega arith in
+    let square = mul-le-mul less less in
     omega arith
-
-pub square-three : (n : ℕ) → 2 < n → n * n ≡ n * (n - 3) + 3 * n
-square-three n some =
-    let e : n * n ≡ n * suc (suc (suc (n - 3))) = ap (λ (x : ℕ). n * x) (let s : n ≡ suc (suc (suc (n - 3))) = omega arith in s) in
-    let f = mul-suc n (suc (suc (n - 3))) in
-    let g = mul-suc n (suc (n - 3)) in
-    let h = mul-suc n (n - 3) in
-    omega arith
-
-pub square-four : (n : ℕ) → 3 < n → 4 * n ≤ n * n
-square-four n some = let e : 4 ≤ n = omega arith in let r : n ≤ n = omega arith in mul-le-mul e r
-
-pub square-most : (n : ℕ) → n ≤ 64 → n * n ≤ 4096
-square-most n l = mul-le-mul l l
-
-pub fetch-bound : (n : ℕ) → 3 < n → 2 * (n - 1) + (2 * (n * (n - 3)) + 1) ≤ 2 * (n * n)
-fetch-bound n l = let e = square-three n (omega arith) in omega arith
-
-pub place-bound : (n : ℕ) → 3 < n → (n - 1) + (2 * (n * n) + (n * (n - 1) + ((n - 1) + n))) ≤ 4 * (n * n)
-place-bound n l = let e = square-less n (omega arith) in let f = square-four n l in omega arith
 
 -- the stage is opened, and then a rack fetched; the rest begins the log anew
-module _ {g : List ℕ} {n : ℕ} {x x₁ : State} {t t₁ : List ℕ} (four : 3 < n) (opened : Trip g (n - 1) x t x₁ t₁) where
-  pub place-room : {l l₁ : List ℕ} → Room x l t (4 * (n * n)) → length l₁ ≡ length l → Room x₁ l₁ t₁ (2 * (n * n))
-  place-room room log = let bound = place-bound n four in room-then (room-less ((n - 1) + 2 * (n * n)) (omega arith) room) log opened
+pub place-open : (n : ℕ) {x : State} {l t : List ℕ} → Room x l t (placeMoves n) → Room x l t (openMoves n)
+unfolding placeMoves
+place-open n room = room-less (openMoves n) (omega arith) room
 
-  module _ {x₂ : State} {t₂ : List ℕ} (fetched : Trip g (2 * (n * n)) x₁ t₁ x₂ t₂) where
-    pub place-fits : {l l₂ : List ℕ} → n ≤ 64 → Room x l t (4 * (n * n)) → length l₂ ≡ length l
-        → Fits (relogged x₂ 0) l₂ t₂ (n * (n - 1) + ((n - 1) + n))
+module _ (n : ℕ) {g : List ℕ} {x x₁ : State} {t t₁ : List ℕ} (opened : Trip g (openMoves n) x t x₁ t₁) where
+  pub place-room : {l l₁ : List ℕ} → Room x l t (placeMoves n) → length l₁ ≡ length l → Room x₁ l₁ t₁ (fetchMoves n)
+  unfolding placeMoves
+  place-room room log = room-then (room-less (openMoves n + fetchMoves n) (omega arith) room) log opened
+
+  module _ {x₂ : State} {t₂ : List ℕ} (fetched : Trip g (fetchMoves n) x₁ t₁ x₂ t₂) where
+    pub place-fits : {l l₂ : List ℕ} → n ≤ 64 → Room x l t (placeMoves n) → length l₂ ≡ length l → Fits (relogged x₂ 0) l₂ t₂ (homeMoves n)
+    unfolding placeMoves
     place-fits small room log =
-        let rest = n * (n - 1) + ((n - 1) + n) in
-        let bound = place-bound n four in
-        let square = square-less n (omega arith) in
-        let most = square-most n small in
-        fits-anew rest (omega arith) (omega arith)
-        (room-then (room-less ((n - 1) + 2 * (n * n) + rest) (omega arith) room) log (trip-append opened fetched))
+        fits-anew (homeMoves n) (omega arith) (home-few n small)
+        (room-then (room-less (openMoves n + fetchMoves n + homeMoves n) (omega arith) room) log (trip-append opened fetched))
 
-    pub place-trip : {c : ℕ} {x₃ : State} {t₃ : List ℕ} → c ≤ n * (n - 1) + ((n - 1) + n) → Trip g c (relogged x₂ 0) t₂ x₃ t₃
-        → Trip g (4 * (n * n)) x t x₃ t₃
-    place-trip less rest =
-        let bound = place-bound n four in
-        trip-more (4 * (n * n)) (omega arith) (trip-append opened (trip-append fetched (trip-anew rest)))
+    pub place-trip : {c : ℕ} {x₃ : State} {t₃ : List ℕ} → c ≤ homeMoves n → Trip g c (relogged x₂ 0) t₂ x₃ t₃
+        → Trip g (placeMoves n) x t x₃ t₃
+    unfolding placeMoves
+    place-trip less rest = trip-more (placeMoves n) (omega arith) (trip-append opened (trip-append fetched (trip-anew rest)))
+
+-- what one rack takes, in all
+pub place-most : (n : ℕ) → 3 < n → placeMoves n ≤ 3 * (n * n)
+unfolding placeMoves
+place-most n four =
+    let less : n ≡ n - 3 + 3 = omega arith in
+    let three : n * n ≡ n * (n - 3) + n * 3 = ap (λ (x : ℕ). n * x) less ∙ mul-add n (n - 3) 3 in
+    let two : n * n ≡ n * (n - 2) + n * 2 = ap (λ (x : ℕ). n * x) (let l : n ≡ n - 2 + 2 = omega arith in l) ∙ mul-add n (n - 2) 2 in
+    let carried = mul-le-mul-right (n - 3) (let l : n - 2 ≤ n = omega arith in l) in
+    let brought = mul-le-mul-right (n - 2) (let l : n - 2 ≤ n = omega arith in l) in
+    omega arith
 
 module _ {n : ℕ} {g : List ℕ} {at : ℕ → ℕ} {s e u v : ℕ} (rows : Rows n g) (lane : HandleOn n (Edge g) at s e u v) where
   pub lane-four : 3 < n
@@ -119,7 +112,7 @@ module _ {n : ℕ} {g : List ℕ} {at : ℕ → ℕ} {s e u v : ℕ} (rows : Row
         whole v (z .0) (inl here)
         (⊎-elim (λ a. inl (record { there = a; other = z .2 })) (λ b. inr b) (region-vacant lane placing (z .0) (z .1) (z .3)))
         in
-        record { to = z .0; size = way .size; walk = walk-inside inside (way .walk); vacant = z .3 }
+        reaches-back (rows .symmetric) (z .0) (way .size) (z .3) (walk-inside inside (way .walk))
       where
         inside : (p : ℕ) → Both (Except (Among at s) y) (Between at (s + k) e) p → Has free p
         inside p x =
@@ -132,6 +125,13 @@ module _ {n : ℕ} {g : List ℕ} {at : ℕ → ℕ} {s e u v : ℕ} (rows : Row
             without p .1
             (has p .1 (inr b), λ same. lane-new rows lane (b .place) y (omega arith) (omega arith) (near .there) (b .is ∙ same)))
             x
+
+    -- y is held
+    pub end-few : AtMost (suc (n - 2)) (Has free)
+    end-few =
+        let four = lane-four in
+        at-most-without region free (has y .1 (inl (near .there))) without
+        (at-most-more (suc (suc (n - 2))) (omega arith) (region-few lane k (λ p x. has p .0 x)))
 
     pub end-beside : {h h′ : ℕ → ℕ} → Cleared (Has free) v h h′ → h y ≡ 0 → h′ y ≡ 0
     end-beside cleared vacant = cleared .outside y (λ x. without y .0 x .1 refl) ∙ vacant

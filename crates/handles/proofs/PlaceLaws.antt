@@ -6,13 +6,14 @@
 --     stage-robust, stage-vacancy    the stage as a set stays whole, and has the vacancy
 --     place-from               once fetched the rack stands in the stage
 --     place-below, place-brought    it is brought to u
+--     stage-few, rest-few      the stage has at most n - 1 positions, and without u at most n - 2
 --     place-below-rest, place-cleared, place-held, place-reaches    v is cleared with u held
 --     cycle-simple, cycle-round, cycle-vacancy    the cycle is one of different positions, has its edges, and v on it is vacant
 -- Assumes nothing.
-use Prim.Native.Nat.{ℕ, _+_, _-_, _≤_, _<_}
+use Prim.Native.Nat.{ℕ, suc, _+_, _-_, _≤_, _<_}
 use mathlib.Core.Path.{_≡_, refl, sym, ap, subst, _∙_}
 use mathlib.Core.List.{List}
-use mathlib.Core.Logic.{_↔_, _≢_, by-cases, inl, inr, ⊎-elim}
+use mathlib.Core.Logic.{_↔_, _≢_, by-cases, inl}
 use native.Mathlib.Decide.{ℕ-discrete, decLt}
 use native.Mathlib.Omega.{arith}
 use Rattle.sets.specs.Sets.{Has}
@@ -23,12 +24,14 @@ use Rattle.graph.specs.Rows.{Edge, Rows}
 use Rattle.breakdown.specs.Breakdown.{Among}
 use Rattle.breakdown.specs.Part.{Part}
 use Rattle.shunting.specs.Turned.{Simple, Round, Turnable, Turned}
-use Rattle.shunting.specs.Cleared.{Reaches, Vacancy, Cleared, Brought}
+use Rattle.shunting.specs.Distance.{Reaches, AtMost}
+use Rattle.shunting.proofs.DistanceLaws.{at-most-less, at-most-more, at-most-without, reaches-back}
+use Rattle.shunting.specs.Cleared.{Vacancy, Cleared, Brought}
 use Rattle.shunting.specs.Table.{Table, Stands}
 use Rattle.shunting.proofs.TableLaws.{table-rack}
 use Rattle.handles.specs.Lane.{HandleOn, Closed, Placing, Fetched}
-use Rattle.handles.proofs.CycleLaws.{lane-new, stage-below, stage-in, stage-out}
-use Rattle.handles.proofs.StageLaws.{apart, placing-kept}
+use Rattle.handles.proofs.CycleLaws.{lane-stage, lane-new, stage-below, stage-in, stage-out}
+use Rattle.handles.proofs.StageLaws.{apart, among-few, placing-kept}
 
 -- the position that has the rack is not vacant
 pub rack-held : {r x : ℕ} → r ≢ 0 → x ≡ r → x ≢ 0
@@ -111,6 +114,11 @@ module _ {n : ℕ} {g : List ℕ} {at : ℕ → ℕ} {s e u v : ℕ} (rows : Row
     pub place-below : (p : ℕ) → Has stage p → p < n
     place-below p h = stage-below rows lane p (stage-out rows lane stage has p h)
 
+    pub stage-few : AtMost (suc (n - 2)) (Has stage)
+    stage-few =
+        let less = lane-stage rows lane in
+        at-most-more (suc (n - 2)) (omega arith) (at-most-less (stage-out rows lane stage has) among-few)
+
     pub place-brought : {T h h′ : ℕ → ℕ} {k from to : ℕ} → Placing n at T s e k h → Table n h′ → Brought (Has stage) from to h h′
         → Placing n at T s e k h′
     place-brought placing table b = placing-kept lane placing (λ p x. inl (stage-out rows lane stage has p x)) table (b .outside)
@@ -135,12 +143,16 @@ module _ {n : ℕ} {g : List ℕ} {at : ℕ → ℕ} {s e u v : ℕ} (rows : Row
           let way = stage-robust .without u (stage-in rows lane stage has u (lane .handle .left)) v (z .at)
           (record { there = stage-in rows lane stage has v (lane .handle .right); other = λ x. lane .handle .ends (sym x) })
           (record { there = z .there; other = away }) in
-          record {
-            to = z .at;
-            size = way .size;
-            walk = walk-inside (λ p x. without p .1 (x .there, x .other)) (way .walk);
-            vacant = z .vacant;
-          }
+          reaches-back (rows .symmetric) (z .at) (way .size) (z .vacant)
+          (walk-inside (λ p x. without p .1 (x .there, x .other)) (way .walk))
+
+      -- the stage leaves out a position of the floor, and u is held
+      pub rest-few : AtMost (suc (n - 3)) (Has rest)
+      rest-few =
+          let less = lane-stage rows lane in
+          let three = lane .three in
+          at-most-without stage rest (stage-in rows lane stage has u (lane .handle .left)) without
+          (at-most-more (suc (suc (n - 3))) (omega arith) (at-most-less (stage-out rows lane stage has) among-few))
 
   module _ {cycle : ℕ → ℕ} {size : ℕ} (cl : Closed n (Edge g) at s e u v cycle size) where
     pub cycle-simple : Simple cycle size

@@ -31,6 +31,7 @@ use Rattle.shunting.specs.Journey.{row, Room, Trip}
 use Rattle.shunting.proofs.JourneyLaws.{trip-none, trip-more, trip-append, room-then, room-less}
 use Rattle.shunting.specs.Table.{Table}
 use Rattle.handles.specs.Lane.{HandleOn, Agreed, Filled, Placing}
+use Rattle.handles.specs.Moves.{placeMoves}
 
 pub down-up : (i : ℕ) → 0 < i → i - 1 + 1 ≡ i
 down-up i some = omega arith
@@ -51,42 +52,42 @@ times-less a k c l =
 
 pub record Settling (g : List ℕ) (n : ℕ) (at T : ℕ → ℕ) (s e k : ℕ) (x₀ : State) (l₀ t₀ : List ℕ) (x : State) (l t : List ℕ) : Type 0 where
   pub placing : Placing n at T s e k (row (x .racks))
-  pub trip : Trip g (k * (4 * (n * n))) x₀ t₀ x t
+  pub trip : Trip g (k * placeMoves n) x₀ t₀ x t
   pub log : length l ≡ length l₀
-  pub room : Room x l t ((e - s - k) * (4 * (n * n)))
+  pub room : Room x l t ((e - s - k) * placeMoves n)
 
 pub settling-begin : {g : List ℕ} {n : ℕ} {at T : ℕ → ℕ} {s e : ℕ} {x : State} {l t : List ℕ} → Placing n at T s e 0 (row (x .racks))
-    → Room x l t ((e - s) * (4 * (n * n))) → Settling g n at T s e 0 x l t x l t
+    → Room x l t ((e - s) * placeMoves n) → Settling g n at T s e 0 x l t x l t
 settling-begin {n = n} {s = s} {e = e} {x = x} {l = l} {t = t} placing room =
     record {
       placing = placing;
-      trip = trip-more (0 * (4 * (n * n))) (omega arith) (trip-none x t);
+      trip = trip-more (0 * placeMoves n) (omega arith) (trip-none x t);
       log = refl;
-      room = subst (λ (c : ℕ). Room x l t (c * (4 * (n * n)))) (let none : e - s ≡ e - s - 0 = omega arith in none) room;
+      room = subst (λ (c : ℕ). Room x l t (c * placeMoves n)) (let none : e - s ≡ e - s - 0 = omega arith in none) room;
     }
 
 module _ {g : List ℕ} {n : ℕ} {at T : ℕ → ℕ} {s e k : ℕ} {x₀ x : State} {l₀ t₀ l t : List ℕ}
     (z : Settling g n at T s e k x₀ l₀ t₀ x l t) where
-  pub settling-room : k < e - s → Room x l t (4 * (n * n))
-  settling-room more = let y = times-less (e - s) k (4 * (n * n)) more in room-less (4 * (n * n)) (omega arith) (z .room)
+  pub settling-room : k < e - s → Room x l t (placeMoves n)
+  settling-room more = let y = times-less (e - s) k (placeMoves n) more in room-less (placeMoves n) (omega arith) (z .room)
 
-  pub settling-next : {x′ : State} {l′ t′ : List ℕ} → k < e - s → Trip g (4 * (n * n)) x t x′ t′
+  pub settling-next : {x′ : State} {l′ t′ : List ℕ} → k < e - s → Trip g (placeMoves n) x t x′ t′
       → Placing n at T s e (k + 1) (row (x′ .racks)) → length l′ ≡ length l → Settling g n at T s e (k + 1) x₀ l₀ t₀ x′ l′ t′
   settling-next more trip placing log =
-      let y = times-less (e - s) k (4 * (n * n)) more in
-      let w = times-next k (4 * (n * n)) in
+      let y = times-less (e - s) k (placeMoves n) more in
+      let w = times-next k (placeMoves n) in
       record {
         placing = placing;
-        trip = trip-more ((k + 1) * (4 * (n * n))) (omega arith) (trip-append (z .trip) trip);
+        trip = trip-more ((k + 1) * placeMoves n) (omega arith) (trip-append (z .trip) trip);
         log = log ∙ z .log;
-        room = room-then (room-less (4 * (n * n) + (e - s - (k + 1)) * (4 * (n * n))) (omega arith) (z .room)) log trip;
+        room = room-then (room-less (placeMoves n + (e - s - (k + 1)) * placeMoves n) (omega arith) (z .room)) log trip;
       }
 
   all : e - s ≤ k → k ≡ e - s
   all done = let few = z .placing .few in omega arith
 
-  pub settling-trip : e - s ≤ k → Trip g ((e - s) * (4 * (n * n))) x₀ t₀ x t
-  settling-trip done = subst (λ (c : ℕ). Trip g (c * (4 * (n * n))) x₀ t₀ x t) (all done) (z .trip)
+  pub settling-trip : e - s ≤ k → Trip g ((e - s) * placeMoves n) x₀ t₀ x t
+  settling-trip done = subst (λ (c : ℕ). Trip g (c * placeMoves n) x₀ t₀ x t) (all done) (z .trip)
 
   pub settling-end : s ≤ e → e - s ≤ k → Agreed at T (row (x .racks)) s n
   settling-end some done j le l =
@@ -133,18 +134,18 @@ module _ {n : ℕ} {E : ℕ → ℕ → Type 0} {ring c : ℕ} {at start left ri
 pub record Handling (g : List ℕ) (n : ℕ) (at start T : ℕ → ℕ) (i : ℕ) (x₀ : State) (t₀ : List ℕ) (x : State) (l t : List ℕ) : Type 0 where
   pub table : Table n (row (x .racks))
   pub settled : Agreed at T (row (x .racks)) (start i) n
-  pub trip : Trip g ((n - start i) * (4 * (n * n))) x₀ t₀ x t
-  pub room : Room x l t ((start i - start 0) * (4 * (n * n)))
+  pub trip : Trip g ((n - start i) * placeMoves n) x₀ t₀ x t
+  pub room : Room x l t ((start i - start 0) * placeMoves n)
 
 pub handling-begin : {g : List ℕ} {n ring : ℕ} {at start T : ℕ → ℕ} {i : ℕ} {x : State} {l t : List ℕ} → start 0 ≡ ring → start i ≡ n
-    → Table n (row (x .racks)) → Room x l t ((n - ring) * (4 * (n * n))) → Handling g n at start T i x t x l t
+    → Table n (row (x .racks)) → Room x l t ((n - ring) * placeMoves n) → Handling g n at start T i x t x l t
 handling-begin {n = n} {ring} {start = start} {i = i} {x = x} {l = l} {t = t} begins stops table room =
     let same : n - ring ≡ start i - start 0 = omega arith in
     record {
       table = table;
       settled = λ j le l. absurd (none j le l);
-      trip = trip-more ((n - start i) * (4 * (n * n))) (omega arith) (trip-none x t);
-      room = subst (λ (c : ℕ). Room x l t (c * (4 * (n * n)))) same room;
+      trip = trip-more ((n - start i) * placeMoves n) (omega arith) (trip-none x t);
+      room = subst (λ (c : ℕ). Room x l t (c * placeMoves n)) same room;
     }
   where
     none : (j : ℕ) → start i ≤ j → j < n → ⊥
@@ -172,22 +173,22 @@ module _ {g : List ℕ} {n ring : ℕ} {at start T : ℕ → ℕ} {x₀ x : Stat
       none j l = omega arith
 
   -- the places to come are those of this handle and those before it
-  split : (start k - start 0) * (4 * (n * n)) ≡ (start (i + 1) - start i) * (4 * (n * n)) + (start i - start 0) * (4 * (n * n))
+  split : (start k - start 0) * placeMoves n ≡ (start (i + 1) - start i) * placeMoves n + (start i - start 0) * placeMoves n
   split =
       let same = up in
       let e : start k - start 0 ≡ start (i + 1) - start i + (start i - start 0) = omega arith in
-      ap (λ (c : ℕ). c * (4 * (n * n))) e ∙ add-mul (start (i + 1) - start i) (start i - start 0) (4 * (n * n))
+      ap (λ (c : ℕ). c * placeMoves n) e ∙ add-mul (start (i + 1) - start i) (start i - start 0) (placeMoves n)
 
-  joined : (n - start i) * (4 * (n * n)) ≡ (n - start k) * (4 * (n * n)) + (start (i + 1) - start i) * (4 * (n * n))
+  joined : (n - start i) * placeMoves n ≡ (n - start k) * placeMoves n + (start (i + 1) - start i) * placeMoves n
   joined =
       let same = up in
       let e : n - start i ≡ n - start k + (start (i + 1) - start i) = omega arith in
-      ap (λ (c : ℕ). c * (4 * (n * n))) e ∙ add-mul (n - start k) (start (i + 1) - start i) (4 * (n * n))
+      ap (λ (c : ℕ). c * placeMoves n) e ∙ add-mul (n - start k) (start (i + 1) - start i) (placeMoves n)
 
-  pub handling-room : Room x l t ((start (i + 1) - start i) * (4 * (n * n)))
-  handling-room = let y = split in room-less ((start (i + 1) - start i) * (4 * (n * n))) (omega arith) (z .room)
+  pub handling-room : Room x l t ((start (i + 1) - start i) * placeMoves n)
+  handling-room = let y = split in room-less ((start (i + 1) - start i) * placeMoves n) (omega arith) (z .room)
 
-  pub handling-next : {x′ : State} {l′ t′ : List ℕ} → Trip g ((start (i + 1) - start i) * (4 * (n * n))) x t x′ t′
+  pub handling-next : {x′ : State} {l′ t′ : List ℕ} → Trip g ((start (i + 1) - start i) * placeMoves n) x t x′ t′
       → Table n (row (x′ .racks)) → Agreed at T (row (x′ .racks)) (start i) n → length l′ ≡ length l
       → Handling g n at start T i x₀ t₀ x′ l′ t′
   handling-next trip table settled log =
@@ -196,10 +197,10 @@ module _ {g : List ℕ} {n ring : ℕ} {at start T : ℕ → ℕ} {x₀ x : Stat
       record {
         table = table;
         settled = settled;
-        trip = trip-more ((n - start i) * (4 * (n * n))) (omega arith) (trip-append (z .trip) trip);
+        trip = trip-more ((n - start i) * placeMoves n) (omega arith) (trip-append (z .trip) trip);
         room =
             room-then
-            (room-less ((start (i + 1) - start i) * (4 * (n * n)) + (start i - start 0) * (4 * (n * n))) (omega arith) (z .room)) log trip;
+            (room-less ((start (i + 1) - start i) * placeMoves n + (start i - start 0) * placeMoves n) (omega arith) (z .room)) log trip;
       }
 
 -- all of them are
@@ -208,8 +209,8 @@ module _ {g : List ℕ} {n ring : ℕ} {at start T : ℕ → ℕ} {i : ℕ} {x�
   first : start i ≡ ring
   first = ap start none ∙ begins
 
-  pub handling-trip : Trip g ((n - ring) * (4 * (n * n))) x₀ t₀ x t
-  handling-trip = subst (λ (c : ℕ). Trip g ((n - c) * (4 * (n * n))) x₀ t₀ x t) first (z .trip)
+  pub handling-trip : Trip g ((n - ring) * placeMoves n) x₀ t₀ x t
+  handling-trip = subst (λ (c : ℕ). Trip g ((n - c) * placeMoves n) x₀ t₀ x t) first (z .trip)
 
   pub handling-end : Agreed at T (row (x .racks)) ring n
   handling-end j le l = let same = first in z .settled j (omega arith) l

@@ -2,18 +2,18 @@
 --
 --     copied-none, copied-next, copied-all    the state of `copy_places`: no position is copied; one more; fewer than are
 --     agreed-next            the state of `is_settled`: one place more holds what the goal has there
---     among-between, between-among    the stage as the places from 0 on
+--     among-between, between-among    the stage as the places from 0 on; among-few    it has no more positions than places
 --     Region at s e k        the stage with what is not stacked of the handle: with the places from s + k up to e
 --     handle-places          a lane's places and positions are below 64
 --     apart                  two places of a lane hold different positions
---     region-has, region-below, region-whole    that region as a set; on the floor; whole
+--     region-has, region-below, region-few, region-whole    that region as a set; on the floor; no larger than it; whole
 --     region-vacant          both vacancies are in it
 --     region-reaches         from a position of it a way inside it leads to a vacancy
 --     placing-stays          racks moved where neither the stack nor what lies behind the handle stands
 --     placing-kept           racks moved inside the region alone: that is so
 --     stage-vacancy          a position that is vacant and in the stage
 -- Assumes nothing.
-use Prim.Native.Nat.{ℕ, _+_, _-_, _≤_, _<_}
+use Prim.Native.Nat.{ℕ, suc, _+_, _-_, _≤_, _<_}
 use mathlib.Core.Path.{_≡_, refl, sym, ap, subst, _∙_}
 use mathlib.Core.List.{List}
 use mathlib.Core.Logic.{_↔_, _≢_, inl, inr, ⊎-elim, by-cases}
@@ -31,7 +31,9 @@ use Rattle.breakdown.specs.Breakdown.{Among, Between}
 use Rattle.breakdown.specs.Part.{Places, Part}
 use Rattle.breakdown.proofs.StageLaws.{Both, whole-right}
 use Rattle.shunting.specs.Journey.{row}
-use Rattle.shunting.specs.Cleared.{VacantBelow, Reaches, Vacancy}
+use Rattle.shunting.specs.Distance.{Reaches, AtMost}
+use Rattle.shunting.proofs.DistanceLaws.{at-most-inside, at-most-seats, reaches-back}
+use Rattle.shunting.specs.Cleared.{VacantBelow, Vacancy}
 use Rattle.shunting.specs.Table.{Table}
 use Rattle.handles.specs.Lane.{HandleOn, Copied, Agreed, Placing}
 
@@ -67,6 +69,9 @@ between-among b = record { place = b .place; before = b .before; is = b .is }
 
 pub among-between : {at : ℕ → ℕ} {s p : ℕ} → Among at s p → Between at 0 s p
 among-between a = record { place = a .place; from = omega arith; before = a .before; is = a .is }
+
+pub among-few : {at : ℕ → ℕ} {s : ℕ} → AtMost s (Among at s)
+among-few {at} {s} = at-most-seats at s (λ p a. (a .place, a .before, a .is))
 
 abbrev pub Region : (ℕ → ℕ) → ℕ → ℕ → ℕ → ℕ → Type 0
 Region at s e k p = Both (Among at s) (Between at (s + k) e) p
@@ -107,6 +112,9 @@ module _ {n : ℕ} {E : ℕ → ℕ → Type 0} {at : ℕ → ℕ} {s e u v : �
       (λ x. let b = x .before in subst (λ (q : ℕ). q < n) (x .is) (lane .below (x .place) (omega arith)))
       (λ x. let b = x .before in subst (λ (q : ℕ). q < n) (x .is) (lane .below (x .place) (omega arith)))
       r
+
+  pub region-few : {P : ℕ → Type 0} (k : ℕ) → ((p : ℕ) → P p → Region at s e k p) → AtMost (suc (n - 1)) P
+  region-few k inside = at-most-inside n (λ p x. region-below k p (inside p x))
 
   pub region-whole : (k : ℕ) → Symmetric E → Whole E (Region at s e k)
   region-whole k sy = whole-right at s e u v (s + k) sy (lane .handle) (omega arith) (lane .robust .whole) (lane .handle .right)
@@ -149,7 +157,7 @@ module _ {n : ℕ} {E : ℕ → ℕ → Type 0} {at : ℕ → ℕ} {s e u v : �
     region-reaches p sy into here =
         let t = placing .table in
         let way = region-whole k sy p (t .first) here (region-vacant (t .first) (t .first-inside) (t .first-vacant)) in
-        record { to = t .first; size = way .size; walk = walk-inside into (way .walk); vacant = t .first-vacant }
+        reaches-back sy (t .first) (way .size) (t .first-vacant) (walk-inside into (way .walk))
 
     outside : (i : ℕ) → s ≤ i → i < n → (s + k ≤ i → i < e → ⊥) → Region at s e k (at i) → ⊥
     outside i le l other x =

@@ -18,7 +18,7 @@ ghost use Rattle.shunting.specs.Table.{Table};
 ghost use Rattle.handles.specs.Lane.{BesideEnd, After, Copied, Agreed, Filled};
 ghost use Rattle.handles.specs.Lane.{LaneOn, LaneBeside, LaneClosed, LaneStage, LanePlacing, LaneFetched, LaneStacked, LaneKept};
 ghost use Rattle.handles.specs.Lane.{nextRack, InLane, LaneOpen, LaneCarriable, LaneCarried, LaneSettled};
-ghost use Rattle.handles.specs.Moves.{endMoves, carryMoves, fetchMoves, placeMoves, laneMoves};
+ghost use Rattle.handles.specs.Moves.{openMoves, endMoves, carryMoves, fetchMoves, placeMoves, laneMoves};
 
 // A handle: the row of the breakdown, how many positions the floor has, the places of the row from `start` up to `end` at which the
 // handle's inner positions stand, its ends, `left` beside the first of them and `right` beside the last, and a position of the stage beside
@@ -45,8 +45,8 @@ fn open_stage(
     requires { ⌜ Rows (lane .positions) (now rows) ⌝ }
     requires { ⌜ LaneOn (Edge (now rows)) lane ⌝ }
     requires { ⌜ LaneStacked lane k (row (state .racks)) ⌝ }
-    requires { ⌜ Room state (now log) (now tail) (lane .positions - 1) ⌝ }
-    ensures { λ r. ⌜ Trip (now (rows .entry)) (lane .positions - 1) state (now (tail .entry)) r (now (tail .exit)) ⌝ }
+    requires { ⌜ Room state (now log) (now tail) (openMoves (lane .positions)) ⌝ }
+    ensures { λ r. ⌜ Trip (now (rows .entry)) (openMoves (lane .positions)) state (now (tail .entry)) r (now (tail .exit)) ⌝ }
     ensures { λ r. ⌜ LaneKept lane k (row (state .racks)) (row (r .racks)) ⌝ }
     ensures { λ r. ⌜ Vacancy (LaneStage lane) (row (r .racks)) ⌝ }
     ensures { λ _. ⌜ length (now (log .exit)) ≡ length (now (log .entry)) ⌝ }
@@ -62,7 +62,7 @@ fn open_stage(
     let region = stage | breakdown::part(&order, s + k, lane.end);
     let mut begun = state;
     begun.logged = 0;
-    shunting::clear(rows, n, region, lane.right, begun, log, tail)
+    shunting::clear_within(rows, n, region, lane.right, begun, log, tail)
 }
 
 // The position after place i of the handle that ends before place `end`: the next place's, or its right end.
@@ -110,7 +110,7 @@ fn carry(
         let here = order[i] as usize;
         let next = after(&order, i, end, right);
         let free = sets::without(upper, here);
-        state = shunting::clear(rows, n, free, next, state, log, tail);
+        state = shunting::clear_within(rows, n, free, next, state, log, tail);
         state = shunting::make_move(here, next, state, log, tail);
         i += 1;
     }
@@ -157,9 +157,9 @@ fn open_end(
     let region = stage | breakdown::part(&order, s + k, lane.end);
     let mut begun = state;
     begun.logged = 0;
-    let aside = shunting::clear(rows, n, region, beside, begun, log, tail);
+    let aside = shunting::clear_within(rows, n, region, beside, begun, log, tail);
     let free = sets::without(region, beside);
-    shunting::clear(rows, n, free, lane.right, aside, log, tail)
+    shunting::clear_within(rows, n, free, lane.right, aside, log, tail)
 }
 
 // Brings the next rack for the handle into the stage, where it is not there already. The k racks that are stacked stay, and so does what
@@ -237,7 +237,7 @@ fn place(
     let racks = fetched.racks;
     let from = shunting::where_is(&racks, n, rack);
     let brought = shunting::bring(rows, n, stage, from, left, fetched, log, tail);
-    let cleared = shunting::clear(
+    let cleared = shunting::clear_within(
         rows,
         n,
         sets::without(stage, left),
@@ -366,8 +366,8 @@ pub fn settle_handles(
     requires { ⌜ Table n (row (state .racks)) ⌝ }
     requires { ⌜ Table n (row (now goal)) ⌝ }
     requires { ⌜ Filled (row (breakdown .order)) (row (now goal)) (breakdown .ring) n ⌝ }
-    requires { ⌜ Space state (now tail) ((n - breakdown .ring) * (4 * (n * n))) ⌝ }
-    ensures { λ r. ⌜ Trip (now (rows .entry)) ((n - breakdown .ring) * (4 * (n * n))) state (now (tail .entry)) r (now (tail .exit)) ⌝ }
+    requires { ⌜ Space state (now tail) ((n - breakdown .ring) * placeMoves n) ⌝ }
+    ensures { λ r. ⌜ Trip (now (rows .entry)) ((n - breakdown .ring) * placeMoves n) state (now (tail .entry)) r (now (tail .exit)) ⌝ }
     ensures { λ r. ⌜ Table n (row (r .racks)) ⌝ }
     ensures { λ r. ⌜ Agreed (row (breakdown .order)) (row (now (goal .entry))) (row (r .racks)) (breakdown .ring) n ⌝ }
 {

@@ -2,3 +2,4 @@ pub mod CopyLaws
 pub mod ShownLaws
 pub mod PartLaws
 pub mod ToldLaws
+pub mod ClearedLaws

@@ -1,2 +1,4 @@
 pub mod Inspection
 pub mod Told
+pub mod NearestDecision
+pub mod Clear

@@ -1,5 +1,5 @@
-// For the tests: a breakdown as bytes, the part that the step reader gives back byte by byte, and a delivery, through C's conventions. This
-// is no part of the product's interface, and include/wichteab.h does not declare it.
+// For the tests: a breakdown as bytes, a position cleared, the part that the step reader gives back byte by byte, and a delivery, through
+// C's conventions. This is no part of the product's interface, and include/wichteab.h does not declare it.
 use answers::Fault;
 use breakdown::Breakdown;
 use delivery::CheckCall;
@@ -7,6 +7,7 @@ use delivery::MakerCall;
 use order::OrderVerdict;
 use planner::PlannerVerdict;
 use scheduling::MakerVerdict;
+use shunting::State;
 use timetable::TimetableVerdict;
 ghost use mathlib.Core.Path.{_≡_};
 ghost use Prim.Native.Nat.{_+_, _≤_, _<_};
@@ -19,6 +20,7 @@ ghost use Rattle.scheduling.specs.Maker.{answerOf as answerOfMaker};
 ghost use Rattle.planner.specs.Planner.{answerOf as answerOfPlanner};
 ghost use Rattle.delivery.specs.Delivery.{answered, callOfMaker, callOfCheck};
 ghost use Rattle.inspection.specs.Inspection.{upTo, Copied, LaidOut, Inspected, shownByte};
+ghost use Rattle.inspection.specs.Clear.{clearNumber, ClearLeft};
 ghost use Rattle.inspection.specs.Told.{chosen, valueOf, ValueBy, Told};
 
 // Byte i of a row, of which `count` bytes are used: 0 behind them.
@@ -87,6 +89,50 @@ pub extern "C" fn wichteab_inspect_breakdown(order: &[u8], buffer: &mut [u8]) ->
     }
     lay_out(found, n, buffer);
     (ring + handles * 256) as u64
+}
+
+// Clears a position of an order's floor by the nearest vacancy, with the positions of `held` held and the racks at their starts. The answer
+// is 0 where no vacancy has a way to it, else one more than the moves, and the first 64 bytes of the buffer are then the rack at each
+// position. 0, and nothing written, where the order is refused or the buffer is shorter too.
+#[no_mangle]
+pub extern "C" fn wichteab_inspect_clear(
+    order: &[u8],
+    held: u64,
+    position: u64,
+    buffer: &mut [u8],
+) -> u64
+    ensures { λ r. ⌜ r ≡ clearNumber (now (order .entry)) held position (length (now (buffer .entry))) ⌝ }
+    ensures { λ _. ⌜ ClearLeft (now (order .entry)) held position (now (buffer .entry)) (now (buffer .exit)) ⌝ }
+{
+    if buffer.len() < 64 {
+        return 0;
+    }
+    let mut rows = [0u64; 64];
+    let mut starts = [0u8; 64];
+    let mut goals = [0u8; 64];
+    let below = order::decode(order, &mut rows, &mut starts, &mut goals);
+    let OrderVerdict::Accepted(counts) = below else {
+        return 0;
+    };
+    if 64 <= position {
+        return 0;
+    }
+    let p = position as usize;
+    let state = State {
+        racks: starts,
+        real: counts.racks,
+        written: 0,
+        logged: 0,
+    };
+    let mut log = [0u16; shunting::LOG];
+    let mut tail = [0u8; 96];
+    let clearing = shunting::clear(&rows, counts.positions, held, p, state, &mut log, &mut tail);
+    if !clearing.found {
+        return 0;
+    }
+    let racks = clearing.state.racks;
+    copy_row(&racks, 64, 0, buffer);
+    (clearing.moves + 1) as u64
 }
 
 // The byte at `index` of the part of a timetable that the step reader gives back; 256 from the part's end on. No exported function may

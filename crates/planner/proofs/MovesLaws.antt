@@ -6,10 +6,9 @@
 --     none-needed                where the two tables agree there is nothing to move
 --     planned                    what the trip from the one to the other writes is a plan
 -- Assumes nothing.
-use Prim.Native.Nat.{ℕ, _+_, _-_, _*_, _/_, _≤_, _<_}
+use Prim.Native.Nat.{ℕ, _+_, _*_, _≤_, _<_}
 use mathlib.Core.Path.{_≡_, refl, sym, ap, subst, _∙_}
-use mathlib.Core.List.{List, [], _++_}
-use mathlib.Core.Logic.{_↔_, _≢_}
+use mathlib.Core.List.{List, []}
 use native.Mathlib.Omega.{arith}
 use lib.Dec.{T}
 use lib.ListN.{length}
@@ -22,18 +21,16 @@ use Rattle.motion.specs.Sound.{Sound}
 use Rattle.tables.proofs.TablesLaws.{Holds}
 use Rattle.tables.proofs.TableLaws.{placed-holds}
 use Rattle.tables.specs.Accepted.{OrderGave}
-use Rattle.graph.specs.Connected.{BiConnected, Ring}
 use Rattle.graph.specs.Rows.{Edge, Rows}
-use Rattle.graph.specs.EdgeCount.{edgeCount}
 use Rattle.breakdown.specs.Answer.{Answer}
 use Rattle.shunting.specs.declared.State.{State}
 use Rattle.shunting.specs.Went.{Same}
 use Rattle.shunting.proofs.WentLaws.{same-refl}
-use Rattle.shunting.specs.Journey.{row, Packed, Trip}
+use Rattle.shunting.specs.Journey.{row, Trip}
 use Rattle.shunting.proofs.JourneyLaws.{packed-nothing, trip-packed, went-written}
 use Rattle.solving.specs.Placed.{Placed, Filled}
+use Rattle.solving.specs.Moves.{solveMoves}
 use Rattle.solving.proofs.Planned.{trip-planned}
-use Rattle.floor.specs.FloorAnswer.{Joins}
 use Rattle.floor.proofs.FloorRows.{edge-joins, filled-is, filled-rows}
 use Rattle.floor.specs.Plannable.{Plannable}
 use Rattle.floor.proofs.FloorLaws.{plannable-rows}
@@ -100,7 +97,7 @@ module _ (o : List ℕ) (n e m : ℕ) (gave : OrderGave o n e m) where
       pub planned : (h k start goal t : List ℕ) {t′ : List ℕ} {s : State} → Holds (startsOf o) h → Holds (goalsOf o) k
           → (((p : ℕ) → p < 64 → row h p ≡ row k p) → ⊥)
           → Filled m (row h) (row start) → Filled m (row k) (row goal) → 12 * (n * (n * n)) ≤ length t
-          → Trip g (8 * (n * (n * n))) (begun start) t s t′ → Same (row (s .racks)) (row goal)
+          → Trip g (solveMoves n) (begun start) t s t′ → Same (row (s .racks)) (row goal)
           → Moves o n t t′ (s .written)
       planned h k start goal t a b differ fa fb room trip ends =
           let well = gave .placed-well in

@@ -12,14 +12,18 @@
 --     away                 they avoid position 3
 --     exchanged            racks 1 and 2 exchanged meanwhile: they lead to the first table with those two exchanged
 --     carried-away         rack 2 carried to position 3 meanwhile: its own move is skipped
+--     near, here, fast     with racks 1 and 2 at the first two positions, the second is 1 away from the nearest vacancy, and the last,
+--                          which is vacant, 0; held it has no way
+--     lined, log, fits     what `shunting::clear` asks for, and `shunting::bring` of its room: clear-met, bring-room
 -- Assumes nothing.
-use Prim.Native.Nat.{ℕ, zero, suc}
+use Prim.Native.Nat.{ℕ, zero, suc, _≤_, _<_}
 use mathlib.Core.Path.{_≡_, refl}
 use mathlib.Core.List.{List, [], _∷_}
 use mathlib.Core.Logic.{_≢_}
 use native.Mathlib.Omega.{arith}
 use lib.ListN.{replicate, length-replicate}
-use Rattle.sets.specs.Sets.{bit}
+use Rattle.sets.specs.Sets.{bit, Has}
+use Rattle.sets.proofs.SetLaws.{has-none, has-below}
 use Rattle.graph.specs.Rows.{Edge, Rows}
 use Rattle.graph.proofs.Examples.{rows-tested}
 use Rattle.shunting.specs.Went.{Move, Went, Within, Back}
@@ -27,9 +31,13 @@ use Rattle.shunting.specs.Went.Went.{stay, real, stand-in}
 use Rattle.shunting.specs.Went.Back.{done}
 use Rattle.shunting.proofs.WentLaws.{same-refl}
 use Rattle.shunting.specs.declared.State.{State}
-use Rattle.shunting.specs.Journey.{row, onto, Space}
+use Rattle.shunting.specs.Journey.{row, onto, Fits, Space}
 use Rattle.shunting.specs.Journey.Trail.{start, entry}
 use Rattle.shunting.specs.Undone.{carried, Entries, Undoing}
+use Rattle.shunting.specs.Distance.{Unheld, NoWay, Distance}
+use Rattle.shunting.proofs.DistanceLaws.{at-most-inside, vacant-here, vacant-beside, held-no-way}
+use Rattle.shunting.specs.Cleared.{RoomToClear, RoomToBring}
+use Rattle.shunting.proofs.ClearLaws.{clear-room}
 use Rattle.shunting.proofs.BackLaws.{Avoids, back-went, back-renamed, back-carried}
 
 unfoldable pub line : List ℕ
@@ -127,3 +135,36 @@ away =
 pub carried-away : Back (Edge line) (carried 2 3 (row (table 0 1 2))) past (carried 2 3 (row (table 1 2 0)))
 unfolding onto
 carried-away = back-carried (line-rows .symmetric) 2 3 away went (done (λ p. refl))
+
+unheld : (p : ℕ) → p < 3 → Unheld 3 0 p
+unheld p l = record { inside = l; loose = has-none p }
+
+pub near : Distance (Edge line) (Unheld 3 0) (row (table 1 2 0)) 1 1
+unfolding line bit
+near = vacant-beside 2 (unheld 2 (omega arith)) (unheld 1 (omega arith)) refl refl clear
+
+pub here : Distance (Edge line) (Unheld 3 0) (row (table 1 2 0)) 2 0
+here = vacant-here (unheld 2 (omega arith)) refl
+
+pub fast : NoWay (Edge line) (Unheld 3 4) (row (table 1 2 0)) 2
+unfolding bit
+fast = held-no-way 3 4 2 refl
+
+abbrev pub lined : State
+lined = record { racks = table 1 2 0; real = 2; written = 0; logged = 0 }
+
+abbrev pub log : List ℕ
+log = replicate 8256 0
+
+pub fits : (c : ℕ) → c ≤ 4 → Fits lined log (replicate 6 0) c
+fits c few =
+    let h = length-replicate {A = ℕ} 61 0 in
+    let t = length-replicate {A = ℕ} 6 0 in
+    record { racks = omega arith; log = length-replicate {A = ℕ} 8256 0; logged = omega arith; room = omega arith }
+
+pub clear-met : Rows 3 line × (1 < 64) × RoomToClear (Edge line) (Unheld 3 0) 1 lined log (replicate 6 0)
+clear-met = (line-rows, omega arith, clear-room (at-most-inside 3 (λ p x. x .inside)) (fits 2 (omega arith)))
+
+pub bring-room : RoomToBring (Has 7) lined log (replicate 6 0)
+bring-room =
+    record { most = 2; few = at-most-inside 3 (λ p x. has-below 3 7 p (omega arith) x); fits = fits 4 (omega arith) }

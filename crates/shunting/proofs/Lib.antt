@@ -1,3 +1,4 @@
+pub mod DistanceLaws
 pub mod ClearLaws
 pub mod BringLaws
 pub mod TurnLaws

@@ -1,15 +1,18 @@
 // Racks on the move: one move, a position cleared, a rack brought to a position, a cycle turned by one place, and a log taken back. Each
 // move of a real rack is packed into the plan as it is made, and every move is logged. specs/Journey.antt says what that means.
-ghost use Prim.Native.Nat.{_+_, _-_, _*_, _≤_, _<_};
+ghost use mathlib.Core.Path.{_≡_};
+ghost use Prim.Native.Nat.{_+_, _-_, _≤_, _<_};
 ghost use Rattle.sets.specs.Sets.{Has};
 ghost use Rattle.graph.specs.Connected.{Robust};
 ghost use Rattle.graph.specs.Rows.{Edge, Rows};
 ghost use Rattle.shunting.specs.Journey.{row, stateOf, unlogged, Fits, Space, Moved};
-ghost use Rattle.shunting.specs.Journey.{Joins, Journey, JourneyIn, JourneyOn, JourneyAlong};
+ghost use Rattle.shunting.specs.Journey.{Joins, JourneyOn, JourneyAlong};
 ghost use Rattle.shunting.specs.Turned.{Enterable, Movable, Passed, Simple, Round};
 ghost use Rattle.shunting.specs.Turned.{VacantPlace, Turnable, Turned, Shiftable, Shifted};
 ghost use Rattle.shunting.specs.Undone.{Entries, Undoable, Undone};
-ghost use Rattle.shunting.specs.Cleared.{VacantBelow, Inside, Reaches, Cleared, Bringable, Brought};
+ghost use Rattle.shunting.specs.Distance.{Unheld, Reaches};
+ghost use Rattle.shunting.specs.Cleared.{VacantBelow, Inside, RoomToClear, Clears, Outcome};
+ghost use Rattle.shunting.specs.Cleared.{Bringable, RoomToBring, BroughtBy, Brought};
 ghost use Rattle.shunting.specs.Table.{Stands, StandsAt};
 
 // A place for each move that is made between two beginnings of the log.
@@ -71,6 +74,7 @@ fn step(
     ensures { λ r. ⌜ JourneyOn (Joins a b) 1 (stateOf (now (racks .entry)) real tally) (now (log .entry)) (now (tail .entry))
         (stateOf (now (racks .exit)) real r) (now (log .exit)) (now (tail .exit)) ⌝ }
     ensures { λ _. ⌜ Passed a b (row (now (racks .entry))) (row (now (racks .exit))) ⌝ }
+    ensures { λ r. ⌜ r .logged ≡ tally .logged + 1 ⌝ }
 {
     let logged = tally.logged;
     log[logged] = (a * 64 + b) as u16;
@@ -87,6 +91,7 @@ pub fn make_move(a: usize, b: usize, state: State, log: &mut Log, tail: &mut [u8
     requires { ⌜ Fits state (now log) (now tail) 1 ⌝ }
     ensures { λ r. ⌜ JourneyOn (Joins a b) 1 state (now (log .entry)) (now (tail .entry)) r (now (log .exit)) (now (tail .exit)) ⌝ }
     ensures { λ r. ⌜ Passed a b (row (state .racks)) (row (r .racks)) ⌝ }
+    ensures { λ r. ⌜ r .logged ≡ state .logged + 1 ⌝ }
 {
     let real = state.real;
     let mut racks = state.racks;
@@ -138,6 +143,7 @@ fn shift(at: &[u8; 64], size: usize, state: State, log: &mut Log, tail: &mut [u8
     ensures { λ r. ⌜ JourneyAlong (row (now (at .entry))) size state (now (log .entry)) (now (tail .entry))
         r (now (log .exit)) (now (tail .exit)) ⌝ }
     ensures { λ r. ⌜ Shifted (row (now (at .entry))) size (row (state .racks)) (row (r .racks)) ⌝ }
+    ensures { λ r. ⌜ r .logged ≡ state .logged + (size - 1) ⌝ }
 {
     let real = state.real;
     let mut racks = state.racks;
@@ -160,31 +166,72 @@ fn shift(at: &[u8; 64], size: usize, state: State, log: &mut Log, tail: &mut [u8
     }
 }
 
-// Clears p: a shortest way through free positions leads from p to a vacancy, and the racks on it are shifted along it by one.
+// How clearing a position went: the state afterwards, whether a vacancy has a way to it, and how many moves were made.
+pub struct Clearing {
+    pub state: State,
+    pub found: bool,
+    pub moves: usize,
+}
+
+// Clears p by the nearest vacancy: of the ways from a vacancy to p that avoid the held positions, both ends included, a shortest is taken,
+// and the racks on it are shifted along it by one. Where no vacancy has a way, nothing moves.
 pub fn clear(
     rows: &[u64; 64],
     n: usize,
-    free: u64,
+    held: u64,
+    p: usize,
+    state: State,
+    log: &mut Log,
+    tail: &mut [u8],
+) -> Clearing
+    requires { ⌜ Rows n (now rows) ⌝ }
+    requires { ⌜ p < 64 ⌝ }
+    requires { ⌜ RoomToClear (Edge (now rows)) (Unheld n held) p state (now log) (now tail) ⌝ }
+    ensures { λ r. ⌜ Outcome (Unheld n held) (now (rows .entry)) p state (now (log .entry)) (now (tail .entry))
+        r (now (log .exit)) (now (tail .exit)) ⌝ }
+{
+    let racks = state.racks;
+    let vacant = vacancies(&racks, n);
+    let free = sets::minus(sets::below(n), held);
+    let route = graph::search(rows, free, vacant, p);
+    let at = route.at;
+    let size = route.size;
+    if size == 0 {
+        return Clearing {
+            state,
+            found: false,
+            moves: 0,
+        };
+    }
+    let moves = size - 1;
+    let moved = shift(&at, size, state, log, tail);
+    Clearing {
+        state: moved,
+        found: true,
+        moves,
+    }
+}
+
+// Clears p inside a region, with all other positions held, where some vacancy of the region is known to have a way to it.
+pub fn clear_within(
+    rows: &[u64; 64],
+    n: usize,
+    region: u64,
     p: usize,
     state: State,
     log: &mut Log,
     tail: &mut [u8],
 ) -> State
     requires { ⌜ Rows n (now rows) ⌝ }
-    requires { ⌜ p < n ⌝ }
-    requires { ⌜ Inside n free ⌝ }
-    requires { ⌜ Reaches (Edge (now rows)) (Has free) (row (state .racks)) p ⌝ }
-    requires { ⌜ Fits state (now log) (now tail) (n - 1) ⌝ }
-    ensures { λ r. ⌜ JourneyIn (Has free) (now (rows .entry)) (n - 1) state (now (log .entry)) (now (tail .entry))
+    requires { ⌜ Inside n region ⌝ }
+    requires { ⌜ Reaches (Edge (now rows)) (Has region) (row (state .racks)) p ⌝ }
+    requires { ⌜ RoomToClear (Edge (now rows)) (Has region) p state (now log) (now tail) ⌝ }
+    ensures { λ r. ⌜ Clears (Has region) (now (rows .entry)) p state (now (log .entry)) (now (tail .entry))
         r (now (log .exit)) (now (tail .exit)) ⌝ }
-    ensures { λ r. ⌜ Cleared (Has free) p (row (state .racks)) (row (r .racks)) ⌝ }
 {
-    let racks = state.racks;
-    let vacant = vacancies(&racks, n);
-    let route = graph::search(rows, free, vacant, p);
-    let at = route.at;
-    let size = route.size;
-    shift(&at, size, state, log, tail)
+    let held = sets::minus(sets::below(n), region);
+    let clearing = clear(rows, n, held, p, state, log, tail);
+    clearing.state
 }
 
 // Brings the rack at `from` to `to` inside a region that stays whole without any one position: for each next position on a shortest way, it
@@ -203,8 +250,8 @@ pub fn bring(
     requires { ⌜ Inside n region ⌝ }
     requires { ⌜ Robust (Edge (now rows)) (Has region) ⌝ }
     requires { ⌜ Bringable (Has region) from to (row (state .racks)) ⌝ }
-    requires { ⌜ Fits state (now log) (now tail) (n * (n - 1)) ⌝ }
-    ensures { λ r. ⌜ Journey (now (rows .entry)) (n * (n - 1)) state (now (log .entry)) (now (tail .entry))
+    requires { ⌜ RoomToBring (Has region) state (now log) (now tail) ⌝ }
+    ensures { λ r. ⌜ BroughtBy (Has region) (now (rows .entry)) from to state (now (log .entry)) (now (tail .entry))
         r (now (log .exit)) (now (tail .exit)) ⌝ }
     ensures { λ r. ⌜ Brought (Has region) from to (row (state .racks)) (row (r .racks)) ⌝ }
 {
@@ -217,7 +264,7 @@ pub fn bring(
         let a = at[k - 1] as usize;
         let b = at[k] as usize;
         let free = sets::without(region, a);
-        state = clear(rows, n, free, b, state, log, tail);
+        state = clear_within(rows, n, free, b, state, log, tail);
         state = make_move(a, b, state, log, tail);
         k += 1;
     }

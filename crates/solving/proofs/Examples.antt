@@ -11,10 +11,10 @@
 --     start-held, goal-held       the tables hold the order's starts and goals
 --     after, four-moves           the moves 0>1, 3>2, 2>0, 1>3 are a trip from the one to the other
 -- Assumes nothing.
-use Prim.Native.Nat.{ℕ, zero, suc, _+_, _-_, _*_, _≤_, _<_}
+use Prim.Native.Nat.{ℕ, zero, suc, _+_, _≤_, _<_}
 use mathlib.Core.Path.{_≡_, refl, _∙_}
 use mathlib.Core.List.{List, [], _∷_}
-use mathlib.Core.Logic.{_↔_, _≢_, _⊎_, inl, inr, ⊎-elim}
+use mathlib.Core.Logic.{_≢_, _⊎_, inl, inr, ⊎-elim}
 use native.Mathlib.Omega.{arith}
 use lib.Dec.{lit<, lit≤}
 use lib.ListN.{getD, length, replicate, length-replicate}
@@ -23,7 +23,7 @@ use Rattle.graph.specs.Connected.{BiConnected}
 use Rattle.graph.specs.Rows.{Edge, Rows}
 use Rattle.graph.proofs.Examples.{floorF, floorF-rows}
 use Rattle.breakdown.specs.Answer.{BreaksDown}
-use Rattle.breakdown.proofs.Examples.{inRow, floorF-breakdown, floorF-biConnected}
+use Rattle.breakdown.proofs.Examples.{floorF-breakdown, floorF-biConnected}
 use Rattle.shunting.specs.Went.Went.{stay}
 use Rattle.shunting.proofs.WentLaws.{same-refl}
 use Rattle.shunting.specs.declared.State.{State}
@@ -37,7 +37,9 @@ use Rattle.breakdown.specs.Part.{placeFrom}
 use Rattle.base_ring.specs.Circle.{Open}
 use Rattle.base_ring.specs.From.{round, circleOf}
 use Rattle.handles.proofs.Examples.{log, tail, state, space, four-long, breakdown}
-use Rattle.solving.specs.Moves.{settleMoves, solveMoves}
+use Rattle.handles.specs.Moves.{placeMoves}
+use Rattle.base_ring.specs.Moves.{exchangeMoves}
+use Rattle.solving.specs.Moves.{shiftMoves, settleMoves, solveMoves}
 use Rattle.solving.specs.Shift.{aimed, TwoPositions, Shift}
 use Rattle.solving.specs.Placed.{Placed, Filled, fillFrom, withStandIns}
 use Rattle.solving.proofs.Held.{HeldBy}
@@ -95,14 +97,14 @@ pub solve-met :
     × Table 4 (row goal)
     × (length goal ≡ 64)
     × Space (state start) tail (solveMoves 4)
-solve-met = (floorF-rows, floorF-breakdown, start-table, goal-table, four-long 2 0 0 1, space start (four-long 1 0 0 2) 512 (lit≤ tt))
+solve-met = (floorF-rows, floorF-breakdown, start-table, goal-table, four-long 2 0 0 1, space start (four-long 1 0 0 2) 256 (lit≤ tt))
 
 pub shift-met :
     Rows 4 floorF
     × BiConnected 4 (Edge floorF)
     × TwoPositions 4 1 2
     × Table 4 (row goal)
-    × Room (aimed goal) log tail (2 * (4 - 1))
+    × Room (aimed goal) log tail (shiftMoves 4)
 shift-met = (
   floorF-rows,
   floorF-biConnected,
@@ -111,7 +113,7 @@ shift-met = (
   record {
     racks = four-long 2 0 0 1;
     log = length-replicate {A = ℕ} 8256 0;
-    room = space goal (four-long 2 0 0 1) 6 (lit≤ tt) .room;
+    room = space goal (four-long 2 0 0 1) 5 (lit≤ tt) .room;
   },
 )
 
@@ -122,13 +124,13 @@ pub settle-met :
     × Table 4 (row start)
     × Open (circleOf 4 breakdown) (row goal)
     × Space (state start) tail (settleMoves 4 3)
-unfolding placeFrom round
+unfolding placeFrom round placeMoves exchangeMoves
 settle-met = (
   floorF-rows,
   floorF-breakdown,
   start-table,
   record { table = goal-table; zero = refl; one = refl },
-  space start (four-long 1 0 0 2) 280 (lit≤ tt),
+  space start (four-long 1 0 0 2) 53 (lit≤ tt),
 )
 
 pub shiftF : Shift 4 floorF 1 2 goal (aimed goal) log

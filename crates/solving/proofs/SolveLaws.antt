@@ -10,11 +10,11 @@
 --     room-shift, space-settle, space-back, trip-all    room for the parts, and the parts together
 -- Assumes nothing.
 use Prim.Native.Nat.{ℕ, _+_, _-_, _*_, _≤_, _<_}
-use mathlib.Core.Path.{_≡_, refl, sym, ap, subst, _∙_}
+use mathlib.Core.Path.{_≡_, sym, ap, subst, _∙_}
 use mathlib.Core.List.{List, []}
-use mathlib.Core.Logic.{_↔_, _≢_, by-cases}
+use mathlib.Core.Logic.{by-cases}
 use native.Mathlib.Decide.{ℕ-discrete, decLt}
-use native.Mathlib.Nat.{add-mul, mul-add, mul-left-comm, mul-le-mul-right}
+use native.Mathlib.Nat.{add-mul, mul-left-comm, mul-le-mul, mul-le-mul-left, mul-le-mul-right, le-trans}
 use native.Mathlib.Omega.{arith}
 use lib.ListN.{length}
 use Rattle.graph.specs.Walk.{Symmetric}
@@ -34,21 +34,31 @@ use Rattle.base_ring.specs.declared.Circle.{Circle}
 use Rattle.base_ring.specs.Circle.{place, On, BaseRing, Open, RestSettled}
 use Rattle.base_ring.specs.From.{circleOf}
 use Rattle.base_ring.specs.Moves.{ringMoves}
-use Rattle.base_ring.proofs.RingLaws.{circle-apart, held-open}
+use Rattle.base_ring.proofs.RingLaws.{held-open}
+use Rattle.base_ring.proofs.ExchangeLaws.{exchange-most}
 use Rattle.base_ring.proofs.FromLaws.{circle-right, circle-same}
 use Rattle.handles.specs.Lane.{Agreed, Filled}
-use Rattle.solving.specs.Moves.{settleMoves, solveMoves}
+use Rattle.handles.proofs.FetchLaws.{place-most}
+use Rattle.solving.specs.Moves.{shiftMoves, settleMoves, solveMoves}
 use Rattle.solving.specs.Shift.{aimed, TwoPositions, Shift}
 
-pub bound : (n r : ℕ) → 3 ≤ r → r < n → settleMoves n r + 2 * (n - 1) ≤ solveMoves n
+-- a rack of a handle takes at most 3 × n × n moves, a place of the ring at most 4 × n × n
+pub bound : (n r : ℕ) → 3 ≤ r → r < n → settleMoves n r + shiftMoves n ≤ solveMoves n
 bound n r three less =
-    let q = 4 * (n * n) in
+    let q = n * n in
+    let within : r ≤ n = omega arith in
+    let handles = mul-le-mul-left (n - r) (place-most n (omega arith)) in
+    let square : r * r ≤ q = mul-le-mul within within in
+    let ring = mul-le-mul-left (r - 2) (le-trans (exchange-most r three) (let l : 4 * (r * r) ≤ 4 * q = omega arith in l)) in
     let back : n - r + r ≡ n = omega arith in
-    let all : n * q ≡ (n - r) * q + r * q = ap (λ (x : ℕ). x * q) (sym back) ∙ add-mul (n - r) r q in
-    let ring : r * (q + 6) ≡ r * q + r * 6 = mul-add r q 6 in
-    let four : n * q ≡ 4 * (n * (n * n)) = mul-left-comm n 4 (n * n) in
-    let long : 4 * n ≤ n * n = mul-le-mul-right n (omega arith) in
-    let high : 4 * (n * n) ≤ n * (n * n) = mul-le-mul-right (n * n) (omega arith) in
+    let two : r - 2 + 2 ≡ r = omega arith in
+    let all : n * (3 * q) ≡ (n - r) * (3 * q) + r * (3 * q) = ap (λ (x : ℕ). x * (3 * q)) (sym back) ∙ add-mul (n - r) r (3 * q) in
+    let rest : r * (4 * q) ≡ (r - 2) * (4 * q) + 2 * (4 * q) = ap (λ (x : ℕ). x * (4 * q)) (sym two) ∙ add-mul (r - 2) 2 (4 * q) in
+    let three-n = mul-left-comm n 3 q in
+    let three-r = mul-left-comm r 3 q in
+    let four-r = mul-left-comm r 4 q in
+    let cube : r * q ≤ n * q = mul-le-mul-right q within in
+    let long : 4 * n ≤ q = mul-le-mul-right n (omega arith) in
     omega arith
 
 -- The ring as it is laid out from the first handle's left end on.
@@ -105,14 +115,14 @@ ring-met {n} {g} b {T = T} {h = h} is rows broken goal table agreed =
     })
 
 module _ {n : ℕ} (b : Breakdown) {c : Circle} (is : c ≡ circleOf n b) where
-  moves : ringMoves (c .positions) (c .size) ≡ ringMoves n (b .ring)
-  moves = ap (λ (x : Circle). ringMoves (x .positions) (x .size)) is
+  moves : ringMoves (c .size) ≡ ringMoves (b .ring)
+  moves = ap (λ (x : Circle). ringMoves (x .size)) is
 
-  pub ring-space : {s : State} {t : List ℕ} → Space s t (ringMoves n (b .ring)) → Space s t (ringMoves (c .positions) (c .size))
+  pub ring-space : {s : State} {t : List ℕ} → Space s t (ringMoves (b .ring)) → Space s t (ringMoves (c .size))
   ring-space {s} {t} = subst (Space s t) (sym moves)
 
-  pub ring-trip : {g : List ℕ} {s s′ : State} {t t′ : List ℕ} → Trip g (ringMoves (c .positions) (c .size)) s t s′ t′
-      → Trip g (ringMoves n (b .ring)) s t s′ t′
+  pub ring-trip : {g : List ℕ} {s s′ : State} {t t′ : List ℕ} → Trip g (ringMoves (c .size)) s t s′ t′
+      → Trip g (ringMoves (b .ring)) s t s′ t′
   ring-trip {g} {s} {s′} {t} {t′} = subst (λ (k : ℕ). Trip g k s t s′ t′) moves
 
 pub shifted-open : {n : ℕ} {g : List ℕ} {t l : List ℕ} {s : State} {c : Circle} (b : Breakdown) → c ≡ circleOf n b
@@ -128,7 +138,7 @@ undoing {t = t} h symmetric shift same =
 
 -- Room for the shift, which writes nothing, for what settles, and for taking the shift back.
 module _ {n r : ℕ} (three : 3 ≤ r) (less : r < n) {s : State} {t : List ℕ} (space : Space s t (solveMoves n)) where
-  pub room-shift : (k l : List ℕ) → length k ≡ 64 → length l ≡ 8256 → Room (aimed k) l t (2 * (n - 1))
+  pub room-shift : (k l : List ℕ) → length k ≡ 64 → length l ≡ 8256 → Room (aimed k) l t (shiftMoves n)
   room-shift k l racks log =
       let all = bound n r three less in
       let room = space .room in
@@ -142,7 +152,7 @@ module _ {n r : ℕ} (three : 3 ≤ r) (less : r < n) {s : State} {t : List ℕ}
       record { racks = space .racks; room = omega arith }
 
   module _ {g : List ℕ} {t₁ : List ℕ} (same : t₁ ≡ t) {s₂ : State} {t₂ : List ℕ} (trip : Trip g (settleMoves n r) s t₁ s₂ t₂) (j : ℕ)
-      (few : j ≤ 2 * (n - 1)) where
+      (few : j ≤ shiftMoves n) where
     pub space-back : Space s₂ t₂ (j - 0)
     space-back =
         let all = bound n r three less in

@@ -6,7 +6,7 @@
 --     Shift n g x y t s l     moves lead from the goal t to the state s, in which x and y are vacant; the log l has them, so that they can
 --                         be taken back
 -- Assumes nothing.
-use Prim.Native.Nat.{ℕ, _-_, _*_, _≤_, _<_}
+use Prim.Native.Nat.{ℕ, _≤_, _<_}
 use mathlib.Core.Path.{_≡_}
 use mathlib.Core.List.{List, []}
 use mathlib.Core.Logic.{_≢_}
@@ -16,6 +16,7 @@ use Rattle.shunting.specs.Went.{Went}
 use Rattle.shunting.specs.Journey.{row, onto, Trail}
 use Rattle.shunting.specs.Table.{Table}
 use Rattle.shunting.specs.declared.State.{State}
+use Rattle.solving.specs.Moves.{shiftMoves}
 
 abbrev pub aimed : List ℕ → State
 aimed t = record { racks = t; real = 0; written = 0; logged = 0 }
@@ -29,7 +30,7 @@ pub record Shift (n : ℕ) (g : List ℕ) (x y : ℕ) (t : List ℕ) (s : State)
   pub moves : List (ℕ × ℕ)
   pub written : List (ℕ × ℕ)
   pub went : Went (Edge g) 0 (row t) moves written (row (s .racks))
-  pub few : s .logged ≤ 2 * (n - 1)
+  pub few : s .logged ≤ shiftMoves n
   pub trail : Trail l 0 (s .logged) (onto moves [])
   pub long : length l ≡ 8256
   pub table : Table n (row (s .racks))

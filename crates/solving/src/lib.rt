@@ -1,5 +1,5 @@
 // From one arrangement of a floor to another: the heart of the planner. Whatever the two are, a floor with a breakdown leads from the one
-// to the other in at most 8 × n × n × n moves.
+// to the other in at most 4 × n × n × n moves.
 use base_ring::Circle;
 use breakdown::Breakdown;
 use shunting::Log;
@@ -17,7 +17,7 @@ ghost use Rattle.base_ring.specs.Circle.{Open};
 ghost use Rattle.base_ring.specs.From.{circleOf};
 ghost use Rattle.solving.specs.Shift.{aimed, TwoPositions, Shift};
 ghost use Rattle.solving.specs.Placed.{Placed, Filled, withStandIns};
-ghost use Rattle.solving.specs.Moves.{settleMoves, solveMoves};
+ghost use Rattle.solving.specs.Moves.{shiftMoves, settleMoves, solveMoves};
 
 // Shifts the goal so that x and `next` are vacant in it. What leads there is logged, and no move of it is written: no rack is real here.
 fn shift_goal(
@@ -33,7 +33,7 @@ fn shift_goal(
     requires { ⌜ BiConnected n (Edge (now rows)) ⌝ }
     requires { ⌜ TwoPositions n x next ⌝ }
     requires { ⌜ Table n (row (now goal)) ⌝ }
-    requires { ⌜ Room (aimed (now goal)) (now back) (now tail) (2 * (n - 1)) ⌝ }
+    requires { ⌜ Room (aimed (now goal)) (now back) (now tail) (shiftMoves n) ⌝ }
     ensures { λ r. ⌜ Shift n (now (rows .entry)) x next (now (goal .entry)) r (now (back .exit)) ⌝ }
     ensures { λ _. ⌜ now (tail .exit) ≡ now (tail .entry) ⌝ }
 {
@@ -45,8 +45,8 @@ fn shift_goal(
         logged: 0,
     };
     let all = sets::below(n);
-    let cleared = shunting::clear(rows, n, all, x, aim, back, tail);
-    shunting::clear(rows, n, sets::without(all, x), next, cleared, back, tail)
+    let cleared = shunting::clear_within(rows, n, all, x, aim, back, tail);
+    shunting::clear_within(rows, n, sets::without(all, x), next, cleared, back, tail)
 }
 
 // Fills the vacancies beyond two with stand-ins, racks m + 1 and up, the lowest position first.

@@ -26,6 +26,7 @@ fn main() {
     order_expand();
     floor_check();
     breakdown();
+    clear();
     plan_check();
     timetable_check();
     timetable_step();
@@ -184,6 +185,21 @@ fn breakdown() {
         "breakdown        1000 random floors, the sums of the ring sizes and of the inner positions of the"
     );
     println!("                 longest handles: proved {}, second {}", sums(&proved_breakdown), sums(&found));
+}
+
+/// Each position of the 8 by 8 grid cleared, from an order's bytes, with a few held.
+fn clear() {
+    let mut random = Random::new(0xBE_0008);
+    let grid = orders::order_on(&mut random, &floors::grid(8, 8), 62).record();
+    let held = random.number() & random.number() & random.number();
+    let mut racks = [0; 64];
+    compare_speed(
+        "clear",
+        "8 by 8 grid, 62 racks, every position",
+        200,
+        || (0..64).map(|at| proved::inspect_clear(black_box(&grid), held, at, &mut racks)).sum(),
+        || (0..64).map(|at| second::clearing::answer(black_box(&grid), held, at, 64)).sum(),
+    );
 }
 
 /// A plan of so many moves on an 8 by 8 grid, and its order.

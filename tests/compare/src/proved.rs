@@ -45,6 +45,14 @@ mod symbols {
             buffer: *mut u8,
             buffer_length: usize,
         ) -> u64;
+        pub fn wichteab_inspect_clear(
+            order: *const u8,
+            order_length: usize,
+            held: u64,
+            position: u64,
+            buffer: *mut u8,
+            buffer_length: usize,
+        ) -> u64;
         pub fn wichteab_inspect_step(
             timetable: *const u8,
             timetable_length: usize,
@@ -129,6 +137,20 @@ pub fn timetable_length(bytes: &[u8]) -> u64 {
 pub fn inspect_breakdown(order: &[u8], buffer: &mut [u8]) -> u64 {
     unsafe {
         symbols::wichteab_inspect_breakdown(order.as_ptr(), order.len(), buffer.as_mut_ptr(), buffer.len())
+    }
+}
+
+/// 0 for "no way", else one more than the moves; the buffer then has the rack at each position.
+pub fn inspect_clear(order: &[u8], held: u64, position: u64, buffer: &mut [u8]) -> u64 {
+    unsafe {
+        symbols::wichteab_inspect_clear(
+            order.as_ptr(),
+            order.len(),
+            held,
+            position,
+            buffer.as_mut_ptr(),
+            buffer.len(),
+        )
     }
 }
 

@@ -17,10 +17,12 @@
 //! | `planning`  | Breakdown and planning, demand 3  | 23                 |
 //! | `program`   | Programs                          |                    |
 //! | `models`    | request (a), floors by model code | 50, 51, 14, 52     |
+//! | `clearing`  | request (b), the nearest vacancy  |                    |
 #![forbid(unsafe_code)]
 
 pub mod answer;
 pub mod breakdown;
+pub mod clearing;
 pub mod floor;
 pub mod making;
 pub mod models;

@@ -1,14 +1,17 @@
 -- `base_ring::bring_aside` meets its contract.
 -- Assumes nothing.
-use Prim.Native.Nat.{ℕ}
+use Prim.Native.Nat.{ℕ, _-_}
 use mathlib.Core.List.{List}
 use native.Mathlib.Omega.{arith}
 use borrow.Author.Needs.{needs}
+use Rattle.sets.specs.Sets.{Has}
 use Rattle.shunting.specs.Journey.{row, Journey}
+use Rattle.shunting.specs.Cleared.{RoomToBring}
+use Rattle.shunting.proofs.BringLaws.{brought-few}
 use Rattle.shunting.specs.Table.{Table}
 use Rattle.shunting.proofs.JourneyLaws.{journey-append, fits-less, fits-then}
 use Rattle.shunting.proofs.TableLaws.{table-went}
-use Rattle.base_ring.proofs.RingLaws.{circle-below, circle-places, ring-below, ring-robust}
+use Rattle.base_ring.proofs.RingLaws.{circle-below, circle-places, ring-below, ring-robust, ring-few}
 use Rattle.base_ring.proofs.ExchangeLaws.{aside-movable, aside-on, aside-bringable, aside-again, aside-done}
 use Rattle.base_ring.proofs.bring_aside.Statement.{statement}
 use Rattle.base_ring.proofs.bring_aside.Tie as tie
@@ -63,7 +66,7 @@ where-is-requires c κs =
     let tail = c .before .before .before in
     let moved = tail .before in
     let p = start moved .pre in
-    let on = aside-on (p .0) (p .1 .0) (p .1 .1 .0) (p .1 .1 .1 .0) (moved .make-move .ensures .1) in
+    let on = aside-on (p .0) (p .1 .0) (p .1 .1 .0) (p .1 .1 .1 .0) (moved .make-move .ensures .1 .0) in
     (p .0 .small, (on .at, record { inside = circle-below (p .1 .0) (on .at) (on .on); there = on .there }))
 
 bring-requires : tie.Need-bring-requires
@@ -72,7 +75,13 @@ bring-requires c κs =
     let moved = stepped at in
     let ring = parted moved .part .ensures in
     let p = start moved .pre in
-    let m = moved .make-move .ensures .1 in (
+    let m = moved .make-move .ensures .1 .0 in
+    let room : RoomToBring (Has (parted moved .part .result)) _ _ _ = record {
+      most = start moved .args .circle .size - 1;
+      few = ring-few (p .0) (p .1 .0) _ ring;
+      fits = fits-less _ (omega arith) (fits-then (p .1 .1 .1 .1) (step moved));
+    }
+    in (
       p .0,
       (
         ring-below (p .0) (p .1 .0) _ ring,
@@ -80,7 +89,7 @@ bring-requires c κs =
           ring-robust (p .0) (p .1 .0) _ ring,
           (
             aside-bringable (p .0) (p .1 .0) (p .1 .1 .0) (p .1 .1 .1 .0) m _ _ ring (table moved) (at .where-is .ensures),
-            fits-less _ (omega arith) (fits-then (p .1 .1 .1 .1) (step moved)),
+            room,
           ),
         ),
       ),
@@ -94,10 +103,10 @@ make-move-requires-2 c κs =
     let moved = stepped at in
     let ring = parted moved .part .ensures in
     let p = start moved .pre in
-    let m = moved .make-move .ensures .1 in
+    let m = moved .make-move .ensures .1 .0 in
     let b = brought .bring .ensures in (
       aside-again (p .0) (p .1 .0) (p .1 .1 .0) (p .1 .1 .1 .0) m _ _ ring (table moved) (at .where-is .ensures) (b .1),
-      fits-then (fits-then (p .1 .1 .1 .1) (step moved)) (b .0),
+      fits-then (fits-then (p .1 .1 .1 .1) (step moved)) (brought-few (ring-few (p .0) (p .1 .0) _ ring) (b .0)),
     )
 
 same-length : tie.Need-same-length
@@ -112,11 +121,11 @@ returns c =
     let moved = stepped at in
     let p = start moved .pre in
     let ring = parted moved .part .ensures in
-    let m = moved .make-move .ensures .1 in
+    let m = moved .make-move .ensures .1 .0 in
     let b = brought .bring .ensures in
     let o = aside .make-move2 .ensures in (
-      journey-append (step moved) (journey-append (b .0) (o .0 _ (p .1 .0 .beside))),
-      aside-done (p .0) (p .1 .0) (p .1 .1 .0) (p .1 .1 .1 .0) m _ _ ring (table moved) (at .where-is .ensures) (b .1) (o .1),
+      journey-append (step moved) (journey-append (brought-few (ring-few (p .0) (p .1 .0) _ ring) (b .0)) (o .0 _ (p .1 .0 .beside))),
+      aside-done (p .0) (p .1 .0) (p .1 .1 .0) (p .1 .1 .1 .0) m _ _ ring (table moved) (at .where-is .ensures) (b .1) (o .1 .0),
     )
 
 pub bring-aside-spec : {M : Type 1} → statement M

@@ -3,10 +3,14 @@
 use Prim.Native.Nat.{_-_}
 use native.Mathlib.Omega.{arith}
 use borrow.Author.Needs.{needs}
+use Rattle.sets.specs.Sets.{Has}
+use Rattle.shunting.specs.Cleared.{RoomToBring}
 use Rattle.shunting.proofs.JourneyLaws.{journey-append, fits-less, fits-then}
+use Rattle.shunting.proofs.ClearLaws.{clear-room, clear-few}
+use Rattle.shunting.proofs.BringLaws.{brought-few}
 use Rattle.shunting.proofs.TableLaws.{table-went}
 use Rattle.base_ring.proofs.RingLaws.{circle-below, circle-small, circle-places, held-same, ring-below, ring-robust}
-use Rattle.base_ring.proofs.RingLaws.{ring-reaches-without, ring-reaches-last}
+use Rattle.base_ring.proofs.RingLaws.{ring-few, ring-few-without, ring-few-last, ring-reaches-without, ring-reaches-last}
 use Rattle.base_ring.proofs.ExchangeLaws.{next-bringable, next-outside, next-held-still, next-outside-still, next-done}
 use Rattle.base_ring.proofs.bring_next.Statement.{statement}
 use Rattle.base_ring.proofs.bring_next.Tie as tie
@@ -24,10 +28,10 @@ found c = c .before .before .before
 abbrev brought : tie.After-without → tie.After-bring
 brought c = c .before .before .before
 
-abbrev held : tie.After-clear → tie.After-without
+abbrev held : tie.After-clear-within → tie.After-without
 held c = c .before .before .before
 
-abbrev cleared : tie.After-without2 → tie.After-clear
+abbrev cleared : tie.After-without2 → tie.After-clear-within
 cleared c = c .before .before .before
 
 array-read-x : tie.Need-array-read-x
@@ -67,16 +71,19 @@ bring-requires c κs =
     let p = entry (parted at) .pre in
     let rows = p .0 in
     let circle = p .1 .0 in
-    let rack = p .1 .1 .1 .1 in (
+    let rack = p .1 .1 .1 .1 in
+    let room : RoomToBring (Has (part .result)) _ _ _ = record {
+      most = entry (parted at) .args .circle .size - 1;
+      few = ring-few rows circle _ (part .ensures);
+      fits = fits-less _ (omega arith) (rack .1);
+    }
+    in (
       rows,
       (
         ring-below rows circle _ (part .ensures),
         (
           ring-robust rows circle _ (part .ensures),
-          (
-            next-bringable rows circle _ _ (rack .0) (part .ensures) (at .where-is .ensures) (p .1 .1 .0) (p .1 .1 .1 .0),
-            fits-less _ (omega arith) (rack .1),
-          ),
+          (next-bringable rows circle _ _ (rack .0) (part .ensures) (at .where-is .ensures) (p .1 .1 .0) (p .1 .1 .1 .0), room),
         ),
       ),
     )
@@ -87,8 +94,8 @@ without-requires c κs =
     let three = p .1 .0 .three in
     circle-small (p .0) (p .1 .0) 1 (omega arith)
 
-clear-requires : tie.Need-clear-requires
-clear-requires c κs =
+clear-within-requires : tie.Need-clear-within-requires
+clear-within-requires c κs =
     let without = c .before .before in
     let bring = brought without in
     let at = found bring in
@@ -100,18 +107,17 @@ clear-requires c κs =
     let rack = p .1 .1 .1 .1 in
     let m = bring .bring .ensures in
     let has = without .without .ensures in
-    let table = table-went (rows .inside) (m .0 .trip .went) (p .1 .1 .0) in
+    let go = brought-few (ring-few rows circle _ (part .ensures)) (m .0) in
+    let table = table-went (rows .inside) (go .trip .went) (p .1 .1 .0) in
     let outside = next-outside rows circle _ _ (rack .0) (part .ensures) (at .where-is .ensures) (m .1) in
     let filled = held-same (entry (parted at) .args .circle) outside (p .1 .1 .1 .0) in (
       rows,
       (
-        circle .below 0 (omega arith),
+        λ q h. ring-below rows circle _ (part .ensures) q (has q .0 h .0),
         (
-          λ q h. ring-below rows circle _ (part .ensures) q (has q .0 h .0),
-          (
-            ring-reaches-without rows circle _ (part .ensures) table filled 1 0 (omega arith) (omega arith) (omega arith) _ has,
-            fits-less _ (omega arith) (fits-then (rack .1) (m .0)),
-          ),
+          ring-reaches-without rows circle _ (part .ensures) table filled 1 0 (omega arith) (omega arith) (omega arith) _ has,
+          clear-room (ring-few-without rows circle _ (part .ensures) 1 (omega arith) _ has)
+              (fits-less _ (omega arith) (fits-then (rack .1) go)),
         ),
       ),
     )
@@ -123,8 +129,8 @@ without-requires-2 c κs =
     let three = p .1 .0 .three in
     circle-small (p .0) (p .1 .0) 0 (omega arith)
 
-clear-requires-2 : tie.Need-clear-requires-2
-clear-requires-2 c κs =
+clear-within-requires-2 : tie.Need-clear-within-requires-2
+clear-within-requires-2 c κs =
     let more = c .before .before in
     let clear = cleared more in
     let without = held clear in
@@ -138,22 +144,21 @@ clear-requires-2 c κs =
     let three = circle .three in
     let rack = p .1 .1 .1 .1 in
     let m = bring .bring .ensures in
-    let o = clear .clear .ensures in
+    let o = clear .clear-within .ensures in
     let has = without .without .ensures in
     let has-more = more .without2 .ensures in
-    let one = table-went (rows .inside) (m .0 .trip .went) (p .1 .1 .0) in
-    let two = table-went (rows .inside) (o .0 .journey .trip .went) one in
-    let outside = next-outside-still rows circle _ _ (rack .0) (part .ensures) (at .where-is .ensures) (m .1) _ has (o .1) in
-    let there = next-held-still rows circle _ _ (rack .0) (part .ensures) (at .where-is .ensures) (m .1) _ has (o .1) in (
+    let go = brought-few (ring-few rows circle _ (part .ensures)) (m .0) in
+    let way = clear-few (ring-few-without rows circle _ (part .ensures) 1 (omega arith) _ has) o .journey in
+    let one = table-went (rows .inside) (go .trip .went) (p .1 .1 .0) in
+    let two = table-went (rows .inside) (way .trip .went) one in
+    let outside = next-outside-still rows circle _ _ (rack .0) (part .ensures) (at .where-is .ensures) (m .1) _ has (o .cleared) in
+    let there = next-held-still rows circle _ _ (rack .0) (part .ensures) (at .where-is .ensures) (m .1) _ has (o .cleared) in (
       rows,
       (
-        circle .below (ring .size - 1) (omega arith),
+        λ q h. ring-below rows circle _ (part .ensures) q (has q .0 (has-more q .0 h .0) .0),
         (
-          λ q h. ring-below rows circle _ (part .ensures) q (has q .0 (has-more q .0 h .0) .0),
-          (
-            ring-reaches-last rows circle _ (part .ensures) two (held-same ring outside (p .1 .1 .1 .0)) there _ _ has has-more,
-            fits-then (fits-then (rack .1) (m .0)) (o .0 .journey),
-          ),
+          ring-reaches-last rows circle _ (part .ensures) two (held-same ring outside (p .1 .1 .1 .0)) there _ _ has has-more,
+          clear-room (ring-few-last rows circle _ (part .ensures) _ _ has has-more) (fits-then (fits-then (rack .1) go) way),
         ),
       ),
     )
@@ -171,13 +176,20 @@ returns c =
     let at = found bring in
     let part = parted at .part in
     let p = entry (parted at) .pre in
+    let rows = p .0 in
+    let circle = p .1 .0 in
+    let three = circle .three in
     let rack = p .1 .1 .1 .1 in
     let m = bring .bring .ensures in
-    let o = clear .clear .ensures in
-    let u = last .clear2 .ensures in (
-      journey-append (m .0) (journey-append (o .0 .journey) (u .0 .journey)),
-      next-done (p .0) (p .1 .0) _ _ (rack .0) (part .ensures) (at .where-is .ensures) (m .1) _ (without .without .ensures) (o .1) _
-          (more .without2 .ensures) (u .1),
+    let o = clear .clear-within .ensures in
+    let u = last .clear-within2 .ensures in
+    let has = without .without .ensures in
+    let has-more = more .without2 .ensures in
+    let go = brought-few (ring-few rows circle _ (part .ensures)) (m .0) in
+    let way = clear-few (ring-few-without rows circle _ (part .ensures) 1 (omega arith) _ has) o .journey in
+    let end = clear-few (ring-few-last rows circle _ (part .ensures) _ _ has has-more) u .journey in (
+      journey-append go (journey-append way end),
+      next-done rows circle _ _ (rack .0) (part .ensures) (at .where-is .ensures) (m .1) _ has (o .cleared) _ has-more (u .cleared),
     )
 
 pub bring-next-spec : {M : Type 1} → statement M
@@ -195,8 +207,8 @@ bring-next-spec =
     where-is-requires
     bring-requires
     without-requires
-    clear-requires
+    clear-within-requires
     without-requires-2
-    clear-requires-2
+    clear-within-requires-2
     same-length
     returns)

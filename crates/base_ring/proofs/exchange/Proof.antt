@@ -1,18 +1,17 @@
 -- `base_ring::exchange` meets its contract.
 -- Assumes nothing.
-use Prim.Native.Nat.{ℕ, _+_, _*_, _≤_}
+use Prim.Native.Nat.{ℕ, _+_, _≤_}
 use mathlib.Core.List.{List}
 use native.Mathlib.Omega.{arith}
 use borrow.Author.Needs.{needs}
 use Rattle.shunting.specs.Journey.{row, relogged, Fits}
 use Rattle.shunting.specs.Table.{Table}
-use Rattle.shunting.proofs.JourneyLaws.{journey-append, trip-append, trip-more, fits-then, fits-anew}
-use Rattle.shunting.proofs.JourneyLaws.{room-less, space-then, space-less}
+use Rattle.shunting.proofs.JourneyLaws.{journey-append, fits-then}
 use Rattle.shunting.proofs.TableLaws.{table-went}
 use Rattle.base_ring.specs.Circle.{OnRing}
 use Rattle.base_ring.specs.Moves.{asideMoves, nextMoves}
-use Rattle.base_ring.proofs.ExchangeLaws.{aside-rest, rack-on, exchange-swappable, exchange-moves, exchange-most}
-use Rattle.base_ring.proofs.ExchangeLaws.{Swapping, exchange-made}
+use Rattle.base_ring.proofs.ExchangeLaws.{aside-rest, rack-on, exchange-swappable, exchange-fits, Swapping, exchange-made}
+use Rattle.base_ring.proofs.ExchangeLaws.{exchange-entries, exchange-space, exchange-trip}
 use Rattle.base_ring.proofs.exchange.Statement.{statement}
 use Rattle.base_ring.proofs.exchange.Tie as tie
 
@@ -31,10 +30,10 @@ module _ (c : tie.After-bring-aside) where
   abbrev start : tie.Start
   start = entry c
 
-  abbrev n : ℕ
-  n = start .args .circle .positions
+  abbrev size : ℕ
+  size = start .args .circle .size
 
-  table : Table n (row (c .bring-aside .result .racks))
+  table : Table (start .args .circle .positions) (row (c .bring-aside .result .racks))
   table = table-went (start .pre .0 .inside) (c .bring-aside .ensures .0 .trip .went) (start .pre .1 .1 .0 .table)
 
   second : OnRing (start .args .circle) (start .args .b) (row (c .bring-aside .result .racks))
@@ -43,13 +42,12 @@ module _ (c : tie.After-bring-aside) where
       let two = p .1 .1 .1 .0 in
       rack-on (p .0) (p .1 .0) (p .1 .1 .0) (two .first) (c .bring-aside .ensures .1) table (two .differ) (two .second)
 
-  fits : (d : ℕ) → d ≤ asideMoves n + nextMoves n + 6
+  fits : (d : ℕ) → d ≤ asideMoves size + nextMoves size + 6
       → Fits (relogged (start .args .state) 0) (start .args .log .now) (start .args .tail .now) d
   fits d few =
+      let small = start .pre .0 .small in
       let less = start .pre .1 .0 .less in
-      let all = exchange-moves n (omega arith) in
-      let most = exchange-most n (start .pre .0 .small) in
-      fits-anew _ (omega arith) (omega arith) (start .pre .1 .1 .1 .1)
+      exchange-fits size d (omega arith) few (start .pre .1 .1 .1 .1)
 
 array-read-x : tie.Need-array-read-x
 array-read-x c = search needs
@@ -77,11 +75,11 @@ bring-aside-requires c κs =
     let at = c .before .before in
     let start = at .before .before in
     let p = start .pre in
-    let n = start .args .circle .positions in
+    let size = start .args .circle .size in
+    let small = p .0 .small in
     let less = p .1 .0 .less in
-    let all = exchange-moves n (omega arith) in
-    let most = exchange-most n (p .0 .small) in
-    (p .0, (p .1 .0, (p .1 .1 .0, (p .1 .1 .1 .0 .first, fits-anew _ (omega arith) (omega arith) (p .1 .1 .1 .1)))))
+    let room = exchange-fits size (asideMoves size) (omega arith) (omega arith) (p .1 .1 .1 .1) in
+    (p .0, (p .1 .0, (p .1 .1 .0, (p .1 .1 .1 .0 .first, room))))
 
 bring-next-requires : tie.Need-bring-next-requires
 bring-next-requires c κs =
@@ -90,7 +88,7 @@ bring-next-requires c κs =
     let p = start first .pre in
     let m = first .bring-aside .ensures in
     let rest = aside-rest (p .0) (p .1 .0) (p .1 .1 .0) (p .1 .1 .1 .0 .first) (m .1) in
-    let room = fits-then (fits first (asideMoves (n first) + nextMoves (n first)) (omega arith)) (m .0) in
+    let room = fits-then (fits first (asideMoves (size first) + nextMoves (size first)) (omega arith)) (m .0) in
     (p .0, (p .1 .0, (table first, (rest, (second first, room)))))
 
 swap-requires : tie.Need-swap-requires
@@ -102,7 +100,7 @@ swap-requires c κs =
     let m = first .bring-aside .ensures in
     let o = next .bring-next .ensures in (
       exchange-swappable (p .0) (p .1 .0) (p .1 .1 .1 .0 .first) (second first) (m .1) (o .1),
-      fits-then (fits first (asideMoves (n first) + nextMoves (n first) + 6) (omega arith)) (journey-append (m .0) (o .0)),
+      fits-then (fits first (asideMoves (size first) + nextMoves (size first) + 6) (omega arith)) (journey-append (m .0) (o .0)),
     )
 
 -- The two racks are swapped: what is left is to take back the moves before.
@@ -113,7 +111,7 @@ module _ (c : tie.After-swap) where
   abbrev mutable : List ℕ × List ℕ
   mutable = let last = c .swap .last .1 .1 .1 in (last .1 .1 .0, last .1 .1 .1 .0)
 
-  made : Swapping (args .args .rows .now) (args .args .circle .positions) (args .args .a) (args .args .b) (args .args .state)
+  made : Swapping (args .args .rows .now) (args .args .circle .size) (args .args .a) (args .args .b) (args .args .state)
       (args .args .log .now) (args .args .tail .now) (ready c .bring-next .result) (c .swap .result) (mutable .0) (mutable .1)
   made =
       let p = args .pre in
@@ -127,15 +125,11 @@ undo-requires c κs =
     let known = c .before .before in
     let third = known .before .before in
     let s = args third in
-    let few = made third .few in
-    let most = exchange-most (s .args .circle .positions) (s .pre .0 .small) in
-    let nn = s .args .circle .positions * s .args .circle .positions in
-    let room = room-less (2 * nn + 6 + 2 * nn) (omega arith) (s .pre .1 .1 .1 .1) in (
-      record { ordered = omega arith; within = omega arith },
-      (
-        (s .args .rows .now, made third .past, _, made third .undoing),
-        space-less _ (omega arith) (space-then (record { racks = room .racks; room = room .room }) (made third .trip)),
-      ),
+    let size = s .args .circle .size in
+    let small = s .pre .0 .small in
+    let less = s .pre .1 .0 .less in (
+      exchange-entries size (made third) (omega arith),
+      ((s .args .rows .now, made third .past, _, made third .undoing), exchange-space size (made third) (s .pre .1 .1 .1 .1)),
     )
 
 same-length : tie.Need-same-length
@@ -146,9 +140,8 @@ returns c =
     let back = c .before .before in
     let known = back .before .before .before in
     let third = known .before .before in
-    let few = made third .few in
     let undone = back .undo .ensures _ _ _ (made third .undoing) in
-    (trip-more _ (omega arith) (trip-append (made third .trip) (undone .0)), (undone .1, made third .log))
+    (exchange-trip (args third .args .circle .size) (made third) (undone .0), (undone .1, made third .log))
 
 pub exchange-spec : {M : Type 1} → statement M
 exchange-spec =

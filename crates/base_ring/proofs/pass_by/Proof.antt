@@ -23,8 +23,8 @@ make-move-requires-2 c κs =
       record {
         leaves = p .passes;
         enters = p .enters;
-        held = λ e. p .held (sym (m .1 .entered) ∙ e);
-        vacant = m .1 .others (args .to) (λ e. p .other (sym e)) (λ e. p .beside (sym e)) ∙ p .vacant;
+        held = λ e. p .held (sym (m .1 .0 .entered) ∙ e);
+        vacant = m .1 .0 .others (args .to) (λ e. p .other (sym e)) (λ e. p .beside (sym e)) ∙ p .vacant;
       },
       fits-move (args .from) (args .x) 1 (p .leaves) (entry there .pre .1) (m .0),
     )
@@ -39,7 +39,7 @@ returns c =
     let there = known .before .before in
     let m = there .make-move .ensures in
     let o = on .make-move2 .ensures in
-    (λ g e. journey-append (m .0 g (e .there)) (o .0 g (e .on)), passed-by (entry there .pre .0) (m .1) (o .1))
+    (λ g e. journey-append (m .0 g (e .there)) (o .0 g (e .on)), passed-by (entry there .pre .0) (m .1 .0) (o .1 .0))
 
 pub pass-by-spec : {M : Type 1} → statement M
 pass-by-spec = tie.close (tie.spec make-move-requires make-move-requires-2 same-length returns)

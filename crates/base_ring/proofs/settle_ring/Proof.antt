@@ -1,19 +1,19 @@
 -- `base_ring::settle_ring` meets its contract. The invariant is the record `Settling`.
 -- Assumes nothing.
-use Prim.Native.Nat.{ℕ, _+_, _-_, _*_, _<_}
+use Prim.Native.Nat.{ℕ, _+_, _-_, _<_}
 use mathlib.Core.Path.{_∙_}
 use native.Mathlib.Omega.{arith}
 use lib.ListN.{length-replicate}
 use Rattle.shunting.specs.Journey.{row}
-use Rattle.shunting.proofs.JourneyLaws.{trip-more, trip-append, space-room, space-then, space-less}
+use Rattle.shunting.proofs.JourneyLaws.{trip-append, space-room, space-then, space-less}
 use Rattle.base_ring.specs.Moves.{exchangeMoves}
-use Rattle.base_ring.proofs.SettleLaws.{Settling, settling-begin, settling-room, settling-next, settling-end, in-all}
+use Rattle.base_ring.proofs.SettleLaws.{Settling, settling-begin, settling-room, settling-next, settling-end}
 use Rattle.base_ring.proofs.settle_ring.Statement.{statement}
 use Rattle.base_ring.proofs.settle_ring.Tie as tie
 
 abbrev Inv-loop : tie.InvT-loop
 Inv-loop rows circle goal tail₀ log₀ state₀ size i₀ tail log state i =
-    Settling rows circle (row goal) (exchangeMoves (circle .positions)) state₀ tail₀ state log tail i
+    Settling rows circle (row goal) (exchangeMoves (circle .size)) state₀ tail₀ state log tail i
 
 abbrev μ-loop : tie.MeasureT-loop
 μ-loop rows circle goal tail₀ log₀ state₀ size i₀ tail log state i = size - i
@@ -41,7 +41,7 @@ loop-holds c =
     let three = s .pre .1 .0 .three in
     settling-begin _ (omega arith) (e .1 .0)
     (space-room (e .1 .1 ∙ length-replicate {A = ℕ} 8256 0)
-    (space-then (space-less _ (in-all (s .args .circle .positions) _) (s .pre .1 .1 .1)) (e .0)))
+    (space-then (s .pre .1 .1 .1) (e .0)))
 
 settle-place-requires : tie.Need-settle-place-requires Inv-loop μ-loop
 settle-place-requires c κs =
@@ -79,9 +79,8 @@ same-length c = c .before .loop .inv .trip .tail ∙ opened (c .before) .open-ri
 returns : tie.Need-returns Inv-loop μ-loop
 returns c =
     let begun = opened (c .before) in
-    let n = entry begun .args .circle .positions in
     let done = settling-end _ (c .before .loop .inv) (omega arith) in
-    (trip-more _ (in-all n _) (trip-append (begun .open-ring .ensures .0) (done .0)), done .1)
+    (trip-append (begun .open-ring .ensures .0) (done .0), done .1)
 
 pub settle-ring-spec : {M : Type 1} → statement M
 settle-ring-spec =

@@ -1,7 +1,7 @@
 -- `handles::carry` meets its contract. The invariant: the record `Carrying`, and the journey so far, which avoids the position
 -- beside the right end.
 -- Assumes nothing.
-use Prim.Native.Nat.{ℕ, _+_, _-_, _*_, _≤_}
+use Prim.Native.Nat.{ℕ, suc, _+_, _-_, _*_, _≤_, _<_}
 use mathlib.Core.Path.{_≡_, refl, sym, _∙_}
 use mathlib.Core.List.{List, []}
 use mathlib.Core.Logic.{_↔_, _≢_}
@@ -14,10 +14,13 @@ use Rattle.shunting.specs.Undone.{carried, Undoing}
 use Rattle.shunting.proofs.JourneyLaws.{trip-append, trip-more, trip-anew, journey-append, fits-then, fits-anew, fits-space}
 use Rattle.shunting.proofs.JourneyLaws.{journey-in-none, journey-in-append, journey-in-more, journey-in-less, journey-in-one}
 use Rattle.shunting.proofs.TableLaws.{table-went}
+use Rattle.shunting.specs.Distance.{AtMost}
+use Rattle.shunting.proofs.ClearLaws.{clear-room, clear-few}
+use Rattle.handles.specs.Moves.{carryMoves}
 use Rattle.handles.specs.declared.Lane.{Lane}
 use Rattle.handles.proofs.StageLaws.{handle-places}
 use Rattle.handles.proofs.CarryLaws.{carry-rounds, carry-all, carry-few, Free, free-has, Carrying, among-more, among-floor, off}
-use Rattle.handles.proofs.CarryLaws.{carrying-begin, carry-edge, carry-next, carry-reaches, carry-movable, carrying-step}
+use Rattle.handles.proofs.CarryLaws.{carrying-begin, carry-edge, carry-next, carry-most, carry-reaches, carry-movable, carrying-step}
 use Rattle.handles.proofs.CarryLaws.{carry-last, carry-away, carry-undoing, carry-entries, carry-space}
 use Rattle.handles.proofs.carry.Statement.{statement}
 use Rattle.handles.proofs.carry.Tie as tie
@@ -25,7 +28,7 @@ use Rattle.handles.proofs.carry.Tie as tie
 abbrev Inv-loop : tie.InvT-loop
 Inv-loop rows q log₀ tail₀ order n end right beside upper state₀ i₀ log tail state i =
     Carrying n (row order) end right beside q (row (state₀ .racks)) (row (state .racks)) i
-    × JourneyIn (λ p. beside ≢ p) rows (n * (i - q)) state₀ log₀ tail₀ state log tail
+    × JourneyIn (λ p. beside ≢ p) rows ((n - 2) * (i - q)) state₀ log₀ tail₀ state log tail
 
 abbrev μ-loop : tie.MeasureT-loop
 μ-loop rows q log₀ tail₀ order n end right beside upper state₀ i₀ log tail state i = end - i
@@ -37,10 +40,10 @@ entered c = let order = c .before .before .before in order .before .before .befo
 abbrev turn : tie.After-without2 Inv-loop μ-loop → tie.In-loop Inv-loop μ-loop
 turn c = let after = c .before in after .before .before
 
-abbrev held : tie.After-clear Inv-loop μ-loop → tie.After-without2 Inv-loop μ-loop
+abbrev held : tie.After-clear-within Inv-loop μ-loop → tie.After-without2 Inv-loop μ-loop
 held c = c .before .before .before
 
-abbrev cleared : tie.After-make-move Inv-loop μ-loop → tie.After-clear Inv-loop μ-loop
+abbrev cleared : tie.After-make-move Inv-loop μ-loop → tie.After-clear-within Inv-loop μ-loop
 cleared c = let known = c .before .before .before in known .before .before
 
 abbrev arrived : tie.After-make-move2 Inv-loop μ-loop → tie.After-loop Inv-loop μ-loop
@@ -66,31 +69,39 @@ module _ (c : tie.At-loop Inv-loop μ-loop) where
   places : Places (row (lane .order)) (lane .end)
   places = handle-places (start .pre .1 .0) (start .pre .0 .small)
 
-  few : n * (n - 3) ≤ 3904
+  few : (n - 2) * (n - 3) ≤ 3782
   few = carry-few n (start .pre .0 .small)
 
-  made : n * rounds ≤ n * (n - 3)
+  made : (n - 2) * rounds ≤ (n - 2) * (n - 3)
   made =
       let most = c .loop .inv .0 .most in
       let within = start .pre .1 .0 .within in
-      carry-all n (c .loop .i) (start .args .q) (omega arith) three
+      carry-all (n - 2) n (c .loop .i) (start .args .q) (omega arith) three
 
 -- The rack is at place i, a turn begins: it is one round more.
 module _ (c : tie.In-loop Inv-loop μ-loop) where
   abbrev at : tie.At-loop Inv-loop μ-loop
   at = c .before
 
-  round : n at * rounds at + ((n at - 1) + 1) ≡ n at * (at .loop .i + 1 - start at .args .q)
-  round =
+  deep : 3 < n at
+  deep =
       let within = start at .pre .1 .0 .within in
       let more = c .loop-test .taken in
-      carry-rounds (n at) (at .loop .i) (start at .args .q) (at .loop .inv .0 .from) (omega arith)
+      let low = three at in
+      let from = at .loop .inv .0 .from in
+      omega arith
 
-  next-made : n at * (at .loop .i + 1 - start at .args .q) ≤ n at * (n at - 3)
+  round : (n at - 2) * rounds at + ((n at - 3) + 1) ≡ (n at - 2) * (at .loop .i + 1 - start at .args .q)
+  round =
+      let four = deep in
+      let r = carry-rounds (n at - 2) (at .loop .i) (start at .args .q) (at .loop .inv .0 .from) in
+      omega arith
+
+  next-made : (n at - 2) * (at .loop .i + 1 - start at .args .q) ≤ (n at - 2) * (n at - 3)
   next-made =
       let within = start at .pre .1 .0 .within in
       let more = c .loop-test .taken in
-      carry-all (n at) (at .loop .i + 1) (start at .args .q) (omega arith) (three at)
+      carry-all (n at - 2) (n at) (at .loop .i + 1) (start at .args .q) (omega arith) (three at)
 
 -- What may move while the next position is cleared.
 module _ (c : tie.After-without2 Inv-loop μ-loop) where
@@ -101,6 +112,13 @@ module _ (c : tie.After-without2 Inv-loop μ-loop) where
   has =
       let without = here .before in
       free-has _ _ _ (without .before .part .ensures) (without .without .ensures) (c .without2 .ensures)
+
+  most : AtMost (suc (n here - 3)) (Has (c .without2 .result))
+  most =
+      let p = start here .pre in
+      let asked = p .1 .1 .1 in
+      carry-most (p .1 .0) (p .1 .1 .0) (asked .0 .from) (turn c .loop-test .taken) (asked .1 .0 .held) (here .loop .inv .0)
+      (c .before .after .ensures) (λ q x. has q .0 x)
 
 part-requires : tie.Need-part-requires Inv-loop μ-loop
 part-requires c κs = let p = c .before .before .before .pre in handle-places (p .1 .0) (p .0 .small)
@@ -138,8 +156,8 @@ without-requires-2 c κs =
     let t = c .before .before in
     places (at t) .below (at t .loop .i) (t .loop-test .taken)
 
-clear-requires : tie.Need-clear-requires Inv-loop μ-loop
-clear-requires c κs =
+clear-within-requires : tie.Need-clear-within-requires Inv-loop μ-loop
+clear-within-requires c κs =
     let free = c .before .before in
     let t = turn free in
     let l = at t .loop in
@@ -151,17 +169,15 @@ clear-requires c κs =
     let next = free .before .after .ensures in
     let up = round t in
     let all = next-made t in
-    let most = few (at t) in (
+    let log = few (at t) in (
       p .0,
       (
-        among-floor on near (carry-next on near (asked .0 .from) more (asked .1 .0 .held) (l .inv .0) next .there),
+        λ q x. among-floor on near (has free q .0 x .there),
         (
-          λ q x. among-floor on near (has free q .0 x .there),
-          (
-            carry-reaches on near (asked .0 .from) more (asked .1 .0 .held) (l .inv .0) next (p .0 .symmetric) (λ q x. has free q .1 x),
-            fits-then (fits-anew (n (at t) * rounds (at t) + (n (at t) - 1)) (omega arith) (omega arith) (asked .1 .1))
-                (l .inv .1 .journey),
-          ),
+          carry-reaches on near (asked .0 .from) more (asked .1 .0 .held) (l .inv .0) next (p .0 .symmetric) (λ q x. has free q .1 x),
+          clear-room (most free)
+              (fits-then (fits-anew ((n (at t) - 2) * rounds (at t) + (n (at t) - 3)) (omega arith) (omega arith) (asked .1 .1))
+              (l .inv .1 .journey)),
         ),
       ),
     )
@@ -175,14 +191,14 @@ make-move-requires c κs =
     let l = at t .loop in
     let p = start (at t) .pre in
     let asked = p .1 .1 .1 in
-    let cl = clear .clear .ensures in
+    let cl = clear .clear-within .ensures in
     let up = round t in
     let all = next-made t in
-    let most = few (at t) in (
+    let log = few (at t) in (
       carry-movable (p .1 .0) (p .1 .1 .0) (asked .0 .from) (t .loop-test .taken) (asked .1 .0 .held) (l .inv .0)
-          (free .before .after .ensures) (λ q x. has free q .0 x) (cl .1) (p .0 .small),
-      fits-then (fits-anew (n (at t) * rounds (at t) + (n (at t) - 1) + 1) (omega arith) (omega arith) (asked .1 .1))
-          (journey-append (l .inv .1 .journey) (cl .0 .journey)),
+          (free .before .after .ensures) (λ q x. has free q .0 x) (cl .cleared) (p .0 .small),
+      fits-then (fits-anew ((n (at t) - 2) * rounds (at t) + (n (at t) - 3) + 1) (omega arith) (omega arith) (asked .1 .1))
+          (journey-append (l .inv .1 .journey) (clear-few (most free) cl .journey)),
     )
 
 add-i : tie.Need-add-i Inv-loop μ-loop
@@ -211,17 +227,18 @@ loop-again c =
     let low = l .inv .0 .from in
     let more = t .loop-test .taken in
     let next = free .before .after .ensures in
-    let cl = clear .clear .ensures in
+    let cl = clear .clear-within .ensures in
     let m = move .make-move .ensures in
-    let can = carry-movable on near from more rack (l .inv .0) next (λ q x. has free q .0 x) (cl .1) (rows .small) in
+    let can = carry-movable on near from more rack (l .inv .0) next (λ q x. has free q .0 x) (cl .cleared) (rows .small) in
     let go = m .0 _ (carry-edge on near from more rack (l .inv .0) next) in
-    let way = journey-in-less {Q = λ q. lane (at t) .beside ≢ q} (λ q x z. has free q .0 x .other (sym z)) (cl .0) in
+    let way = journey-in-less {Q = λ q. lane (at t) .beside ≢ q} (λ q x z. has free q .0 x .other (sym z)) (clear-few (most free) cl) in
     let leaves = off on near (near .there) (l .i) (omega arith) more in
     let enters = carry-next on near from more rack (l .inv .0) next .other in
-    let one = journey-in-one {P = λ q. lane (at t) .beside ≢ q} _ _ can (m .1) leaves (λ z. enters (sym z)) go in
-    let table = table-went (rows .inside) (go .trip .went) (table-went (rows .inside) (cl .0 .journey .trip .went) (l .inv .0 .table)) in
+    let one = journey-in-one {P = λ q. lane (at t) .beside ≢ q} _ _ can (m .1 .0) leaves (λ z. enters (sym z)) go in
+    let between = table-went (rows .inside) (cl .journey .journey .trip .went) (l .inv .0 .table) in
+    let table = table-went (rows .inside) (go .trip .went) between in
     let up = round t in (
-      carrying-step on near from more rack (l .inv .0) next (λ q x. has free q .0 x) (cl .1) table (m .1),
+      carrying-step on near from more rack (l .inv .0) next (λ q x. has free q .0 x) (cl .cleared) table (m .1 .0),
       journey-in-more _ (omega arith) (journey-in-append (l .inv .1) (journey-in-append way one)),
     )
 
@@ -235,7 +252,7 @@ make-move-requires-2 c κs =
     let all = made turns in
     let most = few turns in (
       carry-last (p .1 .0) (p .1 .1 .0) (asked .1 .0 .held) (done .loop-test .left) (l .inv .0) (p .0 .small),
-      fits-then (fits-anew (n turns * rounds turns + 1) (omega arith) (omega arith) (asked .1 .1)) (l .inv .1 .journey),
+      fits-then (fits-anew ((n turns - 2) * rounds turns + 1) (omega arith) (omega arith) (asked .1 .1)) (l .inv .1 .journey),
     )
 
 -- The rack is moved beside the right end: what is left is to take back the rest.
@@ -263,7 +280,7 @@ module _ (c : tie.After-make-move2 Inv-loop μ-loop) where
   undoing =
       let p = start end .pre in
       let rack = p .1 .1 .1 .1 .0 .held in
-      let away = carry-away (p .1 .0) (p .1 .1 .0) rack (arrived c .loop-test .left) (end .loop .inv .0) (c .make-move2 .ensures .1) in
+      let away = carry-away (p .1 .0) (p .1 .1 .0) rack (arrived c .loop-test .left) (end .loop .inv .0) (c .make-move2 .ensures .1 .0) in
       carry-undoing refl _ _ (p .0 .symmetric) (end .loop .inv .1) go away
 
 undo-requires : tie.Need-undo-requires Inv-loop μ-loop
@@ -275,7 +292,7 @@ undo-requires c κs =
     let all = made turns in
     let most = few turns in
     let room = start turns .pre .1 .1 .1 .1 .1 in
-    let space = fits-space (fits-anew (2 * (n turns * (n turns - 3)) + 1) (omega arith) (omega arith) room) in
+    let space = fits-space (fits-anew (carryMoves (n turns)) (omega arith) (omega arith) room) in
     (carry-entries refl (omega arith) journey, ((_, _, _, undoing move), carry-space refl space (omega arith) journey (go move)))
 
 same-length : tie.Need-same-length Inv-loop μ-loop
@@ -313,7 +330,7 @@ carry-spec =
     cast-here
     after-requires
     without-requires-2
-    clear-requires
+    clear-within-requires
     make-move-requires
     add-i
     loop-less

@@ -1,6 +1,6 @@
 -- `handles::fetch` meets its contract.
 -- Assumes nothing.
-use Prim.Native.Nat.{ℕ, _+_, _-_, _*_, _≤_}
+use Prim.Native.Nat.{ℕ}
 use mathlib.Core.Path.{_≡_, refl, _∙_}
 use native.Mathlib.Omega.{arith}
 use Rattle.breakdown.specs.Breakdown.{Between}
@@ -11,10 +11,11 @@ use Rattle.shunting.proofs.JourneyLaws.{trip-none, trip-more, trip-append, room
 use Rattle.shunting.proofs.TableLaws.{table-went}
 use Rattle.handles.specs.declared.Lane.{Lane}
 use Rattle.handles.specs.Lane.{LaneStage, LanePlacing, LaneCarriable, nextRack}
+use Rattle.handles.specs.Moves.{endMoves}
 use Rattle.handles.proofs.StageLaws.{handle-places}
 use Rattle.handles.proofs.CycleLaws.{lane-floor, lane-places}
 use Rattle.handles.proofs.PlaceLaws.{rack-there}
-use Rattle.handles.proofs.FetchLaws.{fails, fetch-bound, lane-four, fetch-already, fetch-place, fetch-held, fetch-carried}
+use Rattle.handles.proofs.FetchLaws.{fails, fetch-already, fetch-place, fetch-held, fetch-carried}
 use Rattle.handles.proofs.fetch.Statement.{statement}
 use Rattle.handles.proofs.fetch.Tie as tie
 
@@ -37,16 +38,13 @@ opened c = let racks = c .before .before in racks .before .before .before
 abbrev found : tie.After-place-of → tie.After-where-is2
 found c = let away = c .before .before in away .before .before
 
--- The end is open, and the rack looked for again: racks stay stacked, it is the one that comes next, and the bound has room for the rest.
+-- The end is open, and the rack looked for again: racks stay stacked, and it is the one that comes next.
 module _ (c : tie.After-where-is2) where
   abbrev part : tie.After-part
   part = parted (sought (opened c))
 
   abbrev entry : tie.Start
   entry = start (named part)
-
-  abbrev n : ℕ
-  n = entry .args .lane .positions
 
   abbrev lane : Lane
   lane = entry .args .lane
@@ -62,9 +60,6 @@ module _ (c : tie.After-where-is2) where
 
   is : racks (c .where-is2 .result) ≡ nextRack lane goal (entry .args .k)
   is = c .where-is2 .ensures .there ∙ named part .next-rack .ensures
-
-  bound : 2 * (n - 1) + (2 * (n * (n - 3)) + 1) ≤ 2 * (n * n)
-  bound = fetch-bound n (lane-four (entry .pre .0) (entry .pre .1 .0))
 
 next-rack-requires : tie.Need-next-rack-requires
 next-rack-requires c κs =
@@ -106,8 +101,7 @@ open-end-requires c κs =
     let p = entry .pre in
     let asked = p .1 .1 .1 in
     let n = entry .args .lane .positions in
-    let bound = fetch-bound n (lane-four (p .0) (p .1 .0)) in
-    (p .0, (p .1 .0, (p .1 .1 .0, ((_, asked .0), room-less (2 * (n - 1)) (omega arith) (asked .1 .1 .1)))))
+    (p .0, (p .1 .0, (p .1 .1 .0, ((_, asked .0), room-less (endMoves n) (omega arith) (asked .1 .1 .1)))))
 
 where-is-requires-2 : tie.Need-where-is-requires-2
 where-is-requires-2 c κs =
@@ -137,8 +131,7 @@ returns-2 c =
       at = lane at .right;
       there = on .handle .right;
       vacant = o .1 .1 .0 .end;
-    } in
-    let more = bound at in (
+    } in (
       trip-more _ (omega arith) (o .0),
       (
         fetch-already (p .0) on _ (part at .part .ensures) (placing at) (p .1 .1 .1 .1 .0) (at .where-is2 .result) (is at) there vacancy,
@@ -177,7 +170,7 @@ carry-requires c κs =
       vacant = o .1 .1 .0;
       held = fetch-held (p .0) (p .1 .0) _ (part at .part .ensures) (placing at) (asked .1 .0) (at .where-is2 .result) _ (is at) (q .is);
     } in
-    let room = room-then (room-less _ (bound at) (asked .1 .1 .1)) (o .1 .1 .1) (o .0) in
+    let room = room-then (asked .1 .1 .1) (o .1 .1 .1) (o .0) in
     (p .0, (p .1 .0, (p .1 .1 .0, (record { from = q .from; before = q .before }, (can, room)))))
 
 same-length-2 : tie.Need-same-length-2
@@ -197,7 +190,7 @@ returns-3 c =
     let q = place-at (place .place-of .ensures) (inside (place .before)) in
     let moved = carry .carry .ensures in
     let table = table-went (p .0 .inside) (moved .0 .went) (placing at .table) in (
-      trip-more _ (bound at) (trip-append (o .0) (moved .0)),
+      trip-append (o .0) (moved .0),
       (
         fetch-carried (p .0) (p .1 .0) _ (part at .part .ensures) (placing at) (p .1 .1 .1 .1 .0) (lane at .beside) (at .where-is2 .result)
             (place .place-of .result) (near .there) (near .right) (is at) (q .is) (o .1 .1 .0 .end) (moved .1 .0) table,

@@ -1,18 +1,21 @@
 -- `handles::open_end` meets its contract.
 -- Assumes nothing.
-use Prim.Native.Nat.{ℕ, _+_, _-_}
+use Prim.Native.Nat.{ℕ, suc, _-_}
 use mathlib.Core.Path.{_∙_}
 use mathlib.Core.Logic.{_↔_, inl}
 use native.Mathlib.Omega.{arith}
 use lib.Bits.{bitOr}
 use Rattle.sets.specs.Sets.{Has}
 use Rattle.shunting.specs.Journey.{row}
-use Rattle.shunting.proofs.JourneyLaws.{trip-more, trip-append, trip-anew, fits-anew, fits-then}
+use Rattle.shunting.proofs.JourneyLaws.{trip-append, trip-anew, fits-anew, fits-then}
 use Rattle.shunting.proofs.TableLaws.{table-went}
+use Rattle.shunting.specs.Distance.{AtMost}
+use Rattle.shunting.proofs.ClearLaws.{clear-room, clear-few}
+use Rattle.handles.specs.Moves.{endMoves}
 use Rattle.handles.specs.declared.Lane.{Lane}
-use Rattle.handles.proofs.StageLaws.{Region, handle-places, region-has, region-below, region-reaches, placing-kept}
-use Rattle.handles.proofs.CycleLaws.{lane-places, lane-floor, stage-below, right-below}
-use Rattle.handles.proofs.FetchLaws.{end-below, end-inside, end-reaches, end-beside}
+use Rattle.handles.proofs.StageLaws.{Region, handle-places, region-has, region-below, region-few, region-reaches, placing-kept}
+use Rattle.handles.proofs.CycleLaws.{lane-places, lane-floor, stage-below}
+use Rattle.handles.proofs.FetchLaws.{end-below, end-inside, end-reaches, end-few, end-beside}
 use Rattle.handles.proofs.open_end.Statement.{statement}
 use Rattle.handles.proofs.open_end.Tie as tie
 
@@ -20,13 +23,13 @@ use Rattle.handles.proofs.open_end.Tie as tie
 abbrev entered : tie.After-part → tie.Start
 entered c = let order = c .before .before in order .before .before
 
-abbrev parted : tie.After-clear → tie.After-part2
+abbrev parted : tie.After-clear-within → tie.After-part2
 parted c = c .before .before .before
 
-abbrev cleared : tie.After-without → tie.After-clear
+abbrev cleared : tie.After-without → tie.After-clear-within
 cleared c = c .before .before .before
 
-abbrev held : tie.After-clear2 → tie.After-without
+abbrev held : tie.After-clear-within2 → tie.After-without
 held c = c .before .before .before
 
 -- The region as a set.
@@ -44,6 +47,9 @@ module _ (c : tie.After-part2) where
       ↔ Region (row (lane .order)) (lane .start) (lane .end) (entry .args .k) p
   has = region-has (entry .pre .1 .0) (entry .args .k) _ _ (stage .part .ensures) (c .part2 .ensures)
 
+  few : AtMost (suc (lane .positions - 1)) (Has (bitOr (stage .part .result) (c .part2 .result)))
+  few = region-few (entry .pre .1 .0) (entry .args .k) (λ p x. has p .0 x)
+
 part-requires : tie.Need-part-requires
 part-requires c κs = let p = c .before .before .before .pre in lane-places (p .0) (p .1 .0)
 
@@ -59,8 +65,8 @@ add-part c =
 part-requires-2 : tie.Need-part-requires-2
 part-requires-2 c κs = let p = entered (c .before) .pre in handle-places (p .1 .0) (p .0 .small)
 
-clear-requires : tie.Need-clear-requires
-clear-requires c κs =
+clear-within-requires : tie.Need-clear-within-requires
+clear-within-requires c κs =
     let region = c .before .before in
     let p = entry region .pre in
     let rows = p .0 in
@@ -71,13 +77,10 @@ clear-requires c κs =
     let y = lane region .beside in (
       rows,
       (
-        stage-below rows on y (near .there),
+        λ q h. region-below on (entry region .args .k) q (has region q .0 h),
         (
-          λ q h. region-below on (entry region .args .k) q (has region q .0 h),
-          (
-            region-reaches on (asked .0 .1) y (rows .symmetric) (λ q x. has region q .1 x) (inl (near .there)),
-            fits-anew (lane region .positions - 1) (omega arith) (omega arith) (asked .1),
-          ),
+          region-reaches on (asked .0 .1) y (rows .symmetric) (λ q x. has region q .1 x) (inl (near .there)),
+          clear-room (few region) (fits-anew (lane region .positions - 1) (omega arith) (omega arith) (asked .1)),
         ),
       ),
     )
@@ -89,8 +92,8 @@ without-requires c κs =
     let y = lane region .beside in
     lane-floor (p .0) (p .1 .0) y (stage-below (p .0) (p .1 .0) y (p .1 .1 .0 .there))
 
-clear-requires-2 : tie.Need-clear-requires-2
-clear-requires-2 c κs =
+clear-within-requires-2 : tie.Need-clear-within-requires-2
+clear-within-requires-2 c κs =
     let free = c .before .before in
     let clear = cleared free in
     let region = parted clear in
@@ -102,18 +105,17 @@ clear-requires-2 c κs =
     let small = rows .small in
     let n = lane region .positions in
     let without = free .without .ensures in
-    let one = clear .clear .ensures in
-    let table = table-went (rows .inside) (one .0 .journey .trip .went) (asked .0 .1 .table) in
-    let placing = placing-kept on (asked .0 .1) (λ q x. has region q .0 x) table (one .1 .outside) in (
+    let one = clear .clear-within .ensures in
+    let way = clear-few (few region) one .journey in
+    let table = table-went (rows .inside) (way .trip .went) (asked .0 .1 .table) in
+    let placing = placing-kept on (asked .0 .1) (λ q x. has region q .0 x) table (one .cleared .outside) in (
       rows,
       (
-        right-below rows on,
+        end-below rows on _ _ _ near (has region) without,
         (
-          end-below rows on _ _ _ near (has region) without,
-          (
-            end-reaches rows on _ _ _ near (has region) without placing,
-            fits-then (fits-anew ((n - 1) + (n - 1)) (omega arith) (omega arith) (asked .1)) (one .0 .journey),
-          ),
+          end-reaches rows on _ _ _ near (has region) without placing,
+          clear-room (end-few rows on _ _ _ near (has region) without)
+              (fits-then (fits-anew (endMoves n) (omega arith) (omega arith) (asked .1)) way),
         ),
       ),
     )
@@ -121,7 +123,7 @@ clear-requires-2 c κs =
 same-length : tie.Need-same-length
 same-length c =
     let last = c .before .before in
-    last .clear2 .ensures .0 .journey .trip .tail ∙ cleared (held last) .clear .ensures .0 .journey .trip .tail
+    last .clear-within2 .ensures .journey .journey .trip .tail ∙ cleared (held last) .clear-within .ensures .journey .journey .trip .tail
 
 returns : tie.Need-returns
 returns c =
@@ -134,19 +136,22 @@ returns c =
     let on = p .1 .0 in
     let near = p .1 .1 .0 in
     let without = free .without .ensures in
-    let one = clear .clear .ensures in
-    let two = last .clear2 .ensures in
-    let first = one .0 .journey .trip in
-    let second = two .0 .journey .trip in (
-      trip-anew (trip-more _ (omega arith) (trip-append first second)),
+    let one = clear .clear-within .ensures in
+    let two = last .clear-within2 .ensures in
+    let first = clear-few (few region) one .journey .trip in
+    let second = clear-few (end-few rows on _ _ _ near (has region) without) two .journey .trip in (
+      trip-anew (trip-append first second),
       (
         λ T placing.
             let table = table-went (rows .inside) (first .went) (placing .table) in
-            placing-kept on (placing-kept on placing (λ q x. has region q .0 x) table (one .1 .outside))
-            (end-inside rows on _ _ _ near (has region) without) (table-went (rows .inside) (second .went) table) (two .1 .outside),
+            placing-kept on (placing-kept on placing (λ q x. has region q .0 x) table (one .cleared .outside))
+            (end-inside rows on _ _ _ near (has region) without) (table-went (rows .inside) (second .went) table) (two .cleared .outside),
         (
-          record { end = two .1 .vacant; beside = end-beside rows on _ _ _ near (has region) without (two .1) (one .1 .vacant) },
-          two .0 .journey .log ∙ one .0 .journey .log,
+          record {
+            end = two .cleared .vacant;
+            beside = end-beside rows on _ _ _ near (has region) without (two .cleared) (one .cleared .vacant);
+          },
+          two .journey .journey .log ∙ one .journey .journey .log,
         ),
       ),
     )
@@ -158,8 +163,8 @@ open-end-spec =
     part-requires
     add-part
     part-requires-2
-    clear-requires
+    clear-within-requires
     without-requires
-    clear-requires-2
+    clear-within-requires-2
     same-length
     returns)

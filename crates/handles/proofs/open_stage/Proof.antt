@@ -1,12 +1,14 @@
 -- `handles::open_stage` meets its contract.
 -- Assumes nothing.
-use Prim.Native.Nat.{_-_}
 use mathlib.Core.Path.{refl}
 use mathlib.Core.Logic.{inl}
 use native.Mathlib.Omega.{arith}
 use Rattle.shunting.proofs.JourneyLaws.{trip-none, trip-more, trip-anew, fits-anew}
 use Rattle.shunting.proofs.TableLaws.{table-went}
-use Rattle.handles.proofs.StageLaws.{handle-places, region-has, region-below, region-reaches, placing-kept, stage-vacancy}
+use Rattle.shunting.proofs.ClearLaws.{clear-room, clear-few}
+use Rattle.handles.specs.Moves.{openMoves}
+use Rattle.handles.proofs.StageLaws.{handle-places, region-has, region-below, region-few, region-reaches, placing-kept}
+use Rattle.handles.proofs.StageLaws.{stage-vacancy}
 use Rattle.handles.proofs.CycleLaws.{lane-places}
 use Rattle.handles.proofs.open_stage.Statement.{statement}
 use Rattle.handles.proofs.open_stage.Tie as tie
@@ -29,7 +31,7 @@ returns c =
     let after-part = after-vacancies .before .before in
     let after-order = after-part .before .before .before in
     let entry = after-order .before .before in (
-      trip-more (entry .args .lane .positions - 1) (omega arith) (trip-none _ _),
+      trip-more (openMoves (entry .args .lane .positions)) (omega arith) (trip-none _ _),
       (λ T x. x, (stage-vacancy _ _ (after-vacancies .vacancies .ensures) (after-part .part .ensures) (c .if1 .taken), refl)),
     )
 
@@ -52,8 +54,8 @@ part-requires-2 c κs =
     let entry = after-racks .before .before .before in
     handle-places (entry .pre .1 .0) (entry .pre .0 .small)
 
-clear-requires : tie.Need-clear-requires
-clear-requires c κs =
+clear-within-requires : tie.Need-clear-within-requires
+clear-within-requires c κs =
     let after-part2 = c .before .before in
     let after-vacancies = after-part2 .before .before .before in
     let after-part = after-vacancies .before .before in
@@ -67,19 +69,17 @@ clear-requires c κs =
     let has = region-has lane k _ _ (after-part .part .ensures) (after-part2 .part2 .ensures) in (
       rows,
       (
-        region-below lane k (entry .args .lane .right) here,
+        λ q h. region-below lane k q (has q .0 h),
         (
-          λ q h. region-below lane k q (has q .0 h),
-          (
-            region-reaches lane (entry .pre .1 .1 .0 .1) (entry .args .lane .right) (rows .symmetric) (λ q x. has q .1 x) here,
-            fits-anew (entry .args .lane .positions - 1) (omega arith) (omega arith) (entry .pre .1 .1 .1),
-          ),
+          region-reaches lane (entry .pre .1 .1 .0 .1) (entry .args .lane .right) (rows .symmetric) (λ q x. has q .1 x) here,
+          clear-room (region-few lane k (λ q x. has q .0 x))
+              (fits-anew (openMoves (entry .args .lane .positions)) (omega arith) (omega arith) (entry .pre .1 .1 .1)),
         ),
       ),
     )
 
 same-length : tie.Need-same-length
-same-length c = c .before .before .clear .kept .1 .1 .1 .1 .1 .1 .0
+same-length c = c .before .before .clear-within .kept .1 .1 .1 .1 .1 .1 .0
 
 returns-2 : tie.Need-returns-2
 returns-2 c =
@@ -91,15 +91,15 @@ returns-2 c =
     let entry = after-order .before .before in
     let rows = entry .pre .0 in
     let lane = entry .pre .1 .0 in
-    let cl = after-clear .clear .ensures in
+    let cl = after-clear .clear-within .ensures in
     let has = region-has lane (entry .args .k) _ _ (after-part .part .ensures) (after-part2 .part2 .ensures) in
-    let trip = cl .0 .journey .trip in (
+    let trip = clear-few (region-few lane (entry .args .k) (λ q x. has q .0 x)) cl .journey .trip in (
       trip-anew trip,
       (
         λ T placing.
             placing-kept lane placing (λ p x. has p .0 x)
-            (table-went (rows .inside) (trip .went) (placing .table)) (cl .1 .outside),
-        (record { at = entry .args .lane .right; there = lane .handle .right; vacant = cl .1 .vacant }, cl .0 .journey .log),
+            (table-went (rows .inside) (trip .went) (placing .table)) (cl .cleared .outside),
+        (record { at = entry .args .lane .right; there = lane .handle .right; vacant = cl .cleared .vacant }, cl .journey .journey .log),
       ),
     )
 
@@ -112,6 +112,6 @@ open-stage-spec =
     returns
     add-part
     part-requires-2
-    clear-requires
+    clear-within-requires
     same-length
     returns-2)

@@ -1,22 +1,26 @@
 -- `handles::place` meets its contract.
 -- Assumes nothing.
-use Prim.Native.Nat.{ℕ, _-_, _+_, _*_}
+use Prim.Native.Nat.{ℕ, _-_, _*_}
 use mathlib.Core.Path.{_≡_, _∙_}
 use mathlib.Core.List.{List}
 use mathlib.Core.Logic.{_≢_}
 use native.Mathlib.Omega.{arith}
 use Rattle.sets.specs.Sets.{Has}
 use Rattle.shunting.specs.Journey.{row, relogged, Fits}
-use Rattle.shunting.specs.Cleared.{Bringable}
-use Rattle.shunting.proofs.JourneyLaws.{trip-append, fits-less, fits-then, room-less}
+use Rattle.shunting.specs.Cleared.{Bringable, RoomToBring}
+use Rattle.shunting.proofs.ClearLaws.{clear-room, clear-few}
+use Rattle.shunting.proofs.BringLaws.{brought-few}
+use Rattle.shunting.proofs.JourneyLaws.{trip-append, fits-less, fits-then}
 use Rattle.shunting.proofs.TableLaws.{table-went}
 use Rattle.handles.specs.Lane.{nextRack}
+use Rattle.handles.specs.Moves.{homeMoves}
 use Rattle.handles.proofs.StageLaws.{handle-places}
-use Rattle.handles.proofs.CycleLaws.{lane-floor, lane-places, left-below, right-below, stage-in}
+use Rattle.handles.proofs.CycleLaws.{lane-floor, lane-places, left-below, stage-in}
 use Rattle.handles.proofs.PlaceLaws.{rack-some, rack-there, rack-held, placing-turned, stage-robust, stage-vacancy, place-from}
-use Rattle.handles.proofs.PlaceLaws.{place-below, place-brought, place-below-rest, place-cleared, place-held, place-reaches}
+use Rattle.handles.proofs.PlaceLaws.{stage-few, rest-few, place-below, place-brought, place-below-rest, place-cleared}
+use Rattle.handles.proofs.PlaceLaws.{place-held, place-reaches}
 use Rattle.handles.proofs.PlaceLaws.{cycle-simple, cycle-round, cycle-vacancy}
-use Rattle.handles.proofs.FetchLaws.{place-bound, place-room, place-fits, place-trip, lane-four}
+use Rattle.handles.proofs.FetchLaws.{place-open, place-room, place-fits, place-trip}
 use Rattle.handles.proofs.place.Statement.{statement}
 use Rattle.handles.proofs.place.Tie as tie
 
@@ -42,10 +46,10 @@ found c = c .before .before .before
 abbrev brought : tie.After-without → tie.After-bring
 brought c = c .before .before .before
 
-abbrev held : tie.After-clear → tie.After-without
+abbrev held : tie.After-clear-within → tie.After-without
 held c = c .before .before .before
 
-abbrev cleared : tie.After-turn → tie.After-clear
+abbrev cleared : tie.After-turn → tie.After-clear-within
 cleared c = let known = c .before .before .before in let after = known .before .before in after .before .before
 
 -- The rack is found in the stage: what was asked for, that it is the one that comes next, and room for the rest with the log begun anew.
@@ -75,12 +79,12 @@ module _ (c : tie.After-where-is) where
   abbrev tail : List ℕ
   tail = let mutable = fetched c .fetch .last .1 .1 .1 in mutable .1 .1 .1 .0
 
-  fits : Fits (relogged (fetched c .fetch .result) 0) log tail (n * (n - 1) + ((n - 1) + n))
+  fits : Fits (relogged (fetched c .fetch .result) 0) log tail (homeMoves n)
   fits =
       let p = entry .pre in
       let o = opened (fetched c) .open-stage .ensures in
       let f = fetched c .fetch .ensures in
-      place-fits (lane-four (p .0) (p .1 .0)) (o .0) (f .0) (p .0 .small) (p .1 .1 .1 .1 .1 .1) (f .1 .1 ∙ o .1 .1 .1)
+      place-fits n (o .0) (f .0) (p .0 .small) (p .1 .1 .1 .1 .1 .1) (f .1 .1 ∙ o .1 .1 .1)
 
 next-rack-requires : tie.Need-next-rack-requires
 next-rack-requires c κs =
@@ -96,17 +100,17 @@ open-stage-requires c κs =
     let p = entry .pre in
     let asked = p .1 .1 .1 .1 in
     let n = entry .args .lane .positions in
-    let bound = place-bound n (lane-four (p .0) (p .1 .0)) in
-    (p .0, (p .1 .0, ((_, asked .0), room-less (n - 1) (omega arith) (asked .1 .1))))
+    (p .0, (p .1 .0, ((_, asked .0), place-open n (asked .1 .1))))
 
 fetch-requires : tie.Need-fetch-requires
 fetch-requires c κs =
     let known = c .before .before in
     let stage = known .before .before in
-    let p = start (named (parted stage)) .pre in
+    let entry = start (named (parted stage)) in
+    let p = entry .pre in
     let asked = p .1 .1 .1 .1 in
     let o = stage .open-stage .ensures in
-    let room = place-room (lane-four (p .0) (p .1 .0)) (o .0) (asked .1 .1) (o .1 .1 .1) in
+    let room = place-room (entry .args .lane .positions) (o .0) (asked .1 .1) (o .1 .1 .1) in
     (p .0, (p .1 .0, (p .1 .1 .0, (o .1 .0 _ (asked .0), (asked .1 .0, (o .1 .1 .0, room))))))
 
 where-is-requires : tie.Need-where-is-requires
@@ -132,15 +136,21 @@ bring-requires c κs =
       vacancy = stage-vacancy rows on _ stage (f .1 .0 .vacancy);
     }
     in
-    (rows, (place-below rows on _ stage, (stage-robust rows on _ stage, (rack, fits-less (n at * (n at - 1)) (omega arith) (fits at)))))
+    let room : RoomToBring (Has (part at .part .result)) _ _ _ = record {
+      most = n at - 2;
+      few = stage-few rows on _ stage;
+      fits = fits-less ((n at - 2) * (n at - 2)) (omega arith) (fits at);
+    }
+    in
+    (rows, (place-below rows on _ stage, (stage-robust rows on _ stage, (rack, room))))
 
 without-requires : tie.Need-without-requires
 without-requires c κs =
     let e = entry (found (c .before .before)) in
     lane-floor (e .pre .0) (e .pre .1 .0) (e .args .lane .left) (left-below (e .pre .0) (e .pre .1 .0))
 
-clear-requires : tie.Need-clear-requires
-clear-requires c κs =
+clear-within-requires : tie.Need-clear-within-requires
+clear-within-requires c κs =
     let rest = c .before .before in
     let bring = brought rest in
     let at = found bring in
@@ -151,13 +161,11 @@ clear-requires c κs =
     let b = bring .bring .ensures in (
       rows,
       (
-        right-below rows on,
+        place-below-rest rows on _ stage _ without,
         (
-          place-below-rest rows on _ stage _ without,
-          (
-            place-reaches rows on _ stage _ without (at .where-is .result) (b .1) (rack-held (some at) (is at)),
-            fits-less (n at - 1) (omega arith) (fits-then (fits at) (b .0)),
-          ),
+          place-reaches rows on _ stage _ without (at .where-is .result) (b .1) (rack-held (some at) (is at)),
+          clear-room (rest-few rows on _ stage _ without)
+              (fits-less (n at - 3) (omega arith) (fits-then (fits at) (brought-few (stage-few rows on _ stage) (b .0)))),
         ),
       ),
     )
@@ -170,12 +178,13 @@ turn-requires c κs =
     let at = found bring in
     let p = entry at .pre in
     let closed = p .1 .1 .1 .0 in
-    let cl = clear .clear .ensures in (
+    let cl = clear .clear-within .ensures in
+    let stage = part at .part .ensures in
+    let few = stage-few (p .0) (p .1 .0) _ stage in
+    let rest = rest-few (p .0) (p .1 .0) _ stage _ (held clear .without .ensures) in
+    let room = fits-then (fits-then (fits at) (brought-few few (bring .bring .ensures .0))) (clear-few rest cl .journey) in (
       cycle-simple (p .0) (p .1 .0) closed,
-      (
-        cycle-vacancy (p .0) (p .1 .0) closed (cl .1),
-        fits-less _ (closed .short) (fits-then (fits-then (fits at) (bring .bring .ensures .0)) (cl .0 .journey)),
-      ),
+      (cycle-vacancy (p .0) (p .1 .0) closed (cl .cleared), fits-less _ (closed .short) room),
     )
 
 same-length : tie.Need-same-length
@@ -186,7 +195,7 @@ same-length c =
     let fetch = fetched (found bring) in
     let p = entry (found bring) .pre in
     turn .turn .ensures .0 _ (cycle-round (p .0) (p .1 .0) (p .1 .1 .1 .0)) .trip .tail
-    ∙ clear .clear .ensures .0 .journey .trip .tail ∙ bring .bring .ensures .0 .trip .tail
+    ∙ clear .clear-within .ensures .journey .journey .trip .tail ∙ bring .bring .ensures .0 .journey .trip .tail
     ∙ fetch .fetch .ensures .0 .tail ∙ opened fetch .open-stage .ensures .0 .tail
 
 returns : tie.Need-returns
@@ -207,20 +216,22 @@ returns c =
     let o = opened (fetched at) .open-stage .ensures in
     let f = fetched at .fetch .ensures in
     let b = bring .bring .ensures in
-    let cl = clear .clear .ensures in
+    let cl = clear .clear-within .ensures in
     let t = turn .turn .ensures in
     let last = t .0 _ (cycle-round rows on closed) in
-    let table = table-went (rows .inside) (b .0 .trip .went) (f .1 .0 .placing .table) in
+    let go = brought-few (stage-few rows on _ stage) (b .0) in
+    let way = clear-few (rest-few rows on _ stage _ without) cl .journey in
+    let table = table-went (rows .inside) (go .trip .went) (f .1 .0 .placing .table) in
     let placing = place-brought rows on _ stage (f .1 .0 .placing) table (b .1) in
-    let table2 = table-went (rows .inside) (cl .0 .journey .trip .went) table in
-    let placing2 = place-cleared rows on _ stage _ without placing table2 (cl .1) in
+    let table2 = table-went (rows .inside) (way .trip .went) table in
+    let placing2 = place-cleared rows on _ stage _ without placing table2 (cl .cleared) in
     let table3 = table-went (rows .inside) (last .trip .went) table2 in
-    let there = place-held rows on _ stage _ without (cl .1) ∙ b .1 .there ∙ is at in
-    let home = trip-append (b .0 .trip) (trip-append (cl .0 .journey .trip) (last .trip)) in (
-      place-trip (lane-four rows on) (o .0) (f .0) (omega arith) home,
+    let there = place-held rows on _ stage _ without (cl .cleared) ∙ b .1 .there ∙ is at in
+    let home = trip-append (go .trip) (trip-append (way .trip) (last .trip)) in (
+      place-trip (n at) (o .0) (f .0) (omega arith) home,
       (
         placing-turned rows on placing2 (asked .1 .0) closed there (t .1) table3,
-        last .log ∙ cl .0 .journey .log ∙ b .0 .log ∙ f .1 .1 ∙ o .1 .1 .1,
+        last .log ∙ way .log ∙ go .log ∙ f .1 .1 ∙ o .1 .1 .1,
       ),
     )
 
@@ -235,7 +246,7 @@ place-spec =
     where-is-requires
     bring-requires
     without-requires
-    clear-requires
+    clear-within-requires
     turn-requires
     same-length
     returns)

@@ -1,10 +1,11 @@
 -- `handles::settle_handle` meets its contract. The invariant: the record `Settling`.
 -- Assumes nothing.
-use Prim.Native.Nat.{_-_, _*_}
+use Prim.Native.Nat.{_-_}
 use mathlib.Core.Path.{refl}
 use native.Mathlib.Omega.{arith}
 use Rattle.shunting.specs.Journey.{row}
 use Rattle.shunting.proofs.JourneyLaws.{trip-none, trip-more}
+use Rattle.handles.specs.Moves.{laneMoves}
 use Rattle.handles.proofs.StageLaws.{handle-places}
 use Rattle.handles.proofs.SettleLaws.{Settling, settling-begin, settling-room, settling-next, settling-trip, settling-end}
 use Rattle.handles.proofs.SettleLaws.{settled-already}
@@ -31,7 +32,7 @@ returns c =
     let entry = after-racks .before .before .before in
     let x = entry .args .lane in
     let placing = entry .pre .1 .1 .0 in (
-      trip-more ((x .end - x .start) * (4 * (x .positions * x .positions))) (omega arith) (trip-none _ _),
+      trip-more (laneMoves x) (omega arith) (trip-none _ _),
       (
         record {
           table = placing .table;

@@ -1,14 +1,13 @@
--- `shunting::bring` meets its contract. The invariant: the way that the search found, the record `Bringing`, the journey so far, and room
--- for the rounds to come.
+-- `shunting::bring` meets its contract. The invariant: the way that the search found, and the records `Bringing` and `BringingBy`.
 -- Assumes nothing.
-use Prim.Native.Nat.{ℕ, _+_, _-_, _*_}
-use mathlib.Core.Path.{_≡_, ap}
+use Prim.Native.Nat.{_-_}
 use native.Mathlib.Omega.{arith}
 use Rattle.sets.specs.Sets.{Has}
-use Rattle.shunting.specs.Journey.{row, Fits, Journey}
-use Rattle.shunting.proofs.JourneyLaws.{journey-none, journey-append, journey-more, fits-less, fits-then}
-use Rattle.shunting.proofs.BringLaws.{rounds, passed, in-all, Bringing, Sought, bring-short, bring-small, bringing-begin}
-use Rattle.shunting.proofs.BringLaws.{bring-free, bring-joined, bring-reaches, bring-movable, bringing-step, brought}
+use Rattle.shunting.specs.Journey.{row}
+use Rattle.shunting.proofs.JourneyLaws.{fits-less}
+use Rattle.shunting.proofs.BringLaws.{Bringing, BringingBy, Sought, bring-short, bring-small, bringing-begin, bringing-begun}
+use Rattle.shunting.proofs.BringLaws.{bring-free, bring-reaches, bring-room, bring-fits, bring-movable}
+use Rattle.shunting.proofs.BringLaws.{bringing-step, bringing-on, brought, brought-by}
 use Rattle.shunting.proofs.bring.Statement.{statement}
 use Rattle.shunting.proofs.bring.Tie as tie
 
@@ -16,8 +15,7 @@ abbrev Inv-loop : tie.InvT-loop
 Inv-loop rows n region from to log₀ tail₀ at size state₀ k₀ log tail state k =
     Sought n rows (row (state₀ .racks)) (row at) region from to size
     × Bringing (Has region) (row at) from size (row (state₀ .racks)) (row (state .racks)) k
-    × Journey rows (n * (k - 1)) state₀ log₀ tail₀ state log tail
-    × Fits state log tail (n * (n - k))
+    × BringingBy (Has region) rows (row at) from k state₀ log₀ tail₀ state log tail
 
 abbrev μ-loop : tie.MeasureT-loop
 μ-loop rows n region from to log₀ tail₀ at size state₀ k₀ log tail state k = size - k
@@ -42,7 +40,6 @@ loop-holds c =
     let after-search = c .before in
     let after-only = after-search .before in
     let entry = after-only .before .before in
-    let a = entry .args in
     let asked = entry .pre .1 .1 in
     let way : Sought _ _ _ _ _ _ _ _ =
     record {
@@ -55,7 +52,7 @@ loop-holds c =
       nearest = after-search .search .ensures;
     }
     in
-    (way, bringing-begin way, journey-more (a .n * 0) (omega arith) (journey-none _ _ _), asked .1 .1)
+    (way, bringing-begin way, bringing-begun way (asked .1 .1))
 
 sub-a : tie.Need-sub-a Inv-loop μ-loop
 sub-a c = let some = c .before .loop .inv .1 .some in omega arith
@@ -105,29 +102,18 @@ without-requires c κs =
     let here = bring-small way (l .k - 1) (omega arith) in
     omega arith
 
-clear-requires : tie.Need-clear-requires Inv-loop μ-loop
-clear-requires c κs =
+clear-within-requires : tie.Need-clear-within-requires Inv-loop μ-loop
+clear-within-requires c κs =
     let after-without = c .before .before in
     let test = after-without .before in
-    let turn = test .before in
-    let after-only = turn .before .before .before in
-    let entry = after-only .before .before in
-    let l = turn .loop in
+    let l = test .before .loop in
     let way = l .inv .0 in
     let more = test .loop-test .taken in
-    let free = after-without .without .ensures in
-    let short = bring-short way in
-    let e = rounds (entry .args .n) (l .k) (l .inv .1 .some) (omega arith) in (
+    let free = after-without .without .ensures in (
       way .rows,
       (
-        bring-small way (l .k) more,
-        (
-          bring-free way _ more (l .inv .1) free,
-          (
-            bring-reaches way _ more (l .inv .1) free,
-            fits-less (entry .args .n - 1) (omega arith) (l .inv .3),
-          ),
-        ),
+        bring-free way _ more (l .inv .1) free,
+        (bring-reaches way _ more (l .inv .1) free, bring-room way _ more (l .inv .1) free (l .inv .2)),
       ),
     )
 
@@ -137,18 +123,14 @@ make-move-requires c κs =
     let after-clear = step3 .before in
     let after-without = after-clear .before .before .before in
     let test = after-without .before in
-    let turn = test .before in
-    let after-only = turn .before .before .before in
-    let entry = after-only .before .before in
-    let n = entry .args .n in
-    let l = turn .loop in
+    let l = test .before .loop in
     let way = l .inv .0 in
     let more = test .loop-test .taken in
-    let short = bring-short way in
-    let e = rounds n (l .k) (l .inv .1 .some) (omega arith) in
-    let cleared = after-clear .clear .ensures in
-    let room = fits-then (fits-less ((n - 1) + (1 + n * (n - (l .k + 1)))) (omega arith) (l .inv .3)) (cleared .0 .journey) in
-    (bring-movable way _ more (l .inv .1) (after-without .without .ensures) (cleared .1), fits-less 1 (omega arith) room)
+    let free = after-without .without .ensures in
+    let cleared = after-clear .clear-within .ensures in (
+      bring-movable way _ more (l .inv .1) free (cleared .cleared),
+      fits-less 1 (omega arith) (bring-fits way _ more (l .inv .1) free (l .inv .2) cleared),
+    )
 
 add-k : tie.Need-add-k Inv-loop μ-loop
 add-k c =
@@ -181,46 +163,26 @@ loop-again c =
     let after-clear = step5 .before .before in
     let after-without = after-clear .before .before .before in
     let test = after-without .before in
-    let turn = test .before in
-    let after-only = turn .before .before .before in
-    let entry = after-only .before .before in
-    let n = entry .args .n in
-    let l = turn .loop in
+    let l = test .before .loop in
     let way = l .inv .0 in
-    let state = l .inv .1 in
-    let some = state .some in
     let more = test .loop-test .taken in
-    let short = bring-short way in
-    let e = rounds n (l .k) some (omega arith) in
     let free = after-without .without .ensures in
-    let cleared = after-clear .clear .ensures in
-    let moved = after-make-move .make-move .ensures in
-    let back : l .k + 1 - 1 ≡ l .k = omega arith in
-    let far : n * (l .k + 1 - 1) ≡ n * l .k = ap (λ (x : ℕ). n * x) back in
-    let bound = passed n (l .k) some (omega arith) in
-    let go = moved .0 _ (bring-joined way _ more state free) in
-    let room = fits-then (fits-less ((n - 1) + (1 + n * (n - (l .k + 1)))) (omega arith) (l .inv .3)) (cleared .0 .journey) in (
+    let cleared = after-clear .clear-within .ensures in
+    let moved = after-make-move .make-move .ensures in (
       way,
-      bringing-step way _ more state free (cleared .1) (moved .1),
-      journey-more (n * (l .k + 1 - 1)) (omega arith) (journey-append (journey-append (l .inv .2) (cleared .0 .journey)) go),
-      fits-then room go,
+      bringing-step way _ more (l .inv .1) free (cleared .cleared) (moved .1 .0),
+      bringing-on way _ more (l .inv .1) free (l .inv .2) cleared (moved .1 .0) (moved .0) (moved .1 .1),
     )
 
 same-length : tie.Need-same-length Inv-loop μ-loop
-same-length c = c .before .loop .inv .2 .trip .tail
+same-length c = c .before .loop .inv .2 .journey .trip .tail
 
 returns : tie.Need-returns Inv-loop μ-loop
 returns c =
-    let turn = c .before in
-    let after-only = turn .before .before .before in
-    let entry = after-only .before .before in
-    let n = entry .args .n in
-    let l = turn .loop in
+    let l = c .before .loop in
     let way = l .inv .0 in
-    let state = l .inv .1 in
-    let most = state .most in
-    let short = bring-short way in
-    (journey-more (n * (n - 1)) (in-all n (l .k) (omega arith)) (l .inv .2), brought way (omega arith) state)
+    let most = l .inv .1 .most in
+    (brought-by way (omega arith) (l .inv .2), brought way (omega arith) (l .inv .1))
 
 pub bring-spec : {M : Type 1} → statement M
 bring-spec =
@@ -237,7 +199,7 @@ bring-spec =
     array-read-b
     cast-b
     without-requires
-    clear-requires
+    clear-within-requires
     make-move-requires
     add-k
     loop-less

@@ -1,72 +1,78 @@
--- `shunting::clear` meets its contract.
--- Assumes nothing.
-use Prim.Native.Nat.{_-_}
+-- `shunting::clear` meets its contract. `found` has what the search answered. Assumes nothing.
+use Prim.Native.Nat.{_-_, _<_}
 use native.Mathlib.Omega.{arith}
-use Rattle.shunting.proofs.JourneyLaws.{journey-in-more, fits-less}
-use Rattle.shunting.proofs.ClearLaws.{Found, way-short, way-inside, way-simple, way-shiftable, way-joined, cleared}
+use borrow.Author.Needs.{needs}
+use Rattle.shunting.specs.Journey.{row}
+use Rattle.shunting.specs.Cleared.Outcome.{no-way}
+use Rattle.shunting.proofs.ClearLaws.{Found, free-is, way-none, way-simple, way-shiftable, way-distance, cleared}
 use Rattle.shunting.proofs.clear.Statement.{statement}
 use Rattle.shunting.proofs.clear.Tie as tie
 
+abbrev entry : tie.After-search → tie.Start
+entry k =
+    let counted = k .before .before .before in
+    counted .before .before .before .before
+
+found : (k : tie.After-search)
+    → Found (entry k .args .n) (entry k .args .rows .now) (row (entry k .args .state .racks)) (row (k .search .result .at))
+    (entry k .args .held) (k .before .minus .result) (k .before .before .before .vacancies .result) (entry k .args .p)
+    (k .search .result .size)
+found k =
+    let rest = k .before in
+    record {
+      rows = entry k .pre .0;
+      free-is = free-is _ _ _ _ (rest .before .below .ensures) (rest .minus .ensures);
+      vacancies = rest .before .before .vacancies .ensures;
+      nearest = k .search .ensures;
+    }
+
 vacancies-requires : tie.Need-vacancies-requires
-vacancies-requires c κs =
-    let entry = c .before .before .before in
-    entry .pre .0 .small
+vacancies-requires c κs = search needs
+
+below-requires : tie.Need-below-requires
+below-requires c κs = search needs
+
+minus-requires : tie.Need-minus-requires
+minus-requires c κs = search needs
 
 search-requires : tie.Need-search-requires
-search-requires c κs =
-    let after-racks = c .before .before in
-    let entry = after-racks .before .before in
-    let rows = entry .pre .0 in
-    let small = rows .small in
-    (rows .symmetric, omega arith)
+search-requires c κs = search needs
+
+returns : tie.Need-returns
+returns c = no-way (way-none (found (c .before .before)) (c .if1 .taken))
+
+sub-moves : tie.Need-sub-moves
+sub-moves c = search needs
 
 shift-requires : tie.Need-shift-requires
 shift-requires c κs =
-    let after-at = c .before .before .before in
-    let after-search = after-at .before in
-    let after-vacancies = after-search .before in
-    let after-racks = after-vacancies .before .before in
-    let entry = after-racks .before .before in
-    let asked = entry .pre .1 .1 in
-    let found : Found _ _ _ _ _ _ _ _ =
-    record {
-      rows = entry .pre .0;
-      below = asked .0;
-      vacancies = after-vacancies .vacancies .ensures;
-      reaches = asked .1 .0;
-      nearest = after-search .search .ensures;
-    }
-    in
-    let short = way-short found in
-    (way-simple found, (way-shiftable found, fits-less (after-search .search .result .size - 1) (omega arith) (asked .1 .1)))
+    let branch = c .before .before .before in
+    let k = branch .before .before in
+    let f = found k in
+    let some : 0 < k .search .result .size = omega arith in
+    (way-simple f some, (way-shiftable f some, entry k .pre .1 .1 (k .search .result .size - 1) (way-distance f some)))
 
 same-length : tie.Need-same-length
-same-length c = c .before .before .shift .kept .1 .1 .1 .1 .0
+same-length c = search needs
 
-returns : tie.Need-returns
-returns c =
+returns-2 : tie.Need-returns-2
+returns-2 c =
     let after-shift = c .before .before in
-    let after-at2 = after-shift .before .before .before in
-    let after-search = after-at2 .before .before in
-    let after-vacancies = after-search .before in
-    let after-racks = after-vacancies .before .before in
-    let entry = after-racks .before .before in
-    let asked = entry .pre .1 .1 in
-    let found : Found _ _ _ _ _ _ _ _ =
-    record {
-      rows = entry .pre .0;
-      below = asked .0;
-      vacancies = after-vacancies .vacancies .ensures;
-      reaches = asked .1 .0;
-      nearest = after-search .search .ensures;
-    }
-    in
-    let short = way-short found in
-    let e = after-shift .shift .ensures in (
-      journey-in-more (entry .args .n - 1) (omega arith) (e .0 _ _ (way-inside found) (way-joined found)),
-      cleared found _ (e .1),
-    )
+    let branch = after-shift .before .before .before .before in
+    let k = branch .before .before in
+    let e = after-shift .shift .ensures in
+    cleared (found k) (omega arith) (e .0) (e .1 .0) (e .1 .1)
 
 pub clear-spec : {M : Type 1} → statement M
 clear-spec =
-    tie.close (tie.spec vacancies-requires search-requires shift-requires same-length returns)
+    tie.close
+    (tie.spec
+    vacancies-requires
+    below-requires
+    minus-requires
+    search-requires
+    returns
+    sub-moves
+    shift-requires
+    same-length
+    returns-2)

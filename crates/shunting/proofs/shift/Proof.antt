@@ -1,4 +1,5 @@
--- `shunting::shift` meets its contract. The invariant: the records `Shifting` and `Shifts`, and room for the moves to come.
+-- `shunting::shift` meets its contract. The invariant: the records `Shifting` and `Shifts`, room for the moves to come, and how many are
+-- logged.
 -- Assumes nothing.
 use Prim.Native.Nat.{_+_, _-_}
 use mathlib.Core.Path.{_≡_, refl, _∙_}
@@ -17,6 +18,7 @@ Inv-loop at size log₀ tail₀ real racks₀ tally₀ i₀ log tail racks tally
     × Shifting (row at) size (row racks₀) (row racks) i
     × Shifts (row at) size (stateOf racks₀ real tally₀) log₀ tail₀ i (stateOf racks real tally) log tail
     × Fits (stateOf racks real tally) log tail i
+    × (tally .logged + i ≡ tally₀ .logged + (size - 1))
 
 abbrev μ-loop : tie.MeasureT-loop
 μ-loop at size log₀ tail₀ real racks₀ tally₀ i₀ log tail racks tally i = i
@@ -31,7 +33,7 @@ loop-holds : tie.Need-loop-holds Inv-loop μ-loop
 loop-holds c =
     let entry = c .before .before in
     let way = entry .pre .1 .0 in
-    (refl, shifting-begin _ _ (entry .pre .0) _ way, shifts-begin _ _ _ _ _ (way .some), entry .pre .1 .1)
+    (refl, shifting-begin _ _ (entry .pre .0) _ way, shifts-begin _ _ _ _ _ (way .some), entry .pre .1 .1, refl)
 
 sub-i-2 : tie.Need-sub-i-2 Inv-loop μ-loop
 sub-i-2 c = omega arith
@@ -101,11 +103,14 @@ loop-again c =
     let l = turn .loop in
     let simple = entry .pre .0 in
     let can = shifting-movable _ _ simple _ _ (l .i) (test .loop-test .taken) (entry .pre .1 .0) (l .inv .1) in
-    let up : l .i ≡ l .i - 1 + 1 = omega arith in (
+    let up : l .i ≡ l .i - 1 + 1 = omega arith in
+    let noted = m .ensures .1 .1 in
+    let passed = m .ensures .1 .0 in (
       m .kept .1 .1 .1 .1 .1 .0 ∙ l .inv .0,
-      shifting-step _ _ simple _ _ _ (l .i) (l .i - 1) up (l .inv .1) (m .ensures .1),
-      shifts-step _ _ _ _ _ (l .i) (l .i - 1) _ _ _ _ _ _ up (l .inv .1 .place) (l .inv .2) can (m .ensures .1) (m .ensures .0),
+      shifting-step _ _ simple _ _ _ (l .i) (l .i - 1) up (l .inv .1) passed,
+      shifts-step _ _ _ _ _ (l .i) (l .i - 1) _ _ _ _ _ _ up (l .inv .1 .place) (l .inv .2) can passed (m .ensures .0),
       fits-move _ _ (l .i - 1) (can .leaves) (fits-less (1 + (l .i - 1)) (omega arith) (l .inv .3)) (m .ensures .0),
+      omega arith,
     )
 
 same-length : tie.Need-same-length Inv-loop μ-loop
@@ -116,7 +121,10 @@ returns c =
     let turn = c .before in
     let entry = turn .before .before .before in
     let l = turn .loop in
-    (shifts-end _ _ _ _ _ (l .i) _ _ _ (omega arith) (l .inv .2), shifting-end _ _ (entry .pre .0) _ _ (l .i) (omega arith) (l .inv .1))
+    let counted = l .inv .4 in (
+      shifts-end _ _ _ _ _ (l .i) _ _ _ (omega arith) (l .inv .2),
+      (shifting-end _ _ (entry .pre .0) _ _ (l .i) (omega arith) (l .inv .1), omega arith),
+    )
 
 pub shift-spec : {M : Type 1} → statement M
 shift-spec =

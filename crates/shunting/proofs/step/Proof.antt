@@ -43,7 +43,7 @@ returns c =
     let fits = entry .pre .1 in
     let j = entry .args .tally .logged in
     let m = moved-relogged j j (moved .move-rack .ensures) in
-    (λ g e. moved-journey (fits .racks) can m g e (entry .args .log .now) _ fits refl, moved-passed (fits .racks) can m)
+    (λ g e. moved-journey (fits .racks) can m g e (entry .args .log .now) _ fits refl, (moved-passed (fits .racks) can m, refl))
 
 pub step-spec : {M : Type 1} → statement M
 step-spec =

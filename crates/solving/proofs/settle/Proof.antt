@@ -8,6 +8,7 @@ use Rattle.shunting.specs.Journey.{row}
 use Rattle.shunting.proofs.JourneyLaws.{trip-append, space-less, space-then}
 use Rattle.base_ring.specs.declared.Circle.{Circle}
 use Rattle.base_ring.specs.Circle.{Open}
+use Rattle.handles.specs.Moves.{placeMoves}
 use Rattle.solving.proofs.SolveLaws.{goal-filled, ring-met, ring-space, ring-trip}
 use Rattle.solving.proofs.settle.Statement.{statement}
 use Rattle.solving.proofs.settle.Tie as tie
@@ -23,7 +24,7 @@ settle-handles-requires c κs =
     let rest = p .1 .1 in
     let goal = subst (λ (x : Circle). Open x (row (a .goal .now))) (rest .0) (rest .1 .1 .0) in
     let filled = goal-filled (a .breakdown) (p .1 .0) goal in
-    let moves = (a .n - a .breakdown .ring) * (4 * (a .n * a .n)) in
+    let moves = (a .n - a .breakdown .ring) * placeMoves (a .n) in
     (p .0, (p .1 .0, (rest .1 .0, (goal .table, (filled, space-less moves (omega arith) (rest .1 .1 .1))))))
 
 settle-ring-requires : tie.Need-settle-ring-requires
