@@ -18,7 +18,8 @@ use lib.Dec.{ltb}
 use Rattle.answers.specs.Answer.{accepted}
 use Rattle.field.specs.Bits.{bits, bitsOf, field, positions, positionBits, pad}
 use Rattle.field.proofs.BitLaws.{length-bits, field-at}
-use Rattle.field.proofs.RecordLaws.{positions-at, length-positions, length-positionBits, bits-zero, bitsOf-toBytes, length-toBytes, padded-by}
+use Rattle.field.proofs.RecordLaws.{positions-at, length-positions, length-positionBits, bits-zero}
+use Rattle.field.proofs.RecordLaws.{bitsOf-toBytes, length-toBytes, padded-by}
 use Rattle.field.proofs.WholeBytes.{pad-after-whole}
 use Rattle.order.specs.Floor.{some}
 use Rattle.order.specs.Order.{Order, positionCount, rackCount, repeats, wrongPlaces, wrongRacks, startsOf, orderOf, edgeCount, floorOf}
