@@ -47,9 +47,9 @@ extern "C" {
  * Library and header come together and are of one version. The first number goes up where a caller may have
  * to change its code, the second where something was added (a function, a number), the third otherwise.
  */
-#define WICHTEAB_VERSION "1.1.0"
+#define WICHTEAB_VERSION "1.2.0"
 #define WICHTEAB_VERSION_MAJOR 1
-#define WICHTEAB_VERSION_MINOR 1
+#define WICHTEAB_VERSION_MINOR 2
 #define WICHTEAB_VERSION_PATCH 0
 
 /*
@@ -107,12 +107,16 @@ enum {
     WICHTEAB_FLOOR_RING = 22,            /* it is a ring: bi-connected, with exactly n edges */
     WICHTEAB_PLAN_BUFFER = 23,           /* the plan buffer is shorter than 12 * n * n * n + 3 bytes */
 
-    /* The plan; place 0 unless it is named. */
-    WICHTEAB_PLAN_LENGTH = 30,  /* it is under 3 bytes, or its length is not the one k gives */
-    WICHTEAB_PLAN_PADDING = 31, /* a spare or pad bit is set */
-    WICHTEAB_PLAN_MOVE = 32,    /* a move is not legal at its turn. Place: the first such move, from 1 */
-    WICHTEAB_PLAN_GOAL = 33,    /* every move is legal, and then a rack is not at its goal. Place: the lowest
-                                   such rack */
+    /* The plan; place 0 unless it is named. The first move that is not legal at its turn decides, with the
+       lowest of 32, 34 and 35 that applies to it; all three come before 33. */
+    WICHTEAB_PLAN_LENGTH = 30,   /* it is under 3 bytes, or its length is not the one k gives */
+    WICHTEAB_PLAN_PADDING = 31,  /* a spare or pad bit is set */
+    WICHTEAB_PLAN_MOVE = 32,     /* a move has a position of n or more, or no edge joins its two. Place: the
+                                    move, from 1 */
+    WICHTEAB_PLAN_GOAL = 33,     /* every move is legal, and then a rack is not at its goal. Place: the lowest
+                                    such rack */
+    WICHTEAB_PLAN_NO_RACK = 34,  /* no rack stands at the position that a move leaves. Place: the move */
+    WICHTEAB_PLAN_OCCUPIED = 35, /* the position that a move enters is occupied. Place: the move */
 
     /* The timetable; place 0 unless it is named. */
     WICHTEAB_TIMETABLE_LENGTH = 40,  /* it is under 3 bytes, a step runs past its end, or bytes are left over */
@@ -181,7 +185,8 @@ uint64_t wichteab_plan_make(const uint8_t *order, size_t order_length, uint8_t *
  * Takes an order, on a floor of any shape, and a plan; both are only read. A move is legal if both positions
  * are below n, an edge joins them, the first holds a rack and the second is vacant. Accepted: every move is
  * legal at its turn, after the last one every rack stands at its goal, and wichteab_plan_moves gives the
- * number of moves. Refused: 10 to 14 and 30 to 33; the place of 32 is the move, that of 33 the rack.
+ * number of moves. Refused: 10 to 14 and 30 to 35. The first move that is not legal is refused with 32, 34 or
+ * 35, by the first of these tests that it fails, before 33; their place is the move, that of 33 the rack.
  */
 uint64_t wichteab_plan_check(const uint8_t *order, size_t order_length, const uint8_t *plan,
                              size_t plan_length);
@@ -338,10 +343,14 @@ static inline const char *wichteab_reason(uint32_t number)
     case WICHTEAB_PLAN_PADDING:
         return "A spare or pad bit of the plan is set; all of them have to be 0.";
     case WICHTEAB_PLAN_MOVE:
-        return "This move of the plan is not legal at its turn: no edge joins its positions, no rack stands at "
-               "the one left, or the one entered is not vacant.";
+        return "This move of the plan names a position that the floor does not have, or no edge joins its two "
+               "positions.";
     case WICHTEAB_PLAN_GOAL:
         return "This rack is not at its goal after the plan.";
+    case WICHTEAB_PLAN_NO_RACK:
+        return "This move of the plan leaves a position where no rack stands at its turn.";
+    case WICHTEAB_PLAN_OCCUPIED:
+        return "This move of the plan enters a position where another rack stands at its turn.";
     case WICHTEAB_TIMETABLE_LENGTH:
         return "The timetable was cut short, or other bytes follow it: its length is not the one its counts "
                "give.";

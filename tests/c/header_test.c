@@ -24,6 +24,8 @@ static const struct fault faults[] = {
     {WICHTEAB_PLAN_PADDING, 31, "plan"},
     {WICHTEAB_PLAN_MOVE, 32, "plan"},
     {WICHTEAB_PLAN_GOAL, 33, "plan"},
+    {WICHTEAB_PLAN_NO_RACK, 34, "plan"},
+    {WICHTEAB_PLAN_OCCUPIED, 35, "plan"},
     {WICHTEAB_TIMETABLE_LENGTH, 40, "timetable"},
     {WICHTEAB_TIMETABLE_PADDING, 41, "timetable"},
     {WICHTEAB_TIMETABLE_STEP, 42, "timetable"},

@@ -1,4 +1,4 @@
-/* The timetable maker called from C: the case book's plan, with buffers below, at and above the limit. */
+/* The timetable maker called from C: the case book's plan, with buffers below, at and above the limit, and plans that are refused. */
 #include <string.h>
 
 #include "expect.h"
@@ -25,8 +25,24 @@ static void make_with(size_t length)
     }
 }
 
+/* The plan's refusal is passed up, with a buffer that is too short and with one that is not. */
+static void refused_with(const uint8_t *bad, size_t bad_length, uint32_t number, uint32_t place)
+{
+    uint8_t buffer[20];
+    size_t length;
+    memset(buffer, FILL, sizeof buffer);
+    for (length = 0; length <= sizeof buffer; length += sizeof buffer) {
+        uint64_t answer = wichteab_timetable_make(order, sizeof order, bad, bad_length, buffer, length);
+        expect(wichteab_number(answer) == number && wichteab_place(answer) == place, "the plan's refusal");
+        expect(untouched(buffer, 0, sizeof buffer), "leaves the buffer as it was");
+    }
+}
+
 int main(void)
 {
+    static const uint8_t no_edge[] = {0x00, 0x00, 0x08, 0x00, 0x10, 0xC0};  /* 0>1, 3>0 */
+    static const uint8_t no_rack[] = {0x00, 0x00, 0x08, 0x00, 0x10, 0x02};  /* 0>1, 0>2 */
+    static const uint8_t occupied[] = {0x00, 0x00, 0x08, 0x00, 0x10, 0x43}; /* 0>1, 1>3 */
     size_t length;
     uint8_t buffer[4] = {FILL, FILL, FILL, FILL};
     for (length = 0; length <= 20; length++) {
@@ -34,5 +50,8 @@ int main(void)
     }
     expect(wichteab_timetable_make(order, sizeof order, plan, 3, buffer, 4) == WICHTEAB_PLAN_LENGTH, "a plan cut");
     expect(untouched(buffer, 0, 4), "leaves the buffer as it was");
+    refused_with(no_edge, sizeof no_edge, WICHTEAB_PLAN_MOVE, 2);
+    refused_with(no_rack, sizeof no_rack, WICHTEAB_PLAN_NO_RACK, 2);
+    refused_with(occupied, sizeof occupied, WICHTEAB_PLAN_OCCUPIED, 2);
     return close_tests();
 }

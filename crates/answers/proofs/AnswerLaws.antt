@@ -4,13 +4,17 @@
 --     numberOf-injective   two faults have two numbers
 --     number-is            what an arm of a match tells, as an equation
 --     passed-up            the same of a lower verdict that is passed up
+--     not-both             no answer is a refusal and accepted
 --     refuse-not, refuse-else    an answer that is accepted passed the test, and is what comes after it
+--     refuse-past          so did a refusal by a number that is not the test's
 --     passUp-low, passUp-high    an answer that is accepted was accepted below, and is what comes after it
+--     passUp-past          so was one that is a refusal, where it is not the refusal below
 --     passUp-refused, passUp-accepted    a refusal below is the answer above; where it is accepted below, what comes after is
 -- Assumes nothing.
 use Prim.Native.Nat.{ℕ, _≤_}
 use mathlib.Core.List.{List}
 use native.Mathlib.Omega.{arith}
+use mathlib.Core.Logic.{_≢_}
 use mathlib.Core.Path.{_≡_, refl, sym, ap, _∙_}
 use mathlib.Core.Bool.{Bool, true, false, not, _||_}
 use borrow.Author.Tests.{eq-eqb}
@@ -44,7 +48,7 @@ number-is f r h = h .number ∙ ap numberOf (sym (h .is))
 pub passed-up : {X : Type 0} {answerOf : X → Answer} {v : X} {a r : Answer} → PassedUp answerOf v a r → r ≡ passUp (answerOf v) a
 passed-up {answerOf = answerOf} {a = a} h = h .passes ∙ ap (λ x. passUp (answerOf x) a) (sym (h .is))
 
-not-both : (n p : ℕ) (v : List ℕ) → refused n p ≡ accepted v → ⊥
+pub not-both : (n p : ℕ) (v : List ℕ) → refused n p ≡ accepted v → ⊥
 not-both n p v e = let z : _≡_ {A = ℕ} 0 1 = cc in omega arith
 
 pub refuse-not : (t : Bool) (n p : ℕ) (a : Answer) (v : List ℕ) → refuse t n p a ≡ accepted v → t ≡ false
@@ -55,6 +59,10 @@ pub refuse-else : (t : Bool) (n p : ℕ) (a : Answer) (v : List ℕ) → refuse 
 refuse-else true n p a v e = absurd (not-both n p v e)
 refuse-else false n p a v e = e
 
+pub refuse-past : (t : Bool) (n p : ℕ) (a : Answer) (f j : ℕ) → n ≢ f → refuse t n p a ≡ refused f j → (t ≡ false) × (a ≡ refused f j)
+refuse-past true n p a f j d e = absurd (d (cc))
+refuse-past false n p a f j d e = (refl, e)
+
 pub passUp-low : (b a : Answer) (v : List ℕ) → passUp b a ≡ accepted v → (w : List ℕ) × (b ≡ accepted w)
 passUp-low (accepted w) a v e = (w, refl)
 passUp-low (refused n p) a v e = absurd (not-both n p v e)
@@ -62,6 +70,11 @@ passUp-low (refused n p) a v e = absurd (not-both n p v e)
 pub passUp-high : (b a : Answer) (v : List ℕ) → passUp b a ≡ accepted v → a ≡ accepted v
 passUp-high (accepted w) a v e = e
 passUp-high (refused n p) a v e = absurd (not-both n p v e)
+
+pub passUp-past : (b a : Answer) (f j : ℕ) → b ≢ refused f j → passUp b a ≡ refused f j
+    → ((w : List ℕ) × (b ≡ accepted w)) × (a ≡ refused f j)
+passUp-past (accepted w) a f j d e = ((w, refl), e)
+passUp-past (refused n p) a f j d e = absurd (d e)
 
 -- a refusal below is the answer above
 pub passUp-refused : (b a : Answer) (n p : ℕ) → b ≡ refused n p → b ≡ passUp b a

@@ -28,7 +28,7 @@ pub enum Fault {
     PlanLength,
     // A spare or pad bit of the plan is set.
     PlanPadding,
-    // A move is not legal at its turn.
+    // A move has a position of n or more, or no edge joins its two.
     PlanMove,
     // After the plan a rack is not at its goal.
     PlanGoal,
@@ -50,6 +50,10 @@ pub enum Fault {
     ModelUnknown,
     // The order buffer is shorter than the full record.
     OrderBuffer,
+    // No rack stands at the position that a move leaves.
+    PlanNoRack,
+    // The position that a move enters is occupied.
+    PlanOccupied,
 }
 
 // Document 01's number of a fault.
@@ -86,6 +90,8 @@ fn case_number(fault: Fault) -> u64
         Fault::ShortOrder => 50,
         Fault::ModelUnknown => 51,
         Fault::OrderBuffer => 52,
+        Fault::PlanNoRack => 34,
+        Fault::PlanOccupied => 35,
     }
 }
 

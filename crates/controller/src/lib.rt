@@ -80,7 +80,7 @@ pub extern "C" fn wichteab_plan_make(order: &[u8], buffer: &mut [u8]) -> u64
     }
 }
 
-// Judges a plan for an order by 10 to 14 and 30 to 33. Accepted, it gives the plan's moves.
+// Judges a plan for an order by 10 to 14 and 30 to 35. Accepted, it gives the plan's moves.
 #[no_mangle]
 pub extern "C" fn wichteab_plan_check(order: &[u8], plan: &[u8]) -> u64
     ensures { λ r. ⌜ Tells oneCount planMovesOf (planAnswer (now (order .entry)) (now (plan .entry))) r ⌝ }
@@ -103,7 +103,7 @@ pub extern "C" fn wichteab_timetable_check(order: &[u8], timetable: &[u8]) -> u6
     }
 }
 
-// Makes the timetable of a plan for an order and writes it to the front of the buffer, judged by 10 to 14, 30 to 33 and 44. Accepted, it
+// Makes the timetable of a plan for an order and writes it to the front of the buffer, judged by 10 to 14, 30 to 35 and 44. Accepted, it
 // gives the timetable's steps.
 #[no_mangle]
 pub extern "C" fn wichteab_timetable_make(order: &[u8], plan: &[u8], buffer: &mut [u8]) -> u64

@@ -37,25 +37,27 @@ pub fn second_of(x: u16) -> usize
     x as usize % 64
 }
 
-// The pair that stands j pairs after the first byte. Two pairs take three bytes.
+// The pair that stands j pairs after the first byte, as one number, first * 64 + second. Two pairs take three bytes.
+pub fn pair_number(s: &[u8], j: usize) -> usize
+    requires { ⌜ 12 * j + 12 ≤ 8 * length (now s) ⌝ }
+    ensures { λ r. ⌜ PairAt (now (s .entry)) (12 * j) (r / 64) (r % 64) ⌝ }
+{
+    let at = j / 2 * 3;
+    if j % 2 == 0 {
+        return wide(s[at]) * 16 + wide(s[at + 1]) / 16;
+    }
+    wide(s[at + 1]) % 16 * 256 + wide(s[at + 2])
+}
+
+// The two positions of that pair.
 pub fn pair_at(s: &[u8], j: usize) -> Pair
     requires { ⌜ 12 * j + 12 ≤ 8 * length (now s) ⌝ }
     ensures { λ r. ⌜ PairAt (now (s .entry)) (12 * j) (r .first) (r .second) ⌝ }
 {
-    let at = j / 2 * 3;
-    if j % 2 == 0 {
-        let a = wide(s[at]);
-        let b = wide(s[at + 1]);
-        return Pair {
-            first: a / 4,
-            second: a % 4 * 16 + b / 16,
-        };
-    }
-    let a = wide(s[at + 1]);
-    let b = wide(s[at + 2]);
+    let x = pair_number(s, j);
     Pair {
-        first: a % 16 * 4 + b / 64,
-        second: b % 64,
+        first: x / 64,
+        second: x % 64,
     }
 }
 

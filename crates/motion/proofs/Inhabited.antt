@@ -3,7 +3,7 @@
 --
 --     floorF, starts, goals, plan    the case book's floor, and its first case's starts, goals and plan
 --     plan-replayed, plan-leads      the plan's replay ends at the goals, so it leads there
---     plan-stopped, plan-stops       with a move along no edge behind the first, replay stops at move 2
+--     plan-stopped, plan-stops       with a move into rack 2 behind the first, and then one along no edge, replay stops at move 2
 --     starts-sound, goals-sound      the starts and the goals are sound
 --     full-sound                     and so is a full floor
 --     plan-undone                    reversal: the plan undone leads back
@@ -56,12 +56,12 @@ plan-replayed = refl
 pub plan-leads : Leads floorF starts plan goals
 plan-leads = replayMoves-ended floorF starts plan goals .0 plan-replayed
 
-pub plan-stopped : replayMoves floorF starts ((0, 1) ∷ (3, 0) ∷ []) ≡ stopped 32 2
+pub plan-stopped : replayMoves floorF starts ((0, 1) ∷ (1, 3) ∷ (0, 3) ∷ []) ≡ stopped 35 2
 unfolding replayMoves replayFrom moveFault faultBy onFloor joined some isPair occupied vacant afterMove after goesTo
 plan-stopped = refl
 
-pub plan-stops : Stops (moveFault floorF) (legalMove floorF) afterMove 1 starts ((0, 1) ∷ (3, 0) ∷ []) 32 2
-plan-stops = replayMoves-stopped floorF starts ((0, 1) ∷ (3, 0) ∷ []) 32 2 .0 plan-stopped
+pub plan-stops : Stops (moveFault floorF) (legalMove floorF) afterMove 1 starts ((0, 1) ∷ (1, 3) ∷ (0, 3) ∷ []) 35 2
+plan-stops = replayMoves-stopped floorF starts ((0, 1) ∷ (1, 3) ∷ (0, 3) ∷ []) 35 2 .0 plan-stopped
 
 pub starts-sound : Sound 4 starts
 unfolding isSound occupied some vacant

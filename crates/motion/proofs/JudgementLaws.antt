@@ -1,20 +1,22 @@
--- Laws of the judgement: a replay is accepted exactly if it ends at the goals.
+-- Laws of the judgement: a replay is accepted exactly if it ends at the goals, and refused with a number that is not the goals' exactly
+-- if it stopped with that number.
 --
 --     misplaced-same     where each rack stands at its goal none is misplaced
 --     misplaced-none     where none is misplaced each rack stands at its goal
 --     judged-accepted    a judgement accepts exactly the replays that end at the goals, and with the counts given
+--     judged-refused     and refuses with a number that is not the goals' exactly those that stopped with it, at the same place
 -- Assumes nothing.
 use Prim.Native.Nat.{ℕ, suc}
 use mathlib.Core.Bool.{false, not}
 use mathlib.Core.List.{List, [], _∷_}
 use mathlib.Core.Logic.{_↔_, ⊎-elim, _≢_}
-use mathlib.Core.Path.{_≡_, refl, ap, ap₂}
+use mathlib.Core.Path.{_≡_, refl, sym, ap, ap₂}
 use native.Mathlib.Omega.{arith}
 use borrow.Author.Tests.{eq-eqb, ne-eqb, eqb-true, not-false}
 use lib.Dec.{eqb}
 use lib.ListN.{length}
-use Rattle.answers.specs.Answer.{accepted}
-use Rattle.answers.proofs.AnswerLaws.{refuse-not, refuse-else}
+use Rattle.answers.specs.Answer.{accepted, refused}
+use Rattle.answers.proofs.AnswerLaws.{not-both, refuse-not, refuse-else, refuse-past}
 use Rattle.motion.specs.Arrangement.{Arrangement}
 use Rattle.motion.specs.Judgement.{misplaced, judged}
 use Rattle.motion.specs.Replay.{Replayed, ended, stopped}
@@ -58,3 +60,15 @@ module _ (off : ℕ) (G counts v : List ℕ) where
   pub judged-accepted : (x : Replayed) → ((A : Arrangement) → x ≡ ended A → length A ≡ length G)
       → (judged off G counts x ≡ accepted v) ↔ ((x ≡ ended G) × (counts ≡ v))
   judged-accepted x l = (judged-to x l, judged-from x)
+
+pub judged-refused : (off : ℕ) (G counts : List ℕ) (f j : ℕ) → off ≢ f → (x : Replayed)
+    → (judged off G counts x ≡ refused f j) ↔ (x ≡ stopped f j)
+unfolding judged
+judged-refused off G counts f j d x = (to x, λ e. ap (judged off G counts) e)
+  where
+    to : (y : Replayed) → judged off G counts y ≡ refused f j → y ≡ stopped f j
+    to (stopped g i) e = cc
+    to (ended A) e =
+        let lowest = misplaced 1 A G in
+        let past = refuse-past (not (eqb lowest 0)) off lowest (accepted counts) f j d e in
+        absurd (not-both f j counts (sym (past .1)))

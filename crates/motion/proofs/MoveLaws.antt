@@ -4,6 +4,8 @@
 --     onFloor-parts     what it is for a move's two positions to be on the floor
 --     legal-parts       a legal move: on the floor, a rack at the position left, the position entered vacant
 --     moveFault-none    a move has no fault exactly if it is legal
+--     BadMove F A m f   why the move m is not legal on the arrangement A, and the number f that stands for it
+--     moveFault-bad     a move's fault is a number exactly for what that number stands for
 --     moveFault-small   a fault's number fits 8 bits
 --     map-at            a rack of an arrangement that is changed rack by rack
 --     after-length      moves made all at once keep the number of racks
@@ -18,12 +20,13 @@
 --     turned-back       and takes its rack back
 -- Assumes nothing.
 use Prim.Native.Nat.{ℕ, zero, suc, _≤_, _<_}
-use mathlib.Core.Bool.{Bool, true, false, or-comm, _&&_}
+use mathlib.Core.Bool.{Bool, true, false, not, or-comm, _&&_}
 use mathlib.Core.List.{List, [], _∷_, map}
 use mathlib.Core.Logic.{_↔_, ⊎-elim, _≢_}
-use mathlib.Core.Path.{_≡_, refl, sym, _∙_}
+use mathlib.Core.Path.{_≡_, refl, sym, _∙_, subst}
 use native.Mathlib.Omega.{arith}
 use lib.Dec.{T, eqb, ltb, ltb→lt, lt→ltb, lit≤}
+use lib.Ieee.Bits.{is-true, is-false}
 use lib.ListN.{length, getD, length-map}
 use lib.Seq.{ext-getD}
 use borrow.Author.Tests.{eq-eqb, ne-eqb}
@@ -78,6 +81,30 @@ faultBy-none true true true = refl
 pub moveFault-none : (F : Floor) (A : Arrangement) (m : ℕ × ℕ) → eqb (moveFault F A m) 0 ≡ legalMove F A m
 unfolding moveFault legalMove
 moveFault-none F A m = faultBy-none (onFloor F m) (occupied A (m .0)) (vacant A (m .1))
+
+pub data BadMove (F : Floor) (A : Arrangement) (m : ℕ × ℕ) : ℕ → Type 0 where
+  -- "a position is n or more or … no edge joins the two"
+  apart : T (not (onFloor F m)) → BadMove F A m 32
+  -- "no rack at the position left"
+  unheld : T (onFloor F m) → T (vacant A (m .0)) → BadMove F A m 34
+  -- "the position entered is occupied"
+  blocked : T (onFloor F m) → T (occupied A (m .0)) → T (occupied A (m .1)) → BadMove F A m 35
+
+pub moveFault-bad : (F : Floor) (A : Arrangement) (m : ℕ × ℕ) (f : ℕ) → f ≢ 0 → (moveFault F A m ≡ f) ↔ BadMove F A m f
+unfolding moveFault faultBy vacant
+moveFault-bad F A m f some = (to (onFloor F m) (occupied A (m .0)) (occupied A (m .1)) apart unheld blocked, from)
+  where
+    to : (j h o : Bool) → (T (not j) → BadMove F A m 32) → (T j → T (not h) → BadMove F A m 34) → (T j → T h → T o → BadMove F A m 35)
+        → faultBy j h (not o) ≡ f → BadMove F A m f
+    to false h o off empty full e = subst (BadMove F A m) e (off tt)
+    to true false o off empty full e = subst (BadMove F A m) e (empty tt tt)
+    to true true true off empty full e = subst (BadMove F A m) e (full tt tt tt)
+    to true true false off empty full e = absurd (some (sym e))
+
+    from : {g : ℕ} → BadMove F A m g → faultBy (onFloor F m) (occupied A (m .0)) (not (occupied A (m .1))) ≡ g
+    from (apart j) = rw (is-false (onFloor F m) j)
+    from (unheld j h) = rw (is-true (onFloor F m) j, is-false (occupied A (m .0)) h)
+    from (blocked j h o) = rw (is-true (onFloor F m) j, is-true (occupied A (m .0)) h, is-true (occupied A (m .1)) o)
 
 faultBy-small : (a b c : Bool) → faultBy a b c ≤ 255
 unfolding faultBy

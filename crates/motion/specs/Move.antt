@@ -23,11 +23,12 @@ onFloor F m = ltb (m .0) (F .positions) && ltb (m .1) (F .positions) && joined F
 unfoldable pub legalMove : Floor → Arrangement → ℕ × ℕ → Bool
 legalMove F A m = onFloor F m && occupied A (m .0) && vacant A (m .1)
 
--- the same as a number of the table: 32, "this move, the first such, is not legal at its turn"
+-- Request (c): "32 means that a position is n or more or that no edge joins the two"; "34 no rack at the position left; 35 the position
+-- entered is occupied", "tested after 32 for the same move"
 unfoldable pub faultBy : Bool → Bool → Bool → ℕ
 faultBy false holds free = 32
-faultBy true false free = 32
-faultBy true true false = 32
+faultBy true false free = 34
+faultBy true true false = 35
 faultBy true true true = 0
 
 unfoldable pub moveFault : Floor → Arrangement → ℕ × ℕ → ℕ

@@ -1,10 +1,11 @@
--- Plans by computation on the definitions: the case book's plan is accepted, and one plan each meets 30, 31, 32 and 33 for the same order.
--- So the conditions are neither empty nor everything, and each hypothesis of the theorems holds of something.
+-- Plans by computation on the definitions: the case book's plan is accepted, and one plan at least meets each of 30 to 35 for the same
+-- order. So the conditions are neither empty nor everything, and each hypothesis of the theorems holds of something.
 --
 --     caseBook, casePlan     document 01's order and plan ("Programs")
 --     plan-open o p          the plan checker's answer, with all that it is made of open
 --     case-1, case-7         starred cases 1, first half, and 7
 --     meets-30, ..           one plan each for the other numbers; an order's refusal is passed up
+--     case-stopped           a plan that its second move stops
 --     case-well-formed, case-solution, case-accepted, case-told    an order, a solution, its record, and that it is
 --                                                                  accepted, for the theorems
 --     full-empty, bare-empty                        an empty plan on a full floor and on one without racks, for the limits
@@ -13,7 +14,8 @@
 use Prim.Native.Nat.{ℕ}
 use mathlib.Core.Path.{_≡_, refl}
 use mathlib.Core.List.{List, [], _∷_}
-use lib.Dec.{lit<}
+use native.Mathlib.Omega.{arith}
+use lib.Dec.{lit<, lit≤}
 use Rattle.answers.specs.Answer.{Answer, accepted, refused}
 use Rattle.field.specs.Bits.{bits, number, bitsOf, field, pairs, positions, pairBits, pad, padded, bytes, toBytes}
 use Rattle.field.specs.Bytes.{BelowPairs, none₂, more₂}
@@ -35,6 +37,7 @@ use Rattle.motion.specs.StepOf.{moved}
 use Rattle.motion.specs.StepSolutions.{movesBetween}
 use Rattle.plan.proofs.Replayed.{ReplayedPlan, plan-replayed}
 use Rattle.plan.proofs.SolutionsLaws.{plan-solutions}
+use Rattle.plan.proofs.Stopped.{StoppedPlan, plan-stopped}
 
 -- n = 4, edges 0-1, 0-2, 1-2, 1-3, 2-3, rack 1 from 0 to 3, rack 2 from 3 to 0
 abbrev caseBook : List ℕ
@@ -75,19 +78,37 @@ unfolding plan-open
 meets-31 = refl
 
 -- 0>1 and 3>0, which no edge joins
-meets-32-edge : planAnswer caseBook (0x00 ∷ 0x00 ∷ 0x08 ∷ 0x00 ∷ 0x10 ∷ 0xC0 ∷ []) ≡ refused 32 2
-unfolding plan-open
-meets-32-edge = refl
-
--- 0>1 and again 0>1, which no rack can make
-meets-32 : planAnswer caseBook (0x00 ∷ 0x00 ∷ 0x08 ∷ 0x00 ∷ 0x10 ∷ 0x01 ∷ []) ≡ refused 32 2
+meets-32 : planAnswer caseBook (0x00 ∷ 0x00 ∷ 0x08 ∷ 0x00 ∷ 0x10 ∷ 0xC0 ∷ []) ≡ refused 32 2
 unfolding plan-open
 meets-32 = refl
 
--- 0>1, 1>3 into rack 2, and a third move that would be wrong too: the first such counts
-meets-32-first : planAnswer caseBook (0x00 ∷ 0x00 ∷ 0x0C ∷ 0x00 ∷ 0x10 ∷ 0x43 ∷ 0x00 ∷ 0x10 ∷ []) ≡ refused 32 2
+-- 0>4, and there is no position 4
+meets-32-outside : planAnswer caseBook (0x00 ∷ 0x00 ∷ 0x04 ∷ 0x00 ∷ 0x40 ∷ []) ≡ refused 32 1
 unfolding plan-open
-meets-32-first = refl
+meets-32-outside = refl
+
+-- 0>0: no edge joins a position to itself
+meets-32-itself : planAnswer caseBook (0x00 ∷ 0x00 ∷ 0x04 ∷ 0x00 ∷ 0x00 ∷ []) ≡ refused 32 1
+unfolding plan-open
+meets-32-itself = refl
+
+-- 0>1 and 0>2, which no rack can make
+meets-34 : planAnswer caseBook (0x00 ∷ 0x00 ∷ 0x08 ∷ 0x00 ∷ 0x10 ∷ 0x02 ∷ []) ≡ refused 34 2
+unfolding plan-open
+meets-34 = refl
+
+-- 0>1 and again 0>1: no rack can make it, and rack 1 is in its way
+meets-34-both : planAnswer caseBook (0x00 ∷ 0x00 ∷ 0x08 ∷ 0x00 ∷ 0x10 ∷ 0x01 ∷ []) ≡ refused 34 2
+unfolding plan-open
+meets-34-both = refl
+
+-- 0>1, 1>3 into rack 2, and 0>3, which no edge joins: the first bad move decides
+meets-35-first : planAnswer caseBook (0x00 ∷ 0x00 ∷ 0x0C ∷ 0x00 ∷ 0x10 ∷ 0x43 ∷ 0x00 ∷ 0x30 ∷ []) ≡ refused 35 2
+unfolding plan-open
+meets-35-first = refl
+
+pub case-stopped : StoppedPlan caseBook (0x00 ∷ 0x00 ∷ 0x0C ∷ 0x00 ∷ 0x10 ∷ 0x43 ∷ 0x00 ∷ 0x30 ∷ []) 35 2
+case-stopped = plan-stopped caseBook _ 35 2 (lit≤ tt) (λ e. omega arith) .0 meets-35-first
 
 -- rack 1 goes to its goal, 0>2, 3>1, 2>3: rack 2 is left at 1
 meets-33 : planAnswer caseBook (0x00 ∷ 0x00 ∷ 0x0C ∷ 0x00 ∷ 0x20 ∷ 0xC1 ∷ 0x08 ∷ 0x30 ∷ []) ≡ refused 33 2

@@ -1,6 +1,6 @@
 -- The plan checker's layers: the order reader, the record reader, and the judgement on tables.
 --
---     judgement o p     32, 33 or acceptance, on arrangements
+--     judgement o p     32 to 35 or acceptance, on arrangements
 --     plan-is           the table of document 01 as these layers
 --     RecordGave, record-gave  what an accepted record tells
 --     plan-room         the moves have room in the plan's tail
@@ -29,7 +29,7 @@ use Rattle.tables.proofs.MovesOnLaws.{matrixOf, tableOf, moves-judged}
 use Rattle.plan.specs.Plan.{moveCount, planMoves, wrongPlanLength, planPaddingSet, planAnswer}
 use Rattle.plan.specs.Readers.{recordAnswer, tableAnswer}
 
--- 32, 33 and acceptance
+-- 32 to 35 and acceptance
 abbrev pub judgement : List ℕ → List ℕ → Answer
 judgement o p = judged 33 (goalsOf o) (moveCount p ∷ []) (replayMoves (floorOf o) (startsOf o) (planMoves p))
 

@@ -8,3 +8,4 @@ pub mod PlanRecord
 pub mod SizeLaws
 pub mod Replayed
 pub mod SolutionsLaws
+pub mod Stopped

@@ -61,7 +61,7 @@ module _ (o p v : List ℕ) where
   judgement : Answer
   judgement = judged 33 (goalsOf o) (moveCount p ∷ []) (replayMoves (floorOf o) (startsOf o) (planMoves p))
 
-  -- what 32 and 33 leave, for an order that 10 to 14 pass
+  -- what 32 to 35 leave, for an order that 10 to 14 pass
   judged-solution : WellFormed o → (judgement ≡ accepted v) ↔ ((moveCount p ∷ [] ≡ v) × SolutionOf o (moveCount p) (arrangements o p))
   unfolding judgement
   judged-solution w =

@@ -3,14 +3,14 @@
 --     MovesLeft h j      the moves before number j + 1 were legal and left the table h
 --     moves-first, moves-stop, moves-next, moves-none    how the loop begins, stops, goes on and ends
 -- Assumes nothing.
-use Prim.Native.Nat.{ℕ, _+_, _-_, _*_, _≤_, _<_}
+use Prim.Native.Nat.{ℕ, _+_, _-_, _*_, _/_, _%_, _≤_, _<_}
 use mathlib.Core.Path.{_≡_, refl, sym, ap, _∙_, subst}
 use mathlib.Core.List.{List, _∷_}
 use native.Mathlib.Omega.{arith}
 use native.Mathlib.Nat.{sub-zero}
 use lib.ListN.{getD, set}
 use Rattle.answers.specs.declared.Fault.{Fault}
-use Rattle.field.specs.Bits.{field, pairs}
+use Rattle.field.specs.Bits.{pairs, PairAt}
 use Rattle.field.proofs.RecordLaws.{pairs-next}
 use Rattle.motion.specs.Replay.{Replayed}
 use Rattle.tables.specs.declared.Replay.{Replay}
@@ -34,21 +34,22 @@ module _ (s : List ℕ) (k : ℕ) (g h₀ : List ℕ) where
   unfolding Left replayOn
   moves-first = rw (sub-zero k) refl
 
-  module _ (h : List ℕ) (j a b : ℕ) (left : MovesLeft h j) (l : j < k) (ea : a ≡ field s (12 * j) 6) (eb : b ≡ field s (12 * j + 6) 6)
-      (v : MoveVerdict) (is : faultOf v ≡ entriesFault (getD g (a * 64 + b) 0) (getD h a 0) (getD h b 0)) where
-    next-left : Left (moveFaultOn g) movedOn whole j h ((a, b) ∷ pairs s (12 * (j + 1)) (k - (j + 1)))
-    next-left = rw (ea, eb) (subst (Left (moveFaultOn g) movedOn whole j h) (pairs-next s j k l) left)
+  -- the move numbered j + 1 is read as the one number x
+  module _ (h : List ℕ) (j x : ℕ) (left : MovesLeft h j) (l : j < k) (at : PairAt s (12 * j) (x / 64) (x % 64))
+      (v : MoveVerdict) (is : faultOf v ≡ entriesFault (getD g x 0) (getD h (x / 64) 0) (getD h (x % 64) 0)) where
+    next-left : Left (moveFaultOn g) movedOn whole j h ((x / 64, x % 64) ∷ pairs s (12 * (j + 1)) (k - (j + 1)))
+    next-left = rw (at .first-is, at .second-is) (subst (Left (moveFaultOn g) movedOn whole j h) (pairs-next s j k l) left)
 
-    next-is : faultOf v ≡ moveFaultOn g h (a, b)
+    next-is : faultOf v ≡ moveFaultOn g h (x / 64, x % 64)
     unfolding moveFaultOn
-    next-is = is
+    next-is = let number : x / 64 * 64 + x % 64 ≡ x = omega arith in rw number is
 
     pub moves-stop : (f : Fault) → v ≡ MoveVerdict.Illegal f → endOf (Replay.Stopped f (j + 1)) h ≡ whole
-    moves-stop f e = left-stops (moveFaultOn g) movedOn whole j h (a, b) _ next-left f (sym (ap faultOf e) ∙ next-is) h
+    moves-stop f e = left-stops (moveFaultOn g) movedOn whole j h (x / 64, x % 64) _ next-left f (sym (ap faultOf e) ∙ next-is) h
 
-    pub moves-next : v ≡ MoveVerdict.Legal → MovesLeft (set (set h a 0) b (getD h a 0)) (j + 1)
+    pub moves-next : v ≡ MoveVerdict.Legal → MovesLeft (set (set h (x / 64) 0) (x % 64) (getD h (x / 64) 0)) (j + 1)
     unfolding movedOn
-    moves-next e = left-goes (moveFaultOn g) movedOn whole j h (a, b) _ next-left (sym next-is ∙ ap faultOf e)
+    moves-next e = left-goes (moveFaultOn g) movedOn whole j h (x / 64, x % 64) _ next-left (sym next-is ∙ ap faultOf e)
 
   pub moves-none : (h : List ℕ) (j : ℕ) → MovesLeft h j → k ≤ j → endOf Replay.Ended h ≡ whole
   unfolding pairs

@@ -39,8 +39,8 @@ wrongPlanLength p = misfits p (2 * moveCount p)
 unfoldable pub planPaddingSet : List ℕ → Bool
 planPaddingSet p = unclean p (2 * moveCount p)
 
--- the fault of the first move that is not legal at its turn, with the move's number; 33, rack: "after the plan this rack, the lowest such,
--- is not at its goal". Accepted, the count is k.
+-- 32, 34 and 35, the move's number: "the first bad move deciding, and all three before 33". 33, rack: "after the plan this rack, the lowest
+-- such, is not at its goal". Accepted, the count is k.
 unfoldable pub planAnswer : List ℕ → List ℕ → Answer
 planAnswer o p =
     passUp (orderAnswer o)

@@ -1,7 +1,7 @@
--- The answers of the plan checker's parts: the record reader judges 30 and 31, the replay 32 and 33 on tables.
+-- The answers of the plan checker's parts: the record reader judges 30 and 31, the replay 32 to 35 on tables.
 --
 --     recordAnswer p          30 and 31, else accepted with k
---     tableAnswer s e m t k   32 and 33, where s is the order from its fourth byte on and t the plan from its fourth byte on
+--     tableAnswer s e m t k   32 to 35, where s is the order from its fourth byte on and t the plan from its fourth byte on
 -- Assumes nothing.
 use Prim.Native.Nat.{ℕ, _+_, _*_}
 use mathlib.Core.List.{List, [], _∷_}

@@ -1,5 +1,5 @@
-// The plan checker: a plan is judged for an order by 10 to 14 and 30 to 33 of document 01's table. specs/Plan.antt says what a plan
-// record is and what each number means; `check` is the entry point.
+// The plan checker: a plan is judged for an order by 10 to 14 and 30 to 35. specs/Plan.antt says what a plan record is and what each
+// number means; `check` is the entry point.
 use answers::Fault;
 use order::OrderVerdict;
 use tables::Replay;
@@ -56,8 +56,8 @@ pub enum MoveVerdict {
     Illegal(Fault),
 }
 
-// A move's fault, from what the tables have: the entry of the matrix for its two positions, the rack at the position left and the rack at
-// the position entered.
+// A move's fault, 32, 34 or 35 in this order, from what the tables have: the entry of the matrix for its two positions, the rack at the
+// position left and the rack at the position entered. Positions of n or more have no edge.
 fn move_fault(edge: u8, left: u8, entered: u8) -> MoveVerdict
     ensures { λ r. ⌜ faultOf r ≡ entriesFault edge left entered ⌝ }
 {
@@ -65,10 +65,10 @@ fn move_fault(edge: u8, left: u8, entered: u8) -> MoveVerdict
         return MoveVerdict::Illegal(Fault::PlanMove);
     }
     if left == 0 {
-        return MoveVerdict::Illegal(Fault::PlanMove);
+        return MoveVerdict::Illegal(Fault::PlanNoRack);
     }
     if entered != 0 {
-        return MoveVerdict::Illegal(Fault::PlanMove);
+        return MoveVerdict::Illegal(Fault::PlanOccupied);
     }
     MoveVerdict::Legal
 }
@@ -81,11 +81,11 @@ fn replay(tail: &[u8], k: usize, matrix: &[u8; 4096], racks: &mut [u8; 64]) -> R
 {
     let mut j = 0;
     while j < k {
-        let step = field::pair_at(tail, j);
-        let a = step.first;
-        let b = step.second;
+        let step = field::pair_number(tail, j);
+        let a = step / 64;
+        let b = step % 64;
         let rack = racks[a];
-        let verdict = move_fault(matrix[a * 64 + b], rack, racks[b]);
+        let verdict = move_fault(matrix[step], rack, racks[b]);
         if let MoveVerdict::Illegal(fault) = verdict {
             return Replay::Stopped(fault, (j + 1) as u32);
         }
@@ -117,7 +117,7 @@ fn judge(order: &[u8], e: usize, m: usize, plan: &[u8], k: usize) -> PlanVerdict
     PlanVerdict::Accepted(k)
 }
 
-// 10 to 14 and 30 to 33: the verdict on any byte string as a plan for any byte string as an order.
+// 10 to 14 and 30 to 35: the verdict on any byte string as a plan for any byte string as an order.
 pub fn check(order: &[u8], plan: &[u8]) -> PlanVerdict
     ensures { λ r. ⌜ answerOf r ≡ planAnswer (now (order .entry)) (now (plan .entry)) ⌝ }
 {

@@ -83,15 +83,76 @@ kinds! {
         BitFlipped,
         Noise,
         MoveChanged,
-        FromVacant,
-        IntoStanding,
-        NotJoined,
         OutOfRange,
+        ToItself,
+        NotJoined,
+        NotJoinedFromVacant,
+        FromVacant,
+        FromVacantIntoStanding,
+        IntoStanding,
         MoveRepeated,
         MoveLeftOut,
         GoalsExchanged,
         GoalElsewhere,
     }
+}
+
+/// The damages that make a move illegal at its turn, and the number that it then meets. Of two that apply to
+/// one move it is the lower.
+pub const ILLEGAL: [(Damage, u8); 7] = [
+    (Damage::OutOfRange, 32),
+    (Damage::ToItself, 32),
+    (Damage::NotJoined, 32),
+    (Damage::NotJoinedFromVacant, 32), // and 34
+    (Damage::FromVacant, 34),
+    (Damage::FromVacantIntoStanding, 34), // and 35
+    (Damage::IntoStanding, 35),
+];
+
+/// The number that a move illegal for this reason meets.
+pub fn illegal_number(reason: Damage) -> u8 {
+    ILLEGAL.iter().find(|(damage, _)| *damage == reason).expect("it makes a move illegal").1
+}
+
+kinds! {
+    /// Where a move stands in its plan.
+    pub enum Place in PLACES {
+        First,
+        Middle,
+        Last,
+    }
+}
+
+/// The plan with one more move at the place, illegal for the reason, and if `later` names a reason another one
+/// behind it. The first decides. At times a goal is not reached either, which comes after both.
+pub fn with_illegal_moves(
+    random: &mut Random,
+    sound: &Sample,
+    place: Place,
+    first: Damage,
+    later: Option<Damage>,
+) -> Option<Case> {
+    let (mut order, mut plan) = (sound.order.clone(), sound.plan());
+    let k = plan.moves.len();
+    nonempty(k.saturating_sub(1) as u64)?; // there is a middle
+    let index = match place {
+        Place::First => 0,
+        Place::Middle => random.between(1, k - 1),
+        Place::Last => k,
+    };
+    if let Some(later) = later {
+        let behind = if random.one_in(2) { k } else { random.between(index, k) };
+        let other = illegal_move(random, &sound.before(behind), later)?;
+        plan.moves.insert(behind, other);
+    }
+    let one = illegal_move(random, &sound.before(index), first)?;
+    plan.moves.insert(index, one);
+    if random.one_in(2) {
+        let exchange = random.one_in(2);
+        damage_goals(random, &mut order, exchange)?;
+    }
+    let answer = Some(refused(illegal_number(first), index as u32 + 1));
+    Some(Case { order: order.record(), record: plan.record(), answer })
 }
 
 /// A case with a random damage.
@@ -131,7 +192,13 @@ pub fn damaged(random: &mut Random, sound: &Sample, damage: Damage) -> Option<Ca
             plan.moves[random.below(k)] = (random.below(64) as u8, random.below(64) as u8);
             return Some(Case { order: order.record(), record: plan.record(), answer: None });
         }
-        Damage::FromVacant | Damage::IntoStanding | Damage::NotJoined | Damage::OutOfRange => {
+        Damage::OutOfRange
+        | Damage::ToItself
+        | Damage::NotJoined
+        | Damage::NotJoinedFromVacant
+        | Damage::FromVacant
+        | Damage::FromVacantIntoStanding
+        | Damage::IntoStanding => {
             let index = random.between(0, k);
             let one = illegal_move(random, &sound.before(index), damage)?;
             match index < k && random.one_in(2) {
@@ -142,14 +209,14 @@ pub fn damaged(random: &mut Random, sound: &Sample, damage: Damage) -> Option<Ca
                 plan.spare = 1; // the lower number
                 31
             } else {
-                refused(32, index as u32 + 1)
+                refused(illegal_number(damage), index as u32 + 1)
             }
         }
         Damage::MoveRepeated => {
             nonempty(k as u64)?;
             let index = random.below(k);
             plan.moves.insert(index, plan.moves[index]);
-            refused(32, index as u32 + 2)
+            refused(34, index as u32 + 2) // its rack stands where it enters, so 35 applies too
         }
         Damage::MoveLeftOut => {
             nonempty(k as u64)?;
@@ -203,16 +270,28 @@ pub fn change_count(random: &mut Random, bytes: &mut [u8], count: usize) {
 /// A move that is illegal on the arrangement, for this reason.
 fn illegal_move(random: &mut Random, racks: &Racks, reason: Damage) -> Option<Move> {
     match reason {
+        Damage::ToItself => {
+            let position = random.member(racks.vacant() | racks.occupied);
+            Some((position, position))
+        }
+        Damage::NotJoined => racks.move_apart(random),
+        Damage::NotJoinedFromVacant => {
+            let left = random.member(nonempty(racks.vacant())?);
+            let apart = (racks.vacant() | racks.occupied) & !racks.joined(left);
+            Some((left, random.member(apart)))
+        }
         Damage::FromVacant => {
             let left = random.member(nonempty(racks.vacant())?);
-            let entered = racks.joined(left);
-            Some((left, random.member(nonempty(entered & racks.vacant()).or(nonempty(entered))?)))
+            Some((left, random.member(nonempty(racks.joined(left) & racks.vacant())?)))
+        }
+        Damage::FromVacantIntoStanding => {
+            let left = random.member(nonempty(racks.vacant())?);
+            Some((left, random.member(nonempty(racks.joined(left) & racks.occupied)?)))
         }
         Damage::IntoStanding => {
             let left = random.member(nonempty(racks.occupied)?);
             Some((left, random.member(nonempty(racks.joined(left) & racks.occupied)?)))
         }
-        Damage::NotJoined => racks.move_apart(random),
         _ => racks.move_outside(random),
     }
 }

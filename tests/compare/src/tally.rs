@@ -73,11 +73,17 @@ impl Tally {
     /// at least 1,000 times, and that no other was met.
     #[track_caller]
     pub fn finish(&self, least_cases: u64, numbers: &[u8]) {
+        self.finish_each(least_cases, 1000, numbers);
+    }
+
+    /// The same with another least count for each number.
+    #[track_caller]
+    pub fn finish_each(&self, least_cases: u64, least_each: u64, numbers: &[u8]) {
         self.close(least_cases);
         for number in 0..=255 {
             let met = self.met[usize::from(number)];
             if numbers.contains(&number) {
-                assert!(met >= 1000, "{}: {number} met {met} times only", self.name);
+                assert!(met >= least_each, "{}: {number} met {met} times only", self.name);
             } else {
                 assert_eq!(met, 0, "{}: {number} is not a number of this function", self.name);
             }

@@ -185,14 +185,21 @@ fn plans_refused() {
     assert_eq!(plan_check(TWO, "00 00 04 00 10 00"), refused(30, 0)); // a byte too many
     assert_eq!(plan_check(TWO, "00 00 05 00 10"), refused(31, 0)); // spare bit
     assert_eq!(plan_check(TWO, "00 00 04 00 11"), refused(31, 0)); // pad bit
-    assert_eq!(plan_check(TWO, "00 00 04 04 00"), refused(32, 1)); // 1>0, from a vacant position
     assert_eq!(plan_check(TWO, "00 00 04 00 00"), refused(32, 1)); // 0>0
+    assert_eq!(plan_check(TWO, "00 00 04 04 10"), refused(32, 1)); // 1>1, where no rack is
     assert_eq!(plan_check(TWO, "00 00 04 00 20"), refused(32, 1)); // 0>2, out of range
-    assert_eq!(plan_check(TWO, "00 00 08 00 10 01"), refused(32, 2)); // 0>1, 0>1
+    assert_eq!(plan_check(TWO, "00 00 04 FC 00"), refused(32, 1)); // 63>0, out of range
+    assert_eq!(plan_check(ORDER, "00 00 04 00 30"), refused(32, 1)); // 0>3, no edge, and into rack 2
+    assert_eq!(plan_check(ORDER, "00 00 04 04 20"), refused(34, 1)); // 1>2, from a vacant position
+    assert_eq!(plan_check(TWO, "00 00 04 04 00"), refused(34, 1)); // 1>0, and into rack 1
+    assert_eq!(plan_check(TWO, "00 00 08 00 10 01"), refused(34, 2)); // 0>1, 0>1
+    assert_eq!(plan_check(ORDER, "00 00 08 00 10 43"), refused(35, 2)); // 0>1, 1>3 into rack 2
+    assert_eq!(plan_check(ORDER, "00 00 0C 00 10 43 00 30"), refused(35, 2)); // and then 0>3, no edge
+    assert_eq!(plan_check(ORDER, "00 00 0C 00 10 43 04 40"), refused(35, 2)); // and then 1>4, out of range
     assert_eq!(plan_check(TWO, "00 00 08 00 10 40"), refused(33, 1)); // 0>1, 1>0
     assert_eq!(plan_check(TWO, "00 00 04 00 10"), Ok(1));
     assert_eq!(plan_check(FULL_F, "00 00 00"), Ok(0)); // a full floor
-    assert_eq!(plan_check(FULL_F, "00 00 04 00 10"), refused(32, 1)); // where no rack can move
+    assert_eq!(plan_check(FULL_F, "00 00 04 00 10"), refused(35, 1)); // where no rack can move
 }
 
 #[test]
@@ -248,6 +255,8 @@ fn the_making_rule() {
     assert_eq!(timetable_make(home, "00 00 00", 4), (Ok(0), hex("00 00 00 AA")));
     // The plan's refusal comes before the buffer's.
     assert_eq!(timetable_make(TWO, "00 00 00", 0), (refused(33, 1), vec![]));
+    assert_eq!(timetable_make(TWO, "00 00 08 00 10 01", 0), (refused(34, 2), vec![]));
+    assert_eq!(timetable_make(ORDER, "00 00 08 00 10 43", 8), (refused(35, 2), vec![0xAA; 8]));
     assert_eq!(timetable_make(home, "00 00 00", 2), refused_make(44, 2));
 }
 

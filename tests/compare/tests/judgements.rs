@@ -31,7 +31,7 @@ fn answered_as_made<Damage: Debug>(
 
 #[test]
 fn plans_are_answered_as_they_were_made() {
-    let numbers = [0, 10, 11, 12, 13, 14, 30, 31, 32, 33];
+    let numbers = [0, 10, 11, 12, 13, 14, 30, 31, 32, 33, 34, 35];
     answered_as_made(Tally::new("plans"), 0x5EED_1001, &numbers, plans::random_case, |order, plan| {
         packed::count(second::plan::check(order, plan))
     });

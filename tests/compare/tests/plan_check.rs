@@ -8,7 +8,7 @@ use compare::random::Random;
 use compare::tally::{each_met, Tally};
 use compare::write::{Order, Plan};
 
-const NUMBERS: [u8; 10] = [0, 10, 11, 12, 13, 14, 30, 31, 32, 33];
+const NUMBERS: [u8; 12] = [0, 10, 11, 12, 13, 14, 30, 31, 32, 33, 34, 35];
 
 fn compare(tally: &mut Tally, order: &[u8], plan: &[u8]) {
     let expected = packed::count(second::plan::check(order, plan));

@@ -7,7 +7,7 @@ use compare::proved;
 use compare::random::Random;
 use compare::tally::Tally;
 
-const NUMBERS: [u8; 11] = [0, 10, 11, 12, 13, 14, 30, 31, 32, 33, 44];
+const NUMBERS: [u8; 13] = [0, 10, 11, 12, 13, 14, 30, 31, 32, 33, 34, 35, 44];
 
 /// Makes the timetable twice, in equal buffers, and holds answers and buffers to each other.
 fn compare(tally: &mut Tally, order: &[u8], plan: &[u8], buffer: &mut [u8]) -> u64 {

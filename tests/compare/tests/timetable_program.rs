@@ -73,9 +73,10 @@ fn each_refusal() {
     assert_eq!(printed(&followed_by("00 00 10 00 10 C2 08 00")), "refused 30 0 plan\n");
     assert_eq!(printed(&followed_by("00 00 01")), "refused 31 0 plan\n");
     assert_eq!(printed(&followed_by("00 00 04 00 11")), "refused 31 0 plan\n");
-    // 0>3, where no edge is; 0>1, then 1>3, where rack 2 stands
+    // 0>3, where no edge is; 1>2, where no rack is; 0>1, then 1>3, where rack 2 stands
     assert_eq!(printed(&followed_by("00 00 04 00 30")), "refused 32 1 plan\n");
-    assert_eq!(printed(&followed_by("00 00 08 00 10 43")), "refused 32 2 plan\n");
+    assert_eq!(printed(&followed_by("00 00 04 04 20")), "refused 34 1 plan\n");
+    assert_eq!(printed(&followed_by("00 00 08 00 10 43")), "refused 35 2 plan\n");
     // the empty plan: rack 1 stays; a plan that brings rack 1 to its goal alone
     assert_eq!(printed(&followed_by("00 00 00")), "refused 33 1 plan\n");
     let edges = [(0, 1), (0, 2), (1, 2), (1, 3), (2, 3)];

@@ -86,7 +86,7 @@ fn fault_of_moves(order: &Order, held: u64, position: usize, edges: usize, after
         if (held >> left | held >> entered) & 1 == 1 {
             return Some(format!("{left}>{entered} touches a held position"));
         }
-        if !racks.move_is_legal(&order.floor, left, entered) {
+        if racks.move_fault(&order.floor, left, entered).is_some() {
             return Some(format!("{left}>{entered} is not legal"));
         }
         racks.make_move(left, entered);

@@ -9,7 +9,7 @@
 //! | `record`    | Records: fields, pads, lengths    |                    |
 //! | `order`     | Records, the order                | 10 to 14           |
 //! | `motion`    | Legal moves and steps             |                    |
-//! | `plan`      | Records, the plan                 | 30 to 33           |
+//! | `plan`      | Records, the plan; request (c)    | 30 to 35           |
 //! | `timetable` | Records, the timetable            | 40 to 43, 45       |
 //! | `making`    | Making the timetable              | 44                 |
 //! | `floor`     | The floor                         | 20 to 22           |

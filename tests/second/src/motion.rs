@@ -37,14 +37,23 @@ impl Arrangement {
     }
 
     /// "A move is legal if both positions are below n, an edge joins them, the first holds a rack and
-    /// the second is vacant."
+    /// the second is vacant." Otherwise it has a number, by request (c), "tested after 32 for the same
+    /// move".
     #[inline]
-    pub fn move_is_legal(&self, floor: &Floor, left: usize, entered: usize) -> bool {
-        left < floor.n
-            && entered < floor.n
-            && floor.joined(left, entered)
-            && !self.is_vacant(left)
-            && self.is_vacant(entered)
+    pub fn move_fault(&self, floor: &Floor, left: usize, entered: usize) -> Option<u8> {
+        // "32 means that a position is n or more or that no edge joins the two"
+        if left >= floor.n || entered >= floor.n || !floor.joined(left, entered) {
+            return Some(32);
+        }
+        // "34 no rack at the position left"
+        if self.is_vacant(left) {
+            return Some(34);
+        }
+        // "35 the position entered is occupied"
+        if !self.is_vacant(entered) {
+            return Some(35);
+        }
+        None
     }
 
     /// "A legal move takes the rack at the position left to the position entered and leaves all others

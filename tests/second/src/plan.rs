@@ -34,7 +34,7 @@ pub fn read(record: &[u8]) -> Answer<Plan<'_>> {
     Ok(Plan { k, moves })
 }
 
-/// The plan checker: the lowest of 10 to 14 and 30 to 33 that applies, else k.
+/// The plan checker: the lowest of 10 to 14, 30 and 31 that applies; then the replay's refusal; else k.
 pub fn check(order: &[u8], plan: &[u8]) -> Answer<u32> {
     let order = order::read(order)?;
     let plan = read(plan)?;
@@ -48,9 +48,10 @@ pub fn replay(order: &Order, plan: Plan<'_>) -> Answer<()> {
     let mut now = Arrangement::starting(order);
     for index in 0..plan.k {
         let (left, entered) = positions(pair(plan.moves, index));
-        // 32: "this move, the first such, is not legal at its turn"
-        if !now.move_is_legal(&order.floor, left, entered) {
-            return refuse_at(32, index as u32 + 1);
+        // 32, 34 and 35: "each has the move number as its place", "the first bad move deciding, and all
+        // three before 33"
+        if let Some(number) = now.move_fault(&order.floor, left, entered) {
+            return refuse_at(number, index as u32 + 1);
         }
         now.make_move(left, entered);
     }

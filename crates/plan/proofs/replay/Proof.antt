@@ -15,17 +15,11 @@ abbrev μ-loop : tie.MeasureT-loop
 loop-holds : tie.Need-loop-holds Inv-loop μ-loop
 loop-holds c = (omega arith, moves-first _ _ _ _)
 
-pair-at-requires : tie.Need-pair-at-requires Inv-loop μ-loop
-pair-at-requires c κs = omega arith
+pair-number-requires : tie.Need-pair-number-requires Inv-loop μ-loop
+pair-number-requires c κs = omega arith
 
 element-copy-out-rack : tie.Need-element-copy-out-rack Inv-loop μ-loop
 element-copy-out-rack c = omega arith
-
-mul-move-fault : tie.Need-mul-move-fault Inv-loop μ-loop
-mul-move-fault c = omega arith
-
-add-move-fault : tie.Need-add-move-fault Inv-loop μ-loop
-add-move-fault c = omega arith
 
 element-copy-out-move-fault : tie.Need-element-copy-out-move-fault Inv-loop μ-loop
 element-copy-out-move-fault c = omega arith
@@ -39,12 +33,6 @@ move-fault-requires c κs = search needs
 enum-known-verdict : tie.Need-enum-known-verdict Inv-loop μ-loop
 enum-known-verdict c = search needs
 
-add-t23 : tie.Need-add-t23 Inv-loop μ-loop
-add-t23 c = omega arith
-
-cast-t24 : tie.Need-cast-t24 Inv-loop μ-loop
-cast-t24 c = omega arith
-
 returns : tie.Need-returns Inv-loop μ-loop
 returns c =
     let judged = c .before .before .before in
@@ -53,8 +41,8 @@ returns c =
     let turn = read .before .before in
     let entry = turn .before .before .args in
     moves-stop (entry .tail .now) (entry .k) (entry .matrix .now) (entry .racks .now) (turn .loop .racks) (turn .loop .j)
-    (read .pair-at .result .first) (read .pair-at .result .second) (turn .loop .inv .1) (omega arith)
-    (read .pair-at .ensures .first-is) (read .pair-at .ensures .second-is) (judged .move-fault .result) (judged .move-fault .ensures)
+    (read .pair-number .result) (turn .loop .inv .1) (omega arith) (read .pair-number .ensures)
+    (judged .move-fault .result) (judged .move-fault .ensures)
     _ (c .before .verdict .given .1)
 
 enum-told : tie.Need-enum-told Inv-loop μ-loop
@@ -80,8 +68,8 @@ loop-again c =
     let turn = read .before .before in
     let entry = turn .before .before .args in
     let next = moves-next (entry .tail .now) (entry .k) (entry .matrix .now) (entry .racks .now) (turn .loop .racks) (turn .loop .j)
-    (read .pair-at .result .first) (read .pair-at .result .second) (turn .loop .inv .1) (omega arith)
-    (read .pair-at .ensures .first-is) (read .pair-at .ensures .second-is) (judged .move-fault .result) (judged .move-fault .ensures)
+    (read .pair-number .result) (turn .loop .inv .1) (omega arith) (read .pair-number .ensures)
+    (judged .move-fault .result) (judged .move-fault .ensures)
     (c .enum-told .given .1) in
     (omega arith, next)
 
@@ -99,16 +87,14 @@ replay-spec =
     Inv-loop
     μ-loop
     loop-holds
-    pair-at-requires
+    pair-number-requires
     element-copy-out-rack
-    mul-move-fault
-    add-move-fault
     element-copy-out-move-fault
     element-copy-out-move-fault-2
     move-fault-requires
     enum-known-verdict
-    add-t23
-    cast-t24
+    (λ c. omega arith)
+    (λ c. omega arith)
     returns
     enum-told
     element-write-racks

@@ -1,0 +1,75 @@
+-- Plans that a move stops, from request (c): "34 no rack at the position left; 35 the position entered is occupied; each has the move
+-- number as its place; tested after 32 for the same move, the first bad move deciding, and all three before 33."
+--
+--     StoppedPlan o p f j   10 to 14, 30 and 31 pass, the moves before number j are legal each at its turn, and f stands for what is wrong
+--                           with number j
+--     plan-stopped          a plan is refused with 32, 34 or 35 at the place j exactly if it is stopped so
+-- Assumes nothing.
+use Prim.Native.Nat.{ℕ, _≤_}
+use mathlib.Core.Bool.{false}
+use mathlib.Core.List.{List, [], _∷_}
+use mathlib.Core.Logic.{_↔_, _≢_}
+use mathlib.Core.Path.{_≡_, sym, _∙_}
+use native.Mathlib.Omega.{arith}
+use Rattle.answers.specs.Answer.{refused}
+use Rattle.answers.proofs.AnswerLaws.{not-both, refuse-past, passUp-past, passUp-accepted}
+use Rattle.order.specs.Order.{floorOf, startsOf, goalsOf, orderOf, counts, wrongLength, wrongPositions, paddingSet, wrongEdges, wrongRacks}
+use Rattle.order.specs.Order.{orderAnswer, WellFormed}
+use Rattle.order.proofs.OrderLaws.{well-formed, accepted-is}
+use Rattle.motion.specs.Move.{legalMove, moveFault, afterMove}
+use Rattle.motion.specs.Replay.{replayMoves}
+use Rattle.motion.proofs.MoveLaws.{moveFault-none, BadMove, moveFault-bad}
+use Rattle.motion.proofs.Lawful.{Stops, stops-some, replayMoves-stopped}
+use Rattle.motion.proofs.JudgementLaws.{judged-refused}
+use Rattle.plan.specs.Plan.{moveCount, planMoves, wrongPlanLength, planPaddingSet, planAnswer}
+
+module _ (o p : List ℕ) (f j : ℕ) where
+  -- `stops` has the moves before number j, what they make of the starts, and number j itself
+  pub record StoppedPlan : Type 0 where
+    pub order-right : WellFormed o
+    pub length-right : wrongPlanLength p ≡ false
+    pub padding-clear : planPaddingSet p ≡ false
+    pub stops : Stops (moveFault (floorOf o)) (legalMove (floorOf o)) afterMove 1 (startsOf o) (planMoves p) f j
+    pub reason : BadMove (floorOf o) (stops .there) (stops .bad) f
+
+  -- 10 to 14 are no number of a move
+  order-past : 32 ≤ f → orderAnswer o ≢ refused f j
+  unfolding orderAnswer
+  order-past l e =
+      let t₀ = refuse-past (wrongLength o) 10 0 _ f j (λ z. omega arith) e in
+      let t₁ = refuse-past (wrongPositions o) 11 0 _ f j (λ z. omega arith) (t₀ .1) in
+      let t₂ = refuse-past (paddingSet o) 12 0 _ f j (λ z. omega arith) (t₁ .1) in
+      let t₃ = refuse-past (wrongEdges (floorOf o)) 13 0 _ f j (λ z. omega arith) (t₂ .1) in
+      let t₄ = refuse-past (wrongRacks (orderOf o)) 14 0 _ f j (λ z. omega arith) (t₃ .1) in
+      not-both f j (counts o) (sym (t₄ .1))
+
+  stopped-to : 32 ≤ f → 33 ≢ f → planAnswer o p ≡ refused f j → StoppedPlan
+  unfolding planAnswer
+  stopped-to l d e =
+      let F = floorOf o in
+      let x = replayMoves F (startsOf o) (planMoves p) in
+      let below = passUp-past (orderAnswer o) _ f j (order-past l) e in
+      let t₀ = refuse-past (wrongPlanLength p) 30 0 _ f j (λ z. omega arith) (below .1) in
+      let t₁ = refuse-past (planPaddingSet p) 31 0 _ f j (λ z. omega arith) (t₀ .1) in
+      let s = replayMoves-stopped F (startsOf o) (planMoves p) f j .0
+      (judged-refused 33 (goalsOf o) (moveCount p ∷ []) f j d x .0 (t₁ .1)) in
+      record {
+        order-right = well-formed o (below .0 .0) (below .0 .1);
+        length-right = t₀ .0;
+        padding-clear = t₁ .0;
+        stops = s;
+        reason = moveFault-bad F (s .there) (s .bad) f (stops-some (moveFault F) (legalMove F) afterMove (moveFault-none F) s) .0
+            (s .fault-is);
+      }
+
+  stopped-from : 33 ≢ f → StoppedPlan → planAnswer o p ≡ refused f j
+  unfolding planAnswer
+  stopped-from d t =
+      let x = replayMoves (floorOf o) (startsOf o) (planMoves p) in
+      passUp-accepted (orderAnswer o) _ (counts o) (accepted-is o (t .order-right))
+      ∙ rw (t .length-right, t .padding-clear)
+      (judged-refused 33 (goalsOf o) (moveCount p ∷ []) f j d x .1
+      (replayMoves-stopped (floorOf o) (startsOf o) (planMoves p) f j .1 (t .stops)))
+
+  pub plan-stopped : 32 ≤ f → 33 ≢ f → (planAnswer o p ≡ refused f j) ↔ StoppedPlan
+  plan-stopped l d = (stopped-to l d, stopped-from d)
