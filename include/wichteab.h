@@ -47,9 +47,9 @@ extern "C" {
  * Library and header come together and are of one version. The first number goes up where a caller may have
  * to change its code, the second where something was added (a function, a number), the third otherwise.
  */
-#define WICHTEAB_VERSION "1.2.0"
+#define WICHTEAB_VERSION "1.3.0"
 #define WICHTEAB_VERSION_MAJOR 1
-#define WICHTEAB_VERSION_MINOR 2
+#define WICHTEAB_VERSION_MINOR 3
 #define WICHTEAB_VERSION_PATCH 0
 
 /*
@@ -101,11 +101,14 @@ enum {
     WICHTEAB_ORDER_RACK = 14,      /* a start or goal is n or more, or two racks share a start or a goal */
 
     /* The floor, judged for planning; place 0. */
-    WICHTEAB_FLOOR_CROWDED = 20,         /* fewer than two positions are vacant: m + 2 is above n */
+    WICHTEAB_FLOOR_CROWDED = 20,         /* fewer than two positions are vacant: m + 2 is above n; on a ring, none
+                                            is */
     WICHTEAB_FLOOR_NOT_BICONNECTED = 21, /* it has under 3 positions, is not connected, or falls apart when
                                             some one position is taken away */
-    WICHTEAB_FLOOR_RING = 22,            /* it is a ring: bi-connected, with exactly n edges */
+    WICHTEAB_FLOOR_RING = 22,            /* no longer given: rings are planned */
     WICHTEAB_PLAN_BUFFER = 23,           /* the plan buffer is shorter than 12 * n * n * n + 3 bytes */
+    WICHTEAB_FLOOR_ORDER = 24,           /* it is a ring, and the racks stand in another order round it at the
+                                            goal, so that no plan exists; judged before 23 */
 
     /* The plan; place 0 unless it is named. The first move that is not legal at its turn decides, with the
        lowest of 32, 34 and 35 that applies to it; all three come before 33. */
@@ -148,8 +151,9 @@ uint64_t wichteab_order_check(const uint8_t *order, size_t order_length);
 /*
  * wichteab_floor_check: can this order be planned at all?
  *
- * Takes an order; it is only read. Accepted: the answer is 0, the floor is bi-connected and no ring, and at
- * least two positions are vacant. Refused: 10 to 14 and 20 to 22, place 0.
+ * Takes an order; it is only read. Accepted: the answer is 0, the floor is bi-connected, and at least two
+ * positions are vacant; or it is a ring, at least one is vacant, and the racks stand in the same order round it
+ * at start and goal. Refused: 10 to 14, 20, 21 and 24, place 0.
  */
 uint64_t wichteab_floor_check(const uint8_t *order, size_t order_length);
 
@@ -159,7 +163,7 @@ uint64_t wichteab_floor_check(const uint8_t *order, size_t order_length);
  * Takes a short order, which is only read, and a buffer for the order; WICHTEAB_ORDER_LONGEST bytes are enough
  * for any. Accepted: wichteab_expanded_length gives the order's length, and the order is at the front of the
  * buffer, on its model's floor, with the same starts and goals. It is well formed, and wichteab_floor_check
- * never refuses it with 21 or 22: with two vacancies it is planned. No two short orders give one order.
+ * never refuses it with 21 or 24: with two vacancies it is planned. No two short orders give one order.
  * Refused: 50, 51, 14 and 52, the first that applies in this order, place 0.
  */
 uint64_t wichteab_order_expand(const uint8_t *short_order, size_t short_order_length, uint8_t *buffer,
@@ -171,9 +175,10 @@ uint64_t wichteab_order_expand(const uint8_t *short_order, size_t short_order_le
  * Takes an order, which is only read, and a buffer of at least 12 * n * n * n + 3 bytes (see
  * wichteab_plan_buffer_length), whatever it holds. Every order that wichteab_floor_check accepts is planned:
  * with two vacancies or more, on a bi-connected floor that is no ring, every arrangement is reached from
- * every other. Accepted: wichteab_plan_moves gives the number of moves, at most 8 * n * n * n, and 0 where
- * each start is its goal; the plan is at the front of the buffer, as long as wichteab_plan_length says, and
- * wichteab_plan_check accepts it with these moves. Refused: as wichteab_floor_check, and 23, place 0; the
+ * every other; on a ring with a vacancy, every one with the racks in the same order round it. Accepted:
+ * wichteab_plan_moves gives the number of moves, at most 8 * n * n * n, and 0 where each start is its goal;
+ * the plan is at the front of the buffer, as long as wichteab_plan_length says, and
+ * wichteab_plan_check accepts it with these moves. Refused: as wichteab_floor_check, and then 23, place 0; the
  * buffer is as it was.
  */
 uint64_t wichteab_plan_make(const uint8_t *order, size_t order_length, uint8_t *buffer,
@@ -329,14 +334,16 @@ static inline const char *wichteab_reason(uint32_t number)
     case WICHTEAB_ORDER_RACK:
         return "A start or goal of the order is no position of the floor, or two racks share one.";
     case WICHTEAB_FLOOR_CROWDED:
-        return "Too many racks stand on the floor: at least two of its positions have to be vacant.";
+        return "Too many racks stand on the floor: at least two of its positions have to be vacant, on a ring one.";
     case WICHTEAB_FLOOR_NOT_BICONNECTED:
         return "The floor hangs together by one position, or not at all: it has to stay connected when any one "
                "position is taken away.";
     case WICHTEAB_FLOOR_RING:
-        return "The floor is a single ring, on which racks cannot pass each other: it needs one more edge.";
+        return "The floor is a ring. This number is no longer given.";
     case WICHTEAB_PLAN_BUFFER:
         return "The plan buffer is too short: n positions need 12 * n * n * n + 3 bytes.";
+    case WICHTEAB_FLOOR_ORDER:
+        return "The racks stand in another order round the ring at the goal: no moves lead there.";
     case WICHTEAB_PLAN_LENGTH:
         return "The plan was cut short, or other bytes follow it: its length is not the one its count of moves "
                "gives.";

@@ -16,11 +16,11 @@ pub enum Fault {
     OrderEdge,
     // A start or goal is n or more, or two racks share a start or share a goal.
     OrderRack,
-    // m + 2 is above n.
+    // m + 2 is above n; on a ring, no position is vacant.
     FloorCrowded,
     // The floor is not bi-connected.
     FloorNotBiconnected,
-    // The floor is a ring.
+    // The floor is a ring. No longer given: rings are planned.
     FloorRing,
     // The plan buffer is shorter than 12 × n × n × n + 3 bytes.
     PlanBuffer,
@@ -54,6 +54,8 @@ pub enum Fault {
     PlanNoRack,
     // The position that a move enters is occupied.
     PlanOccupied,
+    // The racks stand in another order round the ring at the goal.
+    FloorOrder,
 }
 
 // Document 01's number of a fault.
@@ -92,6 +94,7 @@ fn case_number(fault: Fault) -> u64
         Fault::OrderBuffer => 52,
         Fault::PlanNoRack => 34,
         Fault::PlanOccupied => 35,
+        Fault::FloorOrder => 24,
     }
 }
 

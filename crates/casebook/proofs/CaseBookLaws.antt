@@ -19,7 +19,10 @@ use Rattle.timetable.specs.Timetable.{timetableRecord, timetableAnswer}
 use Rattle.timetable.proofs.Inhabited.{timetable-open}
 use Rattle.scheduling.proofs.MakerCases.{maker-open}
 use Rattle.scheduling.specs.Maker.{madeOf, makerAnswer, bufferAfter}
-use Rattle.floor.specs.FloorAnswer.{biConnected?, ring?, floorAnswer}
+use Rattle.motion.specs.Arrangement.{stands}
+use Rattle.ring.specs.Circle.{placeIn, roundOf, follow, onward, firstFrom}
+use Rattle.floor.specs.FloorAnswer.{biConnected?, ring?, roundPlace, disordered?, floorAnswer}
+use Rattle.floor.specs.RoundDecision.{rack?, inTurn?, sameOrder?}
 use Rattle.planner.specs.Planner.{refusals, PlanMade}
 use Rattle.planner.proofs.PlannerLaws.{never-refuses, turned-away}
 use Rattle.casebook.specs.CaseBook.{Case, plan-checked, plan-made, timetable-checked, timetable-made, Made, Answers, Claim, starred}
@@ -94,7 +97,8 @@ agrees-claims (plan-made order buffer a) t = let e = same-answer (refusals order
 
 -- the one computed test
 all-agree : T (every agrees starred)
-unfolding starred every agrees sameAnswer sameList refusals floorAnswer biConnected? ring? maker-open timetable-open
+unfolding starred every agrees sameAnswer sameList refusals floorAnswer biConnected? ring? disordered? roundPlace sameOrder? rack?
+    inTurn? placeIn roundOf follow onward firstFrom stands maker-open timetable-open
 all-agree = tt
 
 -- the one lemma

@@ -88,8 +88,9 @@ starred =
     -- 3. "On F, racks at 0, 1, 2: a first step 0>1, 1>2, 2>0 is 42, step 1." "A first step 0>1, 1>0 is 42, step 1."
     ∷ timetable-checked order₃ ring₃ (refused 42 1)
     ∷ timetable-checked order₄ swap₄ (refused 42 1)
-    -- 4. "Three positions in a ring, one rack: 22." "F with three racks: 20; with two: planned." The buffers are as long as 23 asks.
-    ∷ plan-made threeInRing 327 (refused 22 0)
+    -- 4. Request (d): "The starred case of three positions in a ring with one rack becomes `planned`." "F with three racks: 20; with two:
+    -- planned." The buffers are as long as 23 asks.
+    ∷ plan-made threeInRing 327 planned
     ∷ plan-made threeRacks 771 (refused 20 0)
     ∷ plan-made order₁ 771 planned
     -- 5. "Path 0-1, 1-2, 2-3, one rack: 21."

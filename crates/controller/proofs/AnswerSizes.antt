@@ -33,7 +33,7 @@ use Rattle.motion.specs.Replay.{Replayed, ended, stopped, replayMoves, stepFaul
 use Rattle.motion.proofs.StepDecision.{legalStep?}
 use Rattle.motion.proofs.Test.{cond-either}
 use Rattle.motion.proofs.Lawful.{Stops, stops-some, stepFault-none, stepFault-small, replayMoves-stopped, replaySteps-stopped}
-use Rattle.floor.specs.FloorAnswer.{biConnected?, ring?, holds, floorAnswer}
+use Rattle.floor.specs.FloorAnswer.{biConnected?, disordered?, holds, vacanciesOwed, floorAnswer}
 use Rattle.models.specs.Grid.{unknownModel}
 use Rattle.models.specs.ShortOrder.{modelCode, wrongShort}
 use Rattle.models.specs.Expansion.{fullOrder, expanded, expandAnswer}
@@ -145,9 +145,9 @@ pub floor-sized : (o : List ℕ) → Sized NoCounts (floorAnswer o)
 unfolding floorAnswer
 floor-sized o =
     passUp-sized (orderAnswer o) _ (order-sized o)
-    (λ v e. refuse-sized (ltb (positionCount o) (rackCount o + 2)) 20 0 _ tt tt (lit< tt)
+    (λ v e. refuse-sized (ltb (positionCount o) (rackCount o + vacanciesOwed (floorOf o))) 20 0 _ tt tt (lit< tt)
     (λ _. refuse-sized (not (holds (biConnected? (floorOf o)))) 21 0 _ tt tt (lit< tt)
-    (λ _. refuse-sized (holds (ring? (floorOf o))) 22 0 _ tt tt (lit< tt)
+    (λ _. refuse-sized (holds (disordered? (floorOf o) (rackCount o) (startsOf o) (goalsOf o))) 24 0 _ tt tt (lit< tt)
     (λ _. accepts no-counts))))
 
 pub expand-sized : (s : List ℕ) (n : ℕ) → Sized OneCount (expandAnswer s n)

@@ -21,7 +21,8 @@ use Rattle.plan.specs.Plan.{planRecord}
 use Rattle.plan.proofs.Examples.{plan-open}
 use Rattle.scheduling.proofs.MakerCases.{maker-open}
 use Rattle.scheduling.specs.Maker.{bufferAfter}
-use Rattle.floor.proofs.ExamplesLaws.{twoRacks, plannable-met}
+use Rattle.floor.specs.CaseBookOrders.{threeInRing}
+use Rattle.floor.proofs.ExamplesLaws.{twoRacks, plannable-met, ring-met}
 use Rattle.planner.specs.Moves.{Solves}
 use Rattle.delivery.specs.Delivery.{answered, Answers, Called, Delivered}
 use Rattle.delivery.proofs.DeliveryLaws.{planRoom, delivered, callable}
@@ -39,6 +40,11 @@ room₁ P h = h
 
 pub delivered₁ : (P T : List ℕ) {a : Answers} {P′ T′ : List ℕ} → 771 ≤ length P → Called order₁ P T a P′ T′ → Delivered order₁ P T a P′ T′
 delivered₁ P T h c = delivered order₁ P T c plannable-met (room₁ P h)
+
+-- and so is the ring of three positions with one rack
+pub delivered₂ : (P T : List ℕ) {a : Answers} {P′ T′ : List ℕ} → 327 ≤ length P → Called threeInRing P T a P′ T′
+    → Delivered threeInRing P T a P′ T′
+delivered₂ P T h c = delivered threeInRing P T c ring-met (unfold positionCount field number bitsOf bits in h)
 
 pub solves₁ : Solves order₁ (positionCount order₁) moves₁
 unfolding plan-open

@@ -98,7 +98,8 @@ pub record Delivered (o P T : List ℕ) (a : Answers) (P′ T′ : List ℕ) : T
   pub then : 3 * moves + 3 ≤ length T → TimetableMade o plan moves T (a .maker) (a .checker) T′
 
 -- "For every well-formed order on a bi-connected floor of n positions, n from 4 to 64, that is not a single ring and has at least two
--- vacant positions, given a plan buffer of at least 12 × n × n × n + 3 bytes, whatever it held before"
+-- vacant positions, given a plan buffer of at least 12 × n × n × n + 3 bytes, whatever it held before". Request (d): "The never-fails
+-- result takes in these rings", n from 3 on: `Plannable` is the sum of the two kinds.
 abbrev pub Delivers : List ℕ → List ℕ → List ℕ → Answers → List ℕ → List ℕ → Type 0
 Delivers o P T a P′ T′ =
     let n = positionCount o in Plannable o → 12 * (n * (n * n)) + 3 ≤ length P → Delivered o P T a P′ T′

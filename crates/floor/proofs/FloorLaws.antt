@@ -1,38 +1,47 @@
--- Laws of the planner's judgement as far as 22.
+-- Laws of the planner's judgement before it measures its buffer.
 --
 --     holds-yes, holds-no      a decision says yes of what holds, and no of what does not
 --     holds-true, holds-false  and what it says is so
---     floor-over               above an accepted order the judgement is 20 to 22
+--     floor-over               above an accepted order the judgement is 20, 21 and 24
+--     owed-on, owed-off        how many vacancies a ring owes, and any other floor
 --     plannable, plannable-is  accepted is plannable, and plannable is accepted
---     floorRefusals o          20 to 22
---     plannable-rows           a plannable order's floor, by its rows, is bi-connected and no ring: what crates/breakdown asks of a floor
---     plannable-size           a plannable order's floor has four positions at least, and more edges than positions
+--     floorRefusals o          20, 21 and 24
+--     told-disordered          24 is answered only of a well-formed order whose order round the ring differs
+--     few-never                two racks or fewer never meet 24
+--     onRing-rows              a ring, by its rows, is one
+--     offRing-rows             another floor, by its rows, is bi-connected and no ring: what crates/breakdown asks of a floor
+--     offRing-size             it has four positions at least, and more edges than positions
 -- Assumes nothing.
 use Prim.Native.Nat.{ℕ, zero, suc, _+_, _≤_, _<_}
-use mathlib.Core.Path.{_≡_, refl, sym, ap, _∙_}
-use mathlib.Core.Bool.{true, false, not}
+use mathlib.Core.Path.{_≡_, refl, sym, ap, subst, _∙_}
+use mathlib.Core.Bool.{Bool, true, false, not, cond}
 use mathlib.Core.List.{List, []}
-use mathlib.Core.Logic.{_≢_, by-cases}
+use mathlib.Core.Logic.{_≢_, inl, inr, ⊎-elim, by-cases}
 use native.Mathlib.Decide.{ℕ-discrete}
 use native.Mathlib.Omega.{arith}
 use borrow.Author.Tests.{le-ltb, ltb-false, not-false}
 use lib.ListN.{length, getD}
-use lib.Dec.{ltb}
-use Rattle.answers.specs.Answer.{Answer, accepted, refuse}
-use Rattle.answers.proofs.AnswerLaws.{refuse-not, refuse-else, passUp-low, passUp-high, passUp-accepted}
-use Rattle.order.specs.Order.{positionCount, rackCount, floorOf, counts, orderAnswer}
-use Rattle.order.proofs.OrderLaws.{well-formed, accepted-is}
+use lib.Dec.{ltb, lit<}
+use Rattle.answers.specs.Answer.{Answer, accepted, refused, refuse}
+use Rattle.answers.proofs.AnswerLaws.{not-both, refuse-not, refuse-else, refuse-past}
+use Rattle.answers.proofs.AnswerLaws.{passUp-low, passUp-high, passUp-past, passUp-accepted}
+use Rattle.order.specs.Floor.{Floor}
+use Rattle.order.specs.Order.{positionCount, rackCount, floorOf, startsOf, goalsOf, counts, orderAnswer, WellFormed}
+use Rattle.order.proofs.OrderLaws.{well-formed, accepted-is, order-past}
 use Rattle.tables.proofs.AcceptedLaws.{well-placed}
 use Rattle.sets.proofs.SetLaws.{bit-two}
 use Rattle.graph.specs.Connected.{BiConnected, Ring}
 use Rattle.graph.specs.Rows.{Edge}
 use Rattle.graph.specs.EdgeCount.{rowSum, edgeCount}
 use Rattle.graph.proofs.EdgeCountLaws.{biConnected-edges}
-use Rattle.floor.specs.FloorAnswer.{biConnected?, ring?, holds, floorAnswer}
+use Rattle.floor.specs.FloorAnswer.{Joins, biConnected?, ring?, roundPlace, Disordered, disordered?, holds, vacanciesOwed}
+use Rattle.floor.specs.FloorAnswer.{floorAnswer}
+use Rattle.floor.specs.RoundDecision.{sameOrder?}
+use Rattle.ring.proofs.OrderLaws.{few-ordered}
 use Rattle.order.specs.Tables.{rowsOf}
 use Rattle.floor.proofs.FloorRows.{floor-rows, biConnected-rows}
 use Rattle.floor.proofs.EdgesCounted.{edges-counted, ring-rows}
-use Rattle.floor.specs.Plannable.{Plannable}
+use Rattle.floor.specs.Plannable.{OffRing, OnRing, Plannable}
 
 never : true ≡ false → ⊥
 never e = let z : _≡_ {A = ℕ} 0 1 = cc in omega arith
@@ -54,43 +63,89 @@ module _ {A : Type 0} where
   holds-false (yes a) e x = never e
   holds-false (no f) e x = f x
 
--- 20 to 22
+-- 20, 21 and 24
 abbrev pub floorRefusals : List ℕ → Answer
 floorRefusals o =
-    refuse (ltb (positionCount o) (rackCount o + 2)) 20 0
+    refuse (ltb (positionCount o) (rackCount o + vacanciesOwed (floorOf o))) 20 0
     (refuse (not (holds (biConnected? (floorOf o)))) 21 0
-    (refuse (holds (ring? (floorOf o))) 22 0
+    (refuse (holds (disordered? (floorOf o) (rackCount o) (startsOf o) (goalsOf o))) 24 0
     (accepted [])))
 
 pub floor-over : (o v : List ℕ) → orderAnswer o ≡ accepted v → floorAnswer o ≡ floorRefusals o
 unfolding floorAnswer
 floor-over o v a = passUp-accepted (orderAnswer o) (floorRefusals o) v a
 
+module _ (F : Floor) where
+  pub owed-on : Ring (F .positions) (Joins F) (length (F .edges)) → vacanciesOwed F ≡ 1
+  owed-on r = ap (λ (b : Bool). cond b 1 2) (holds-yes (ring? F) r)
+
+  pub owed-off : (Ring (F .positions) (Joins F) (length (F .edges)) → ⊥) → vacanciesOwed F ≡ 2
+  owed-off f = ap (λ (b : Bool). cond b 1 2) (holds-no (ring? F) f)
+
 pub plannable : (o v : List ℕ) → floorAnswer o ≡ accepted v → Plannable o
 unfolding floorAnswer
 plannable o v e =
-    let a₂ = refuse (holds (ring? (floorOf o))) 22 0 (accepted []) in
-    let a₁ = refuse (not (holds (biConnected? (floorOf o)))) 21 0 a₂ in
+    let F = floorOf o in
+    let crowded = ltb (positionCount o) (rackCount o + vacanciesOwed F) in
+    let disordered = disordered? F (rackCount o) (startsOf o) (goalsOf o) in
+    let a₂ = refuse (holds disordered) 24 0 (accepted []) in
+    let a₁ = refuse (not (holds (biConnected? F))) 21 0 a₂ in
     let low = passUp-low (orderAnswer o) (floorRefusals o) v e in
     let e₀ : floorRefusals o ≡ accepted v = passUp-high (orderAnswer o) (floorRefusals o) v e in
-    let e₁ : a₁ ≡ accepted v = refuse-else (ltb (positionCount o) (rackCount o + 2)) 20 0 a₁ v e₀ in
-    let e₂ : a₂ ≡ accepted v = refuse-else (not (holds (biConnected? (floorOf o)))) 21 0 a₂ v e₁ in
+    let e₁ : a₁ ≡ accepted v = refuse-else crowded 20 0 a₁ v e₀ in
+    let e₂ : a₂ ≡ accepted v = refuse-else (not (holds (biConnected? F))) 21 0 a₂ v e₁ in
+    let room = ltb-false (positionCount o) (rackCount o + vacanciesOwed F) (refuse-not crowded 20 0 a₁ v e₀) in
+    let ordered = holds-false disordered (refuse-not (holds disordered) 24 0 (accepted []) v e₂) in
     record {
       right = well-formed o (low .0) (low .1);
-      vacancies = ltb-false (positionCount o) (rackCount o + 2) (refuse-not (ltb (positionCount o) (rackCount o + 2)) 20 0 a₁ v e₀);
-      biConnected = holds-true (biConnected? (floorOf o))
-          (not-false (holds (biConnected? (floorOf o))) (refuse-not (not (holds (biConnected? (floorOf o)))) 21 0 a₂ v e₁));
-      noRing = holds-false (ring? (floorOf o)) (refuse-not (holds (ring? (floorOf o))) 22 0 (accepted []) v e₂);
+      biConnected = holds-true (biConnected? F) (not-false (holds (biConnected? F)) (refuse-not (not (holds
+          (biConnected? F))) 21 0 a₂ v e₁));
+      kind = by-cases (ring? F)
+          (λ r. inr (record {
+            ring = r;
+            vacancy = subst (λ (k : ℕ). rackCount o + k ≤ positionCount o) (owed-on F r) room;
+            order = by-cases (sameOrder? (rackCount o) (roundPlace F (startsOf o)) (roundPlace F (goalsOf o))) (λ s. s)
+                (λ f. absurd (ordered (record { ring = r; other = f })));
+          }))
+          (λ f. inl (record { noRing = f; vacancies = subst (λ (k : ℕ). rackCount o + k ≤ positionCount o) (owed-off F f) room }));
     }
 
 pub plannable-is : (o : List ℕ) → Plannable o → floorAnswer o ≡ accepted []
 plannable-is o p =
+    let F = floorOf o in
+    let disordered = disordered? F (rackCount o) (startsOf o) (goalsOf o) in
     floor-over o (counts o) (accepted-is o (p .right))
-    ∙ rw (
-      le-ltb (positionCount o) (rackCount o + 2) (p .vacancies),
-      holds-yes (biConnected? (floorOf o)) (p .biConnected),
-      holds-no (ring? (floorOf o)) (p .noRing),
-    ) refl
+    ∙ ⊎-elim
+    (λ k. rw (
+      le-ltb (positionCount o) (rackCount o + vacanciesOwed F)
+          (subst (λ (x : ℕ). rackCount o + x ≤ positionCount o) (sym (owed-off F (k .noRing))) (k .vacancies)),
+      holds-yes (biConnected? F) (p .biConnected),
+      holds-no disordered (λ d. k .noRing (d .ring)),
+    ) refl)
+    (λ k. rw (
+      le-ltb (positionCount o) (rackCount o + vacanciesOwed F)
+          (subst (λ (x : ℕ). rackCount o + x ≤ positionCount o) (sym (owed-on F (k .ring))) (k .vacancy)),
+      holds-yes (biConnected? F) (p .biConnected),
+      holds-no disordered (λ d. d .other (k .order)),
+    ) refl)
+    (p .kind)
+
+pub told-disordered : (o : List ℕ) → floorAnswer o ≡ refused 24 0
+    → WellFormed o × Disordered (floorOf o) (rackCount o) (startsOf o) (goalsOf o)
+unfolding floorAnswer
+told-disordered o e =
+    let F = floorOf o in
+    let below = passUp-past (orderAnswer o) (floorRefusals o) 24 0 (order-past o 24 0 (lit< tt)) e in
+    let t₀ = refuse-past (ltb (positionCount o) (rackCount o + vacanciesOwed F)) 20 0 _ 24 0 (λ z. omega arith) (below .1) in
+    let t₁ = refuse-past (not (holds (biConnected? F))) 21 0 _ 24 0 (λ z. omega arith) (t₀ .1) in
+    (well-formed o (below .0 .0) (below .0 .1), told (disordered? F (rackCount o) (startsOf o) (goalsOf o)) (t₁ .1))
+  where
+    told : {A : Type 0} (d : Dec A) → refuse (holds d) 24 0 (accepted []) ≡ refused 24 0 → A
+    told (yes a) e = a
+    told (no f) e = absurd (not-both 24 0 [] (sym e))
+
+pub few-never : (o : List ℕ) → rackCount o ≤ 2 → floorAnswer o ≢ refused 24 0
+few-never o l e = told-disordered o e .1 .other (few-ordered (rackCount o) _ _ l)
 
 -- no more positions below k are joined to a than there are
 row-most : (g : List ℕ) (a k : ℕ) → rowSum g a k ≤ k
@@ -118,22 +173,28 @@ four n g l h =
     omega arith)
     (λ d. omega arith)
 
-module _ (o : List ℕ) (p : Plannable o) where
-  pub plannable-rows :
+pub onRing-rows : (o : List ℕ) → WellFormed o → OnRing o
+    → Ring (floorOf o .positions) (Edge (rowsOf (floorOf o))) (edgeCount (rowsOf (floorOf o)) (floorOf o .positions))
+onRing-rows o right k =
+    let w = well-placed o right in
+    ring-rows (floorOf o) (w .edges-below) (w .edges-right) .1 (k .ring)
+
+module _ (o : List ℕ) (p : Plannable o) (k : OffRing o) where
+  pub offRing-rows :
       BiConnected (floorOf o .positions) (Edge (rowsOf (floorOf o)))
       × (Ring (floorOf o .positions) (Edge (rowsOf (floorOf o))) (edgeCount (rowsOf (floorOf o)) (floorOf o .positions)) → ⊥)
-  plannable-rows =
+  offRing-rows =
       let w = well-placed o (p .right) in (
         biConnected-rows (floorOf o) (w .edges-below) .1 (p .biConnected),
-        λ r. p .noRing (ring-rows (floorOf o) (w .edges-below) (w .edges-right) .0 r),
+        λ r. k .noRing (ring-rows (floorOf o) (w .edges-below) (w .edges-right) .0 r),
       )
 
-  pub plannable-size : (4 ≤ floorOf o .positions) × (floorOf o .positions < length (floorOf o .edges))
-  plannable-size =
+  pub offRing-size : (4 ≤ floorOf o .positions) × (floorOf o .positions < length (floorOf o .edges))
+  offRing-size =
       let w = well-placed o (p .right) in
       let rows = floor-rows (floorOf o) (w .edges-below) (w .few-positions) (w .edges-right) in
       let counted = edges-counted (floorOf o) (w .edges-below) (w .edges-right) in
-      let least = biConnected-edges rows (plannable-rows .0) in
-      let other : length (floorOf o .edges) ≢ floorOf o .positions = λ e. p .noRing (record { biConnected = p .biConnected; count = e }) in
+      let least = biConnected-edges rows (offRing-rows .0) in
+      let other : length (floorOf o .edges) ≢ floorOf o .positions = λ e. k .noRing (record { biConnected = p .biConnected; count = e }) in
       let more : floorOf o .positions < edgeCount (rowsOf (floorOf o)) (floorOf o .positions) = omega arith in
       (four (floorOf o .positions) (rowsOf (floorOf o)) (p .biConnected .three) more, omega arith)

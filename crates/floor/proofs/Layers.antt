@@ -2,14 +2,15 @@
 --
 --     order-refused     a refusal of the order reader is the answer
 --     gave              what an accepted order tells
---     crowded           20
+--     crowded           20 off rings
+--     ring-full, ring-other, ring-plain    on a ring 20, 24, and acceptance
 --     counts-are, handed    the counts that an acceptance hands on
 --     refused-too, order-handed    a refusal hands on no counts
---     rows-right        the rows that the order's edges fill are those of a floor
---     apart, ring, plain    21, 22, and acceptance, from what the search of the rows says
+--     rows-right, rows-counted, rings, ring-tables    the rows that the order's edges fill are those of its floor
+--     apart, plain      off rings 21, and acceptance, from what the search of the rows says
 -- Assumes nothing.
 use Prim.Native.Nat.{ℕ, _+_, _≤_, _<_}
-use mathlib.Core.Path.{_≡_, refl, sym, ap, _∙_}
+use mathlib.Core.Path.{_≡_, refl, sym, ap, ap₂, _∙_}
 use mathlib.Core.Bool.{Bool, true, false}
 use mathlib.Core.List.{List, [], _∷_}
 use mathlib.Core.Logic.{_↔_}
@@ -20,17 +21,20 @@ use lib.Dec.{ltb}
 use Rattle.answers.specs.Answer.{Answer, accepted, refused, passUp}
 use Rattle.answers.proofs.AnswerLaws.{passUp-refused}
 use Rattle.field.proofs.RecordLaws.{length-pairs}
-use Rattle.order.specs.Order.{positionCount, edgeCount, rackCount, floorOf, counts, orderAnswer}
+use Rattle.order.specs.Order.{positionCount, edgeCount, rackCount, floorOf, startsOf, goalsOf, counts, orderAnswer}
 use Rattle.tables.specs.Accepted.{OrderGave}
 use Rattle.tables.proofs.AcceptedLaws.{order-gave}
-use Rattle.graph.specs.Connected.{BiConnected}
+use Rattle.graph.specs.Connected.{BiConnected, Ring}
+use Rattle.graph.specs.EdgeCount.{edgeCount as edgesIn}
 use Rattle.graph.specs.Rows.{Edge, Rows}
-use Rattle.floor.specs.FloorAnswer.{Joins, biConnected?, ring?, holds, floorAnswer}
-use Rattle.order.specs.Tables.{rowsOf, decodedRows}
+use Rattle.floor.specs.FloorAnswer.{Joins, SameRound, biConnected?, disordered?, vacanciesOwed, holds, floorAnswer}
+use Rattle.order.specs.Tables.{rowsOf, decodedRows, decodedStarts, decodedGoals}
+use Rattle.floor.specs.RingTables.{RingTables}
 use Rattle.floor.proofs.FloorRows.{biConnected-rows, filled-is, filled-rows}
-use Rattle.floor.proofs.FloorLaws.{holds-yes, holds-no, floorRefusals, floor-over}
+use Rattle.floor.proofs.FloorLaws.{holds-yes, holds-no, floorRefusals, floor-over, owed-on, owed-off}
+use Rattle.floor.proofs.EdgesCounted.{edges-counted, ring-rows}
 
-edges-length : (o : List ℕ) → length (floorOf o .edges) ≡ edgeCount o
+pub edges-length : (o : List ℕ) → length (floorOf o .edges) ≡ edgeCount o
 unfolding floorOf
 edges-length o = length-pairs o 24 (edgeCount o)
 
@@ -74,11 +78,50 @@ module _ (o : List ℕ) (n e m : ℕ) (a : accepted (n ∷ e ∷ m ∷ []) ≡ o
   pub handed : accepted [] ≡ floorAnswer o → accepted (n ∷ e ∷ m ∷ []) ≡ passUp (floorAnswer o) (accepted (counts o))
   handed up = ap accepted counts-are ∙ ap (λ (b : Answer). passUp b (accepted (counts o))) up
 
-  pub crowded : n < m + 2 → refused 20 0 ≡ floorAnswer o
-  crowded h =
+  abbrev pub RingFloor : Type 0
+  RingFloor = Ring (floorOf o .positions) (Joins (floorOf o)) (length (floorOf o .edges))
+
+  abbrev pub Order : Type 0
+  Order = SameRound (floorOf o) (rackCount o) (startsOf o) (goalsOf o)
+
+  -- 20 by the counts
+  full : (k : ℕ) → vacanciesOwed (floorOf o) ≡ k → n < m + k → ltb (positionCount o) (rackCount o + vacanciesOwed (floorOf o)) ≡ true
+  full k owed h =
       let p = gave .positions-are ∙ positions-are o in
       let r = gave .racks-are in
-      sym (over ∙ rw (lt-ltb (positionCount o) (rackCount o + 2) (omega arith)) refl)
+      lt-ltb (positionCount o) (rackCount o + vacanciesOwed (floorOf o)) (omega arith)
+
+  vacant : (k : ℕ) → vacanciesOwed (floorOf o) ≡ k → m + k ≤ n → ltb (positionCount o) (rackCount o + vacanciesOwed (floorOf o)) ≡ false
+  vacant k owed h =
+      let p = gave .positions-are ∙ positions-are o in
+      let r = gave .racks-are in
+      le-ltb (positionCount o) (rackCount o + vacanciesOwed (floorOf o)) (omega arith)
+
+  pub crowded : (RingFloor → ⊥) → n < m + 2 → refused 20 0 ≡ floorAnswer o
+  crowded off h = sym (over ∙ rw (full 2 (owed-off (floorOf o) off) h) refl)
+
+  pub ring-full : RingFloor → n ≤ m → refused 20 0 ≡ floorAnswer o
+  ring-full ring h = sym (over ∙ rw (full 1 (owed-on (floorOf o) ring) (omega arith)) refl)
+
+  pub ring-other : RingFloor → m < n → (Order → ⊥) → refused 24 0 ≡ floorAnswer o
+  ring-other ring h other =
+      sym
+      (over
+      ∙ rw (
+        vacant 1 (owed-on (floorOf o) ring) (omega arith),
+        holds-yes (biConnected? (floorOf o)) (ring .biConnected),
+        holds-yes (disordered? (floorOf o) (rackCount o) (startsOf o) (goalsOf o)) (record { ring = ring; other = other }),
+      ) refl)
+
+  pub ring-plain : RingFloor → m < n → Order → accepted [] ≡ floorAnswer o
+  ring-plain ring h same =
+      sym
+      (over
+      ∙ rw (
+        vacant 1 (owed-on (floorOf o) ring) (omega arith),
+        holds-yes (biConnected? (floorOf o)) (ring .biConnected),
+        holds-no (disordered? (floorOf o) (rackCount o) (startsOf o) (goalsOf o)) (λ d. d .other same),
+      ) refl)
 
   module _ (g : List ℕ) (filled : g ≡ decodedRows o) where
     rows-are : g ≡ rowsOf (floorOf o)
@@ -87,40 +130,46 @@ module _ (o : List ℕ) (n e m : ℕ) (a : accepted (n ∷ e ∷ m ∷ []) ≡ o
     pub rows-right : Rows n g
     rows-right = filled-rows o n e m gave g filled
 
-    module _ (room : m + 2 ≤ n) (r : Bool) (t : (r ≡ true) ↔ BiConnected n (Edge g)) where
+    pub rows-counted : e ≡ edgesIn g n
+    rows-counted =
+        let w = gave .placed-well in
+        let c = edges-counted (floorOf o) (w .edges-below) (w .edges-right) in
+        gave .edges-are ∙ sym (edges-length o) ∙ sym c ∙ ap₂ (λ (x : List ℕ) (k : ℕ). edgesIn x k) (sym rows-are) (sym
+        (gave .positions-are))
+
+    pub rings : Ring n (Edge g) (edgesIn g n) ↔ RingFloor
+    rings =
+        let w = gave .placed-well in
+        rw (gave .positions-are, rows-are) (ring-rows (floorOf o) (w .edges-below) (w .edges-right))
+
+    pub ring-tables : Ring n (Edge g) (edgesIn g n) → m < n → (h k : List ℕ) → h ≡ decodedStarts o → k ≡ decodedGoals o
+        → RingTables o n m g h k
+    ring-tables ring less h k starts goals =
+        record { edges = e; gave = gave; rings = ring; less = less; rows-are = filled; starts-are = starts; goals-are = goals }
+
+    module _ (off : RingFloor → ⊥) (room : m + 2 ≤ n) (r : Bool) (t : (r ≡ true) ↔ BiConnected n (Edge g)) where
       same : BiConnected n (Edge g) ↔ BiConnected (floorOf o .positions) (Joins (floorOf o))
       same =
           rw (gave .positions-are, rows-are) (biConnected-rows (floorOf o) (gave .placed-well .edges-below))
 
-      vacant : ltb (positionCount o) (rackCount o + 2) ≡ false
-      vacant =
-          let p = gave .positions-are ∙ positions-are o in
-          let r = gave .racks-are in
-          le-ltb (positionCount o) (rackCount o + 2) (omega arith)
-
-      found : r ≡ true → holds (biConnected? (floorOf o)) ≡ true
-      found y = holds-yes (biConnected? (floorOf o)) (same .0 (t .0 y))
-
-      count-is : length (floorOf o .edges) ≡ e
-      count-is = edges-length o ∙ sym (gave .edges-are)
-
       pub apart : r ≡ false → refused 21 0 ≡ floorAnswer o
-      apart f = sym (over ∙ rw (vacant, holds-no (biConnected? (floorOf o)) (λ b. never (sym f ∙ t .1 (same .1 b)))) refl)
+      apart f =
+          sym
+          (over
+          ∙ rw (
+            vacant 2 (owed-off (floorOf o) off) room,
+            holds-no (biConnected? (floorOf o)) (λ b. never (sym f ∙ t .1 (same .1 b))),
+          ) refl)
         where
           never : false ≡ true → ⊥
           never z = let w : _≡_ {A = ℕ} 0 1 = cc in omega arith
 
-      pub ring : r ≡ true → e ≡ n → refused 22 0 ≡ floorAnswer o
-      ring y s =
+      pub plain : r ≡ true → accepted [] ≡ floorAnswer o
+      plain y =
           sym
           (over
           ∙ rw (
-            vacant,
-            found y,
-            holds-yes (ring? (floorOf o)) (record { biConnected = same .0 (t .0 y); count = count-is ∙ s ∙ gave .positions-are }),
+            vacant 2 (owed-off (floorOf o) off) room,
+            holds-yes (biConnected? (floorOf o)) (same .0 (t .0 y)),
+            holds-no (disordered? (floorOf o) (rackCount o) (startsOf o) (goalsOf o)) (λ d. off (d .ring)),
           ) refl)
-
-      pub plain : r ≡ true → (e ≡ n → ⊥) → accepted [] ≡ floorAnswer o
-      plain y d =
-          sym
-          (over ∙ rw (vacant, found y, holds-no (ring? (floorOf o)) (λ x. d (sym count-is ∙ x .count ∙ sym (gave .positions-are)))) refl)

@@ -3,3 +3,4 @@ pub mod EdgesCounted
 pub mod ExamplesLaws
 pub mod FloorLaws
 pub mod FloorRows
+pub mod RoundTables

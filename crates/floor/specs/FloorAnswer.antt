@@ -1,25 +1,35 @@
--- The planner's judgement of an order as far as 22, from document 01, "The floor" and "Returned numbers".
+-- The planner's judgement of an order before it measures its buffer, from document 01, "The floor" and "Returned numbers", and request (d),
+-- "Ring floors".
 --
 --     Joins F a b        an edge of the floor F joins a and b
 --     passes? t          the test t passes or not
 --     biConnected? F     the floor F is bi-connected or not
 --     ring? F            the floor F is a ring or not
+--     roundPlace F A r   where on the circle of the ring F rack r of the arrangement A stands
+--     SameRound F m A B  the racks 1 to m stand in the same order round the ring F in A and in B
+--     Disordered F m A B     F is a ring, and round it they do not
+--     disordered? F m A B    that is so or not
 --     holds d            the decision d says yes
---     floorAnswer o      the answer for the order o: the order reader's refusal, else the first of 20 to 22 that applies, else accepted
--- What a decision decides is its type: `BiConnected` and `Ring` are defined by walks (crates/graph, Connected). How it does so
--- (WayDecision) is no part of what is promised.
+--     vacanciesOwed F    how many positions of the floor F have to be vacant
+--     floorAnswer o      the answer for the order o: the order reader's refusal, else the first of 20, 21, 24 that applies, else accepted
+-- What a decision decides is its type: `BiConnected` and `Ring` are defined by walks (crates/graph, Connected), `SameOrder` by any three
+-- racks (crates/ring, Order). How it does so (WayDecision, RoundDecision) is no part of what is promised.
 -- Assumes nothing.
 use Prim.Native.Nat.{ℕ, _+_}
-use mathlib.Core.Bool.{Bool, true, false, not}
+use mathlib.Core.Bool.{Bool, true, false, not, cond}
 use mathlib.Core.List.{List, []}
 use native.Mathlib.Decide.{ℕ-discrete}
 use lib.ListN.{length}
 use lib.Dec.{T, ltb}
 use Rattle.answers.specs.Answer.{Answer, accepted, refuse, passUp}
 use Rattle.order.specs.Floor.{Floor, joined}
-use Rattle.order.specs.Order.{positionCount, rackCount, floorOf, orderAnswer}
+use Rattle.order.specs.Order.{positionCount, rackCount, floorOf, startsOf, goalsOf, orderAnswer}
+use Rattle.motion.specs.Arrangement.{Arrangement, stands}
 use Rattle.graph.specs.Connected.{BiConnected, Ring}
-use Rattle.floor.specs.WayDecision.{alike?, both?, decideBiConnected}
+use Rattle.ring.specs.Circle.{roundOf, placeIn}
+use Rattle.ring.specs.Order.{SameOrder}
+use Rattle.floor.specs.WayDecision.{alike?, both?, not?, decideBiConnected}
+use Rattle.floor.specs.RoundDecision.{sameOrder?}
 
 abbrev pub Joins : Floor → ℕ → ℕ → Type 0
 Joins F a b = T (joined F a b)
@@ -37,19 +47,41 @@ biConnected? F = decideBiConnected (F .positions) (Joins F) (λ a b. passes? (jo
 unfoldable pub ring? : (F : Floor) → Dec (Ring (F .positions) (Joins F) (length (F .edges)))
 unfolding ℕ-discrete alike? both? biConnected?
 ring? F =
-    alike? (λ h. record { biConnected = h .0; count = h .1 }) (λ r. (r .biConnected, r .count))
-    (both? (biConnected? F) (ℕ-discrete (length (F .edges)) (F .positions)))
+    alike? (λ h. record { biConnected = h .1; count = h .0 }) (λ r. (r .count, r .biConnected))
+    (both? (ℕ-discrete (length (F .edges)) (F .positions)) (biConnected? F))
+
+-- the n positions of a ring are read round it from position 0 on, towards the lower of its two neighbours (crates/ring, Circle)
+unfoldable pub roundPlace : Floor → Arrangement → ℕ → ℕ
+roundPlace F A r = placeIn (roundOf (F .positions) (joined F)) (stands A r)
+
+-- "whenever the racks stand in the same order round it at start and goal"
+abbrev pub SameRound : Floor → ℕ → Arrangement → Arrangement → Type 0
+SameRound F m A B = SameOrder m (roundPlace F A) (roundPlace F B)
+
+pub record Disordered (F : Floor) (m : ℕ) (A B : Arrangement) : Type 0 where
+  pub ring : Ring (F .positions) (Joins F) (length (F .edges))
+  pub other : SameRound F m A B → ⊥
+
+unfoldable pub disordered? : (F : Floor) (m : ℕ) (A B : Arrangement) → Dec (Disordered F m A B)
+unfolding alike? both? ring? not?
+disordered? F m A B =
+    alike? (λ h. record { ring = h .0; other = h .1 }) (λ d. (d .ring, d .other))
+    (both? (ring? F) (not? (sameOrder? m (roundPlace F A) (roundPlace F B))))
 
 abbrev pub holds : {A : Type 0} → Dec A → Bool
 holds (yes a) = true
 holds (no f) = false
 
--- "The lowest number that applies is returned, from these sets: planner 10 to 14 and 20 to 23". The place is 0.
--- 20: "m + 2 is above n"; 21: "floor not bi-connected"; 22: "floor is a ring"
+-- 20: "m + 2 is above n"; "On a ring, 20 is given only when no position is vacant."
+abbrev pub vacanciesOwed : Floor → ℕ
+vacanciesOwed F = cond (holds (ring? F)) 1 2
+
+-- "The lowest number that applies is returned, from these sets: planner 10 to 14 and 20 to 23". The place is 0. "22 is no longer met."
+-- 21: "floor not bi-connected"; "24 the order round the ring differs; after 21, before 23"
 unfoldable pub floorAnswer : List ℕ → Answer
 floorAnswer o =
     passUp (orderAnswer o)
-    (refuse (ltb (positionCount o) (rackCount o + 2)) 20 0
+    (refuse (ltb (positionCount o) (rackCount o + vacanciesOwed (floorOf o))) 20 0
     (refuse (not (holds (biConnected? (floorOf o)))) 21 0
-    (refuse (holds (ring? (floorOf o))) 22 0
+    (refuse (holds (disordered? (floorOf o) (rackCount o) (startsOf o) (goalsOf o))) 24 0
     (accepted []))))

@@ -1,5 +1,7 @@
 pub mod FloorAnswer
 pub mod Verdict
 pub mod WayDecision
+pub mod RoundDecision
+pub mod RingTables
 pub mod Plannable
 pub mod CaseBookOrders

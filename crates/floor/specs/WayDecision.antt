@@ -1,8 +1,8 @@
 -- Whether a way leads from one position to another, decided on a finite floor: Warshall's recursion over the highest inner position.
 -- Nothing here is part of a promise: a decision is believed by its type.
 --
---     alike?, either?, both?, implies?, every?   decisions put together: what holds with another, one of two, both, one if the
---                                                other, all numbers below n
+--     alike?, either?, both?, not?, implies?, every?   decisions put together: what holds with another, one of two, both, what does
+--                                                not hold, one if the other, all numbers below n
 --     Through E P k a b       a is b, or an edge or a way leads from a to b whose inner positions are allowed by P and below k
 --     through-way             from one allowed position to another it is a way
 --     through-on              two of them that meet at an allowed position below k are one
@@ -37,6 +37,10 @@ unfoldable pub both? : {A B : Type 0} → Dec A → Dec B → Dec (A × B)
 both? (no f) d = no (λ p. f (p .0))
 both? (yes a) (no g) = no (λ p. g (p .1))
 both? (yes a) (yes b) = yes (a, b)
+
+unfoldable pub not? : {A : Type 0} → Dec A → Dec (A → ⊥)
+not? (yes a) = no (λ f. f a)
+not? (no f) = yes f
 
 unfoldable pub implies? : {A B : Type 0} → Dec A → (A → Dec B) → Dec (A → B)
 implies? {A} {B} (no f) d = yes (λ a. absurd (f a))

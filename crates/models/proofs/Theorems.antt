@@ -1,18 +1,19 @@
 -- Every order on a model's floor, whoever wrote it and with any number of racks, is planned where two positions are vacant.
 --
 --     same-floor          such an order's floor is the model's, edge for edge
---     never-turned        21 and 22 never apply to it
+--     never-turned        21, 22 and 24 never apply to it
 --     model-plannable     with m + 2 at most n nothing turns it away before the plan buffer is measured: the never-fails theorem applies
 --     model-planned       so the planner's judgement before it measures is acceptance
 --     full-sound          what a short order that is accepted stands for
 --     written-out         what is written is well formed, on the model's floor, and reads back
 --     one-short           two accepted short orders that are written out as the same record are the same bytes
---     short-never-turned, short-plannable    so 21 and 22 never apply to what is written, and with two vacancies it is planned
+--     short-never-turned, short-plannable    so 21, 22 and 24 never apply to what is written, and with two vacancies it is planned
 -- Assumes nothing.
 use Prim.Native.Nat.{ℕ, _+_, _≤_}
 use mathlib.Core.Path.{_≡_, refl, sym, ap, subst, _∙_}
 use mathlib.Core.Bool.{Bool, true, false, not}
 use mathlib.Core.List.{List, []}
+use mathlib.Core.Logic.{inl}
 use native.Mathlib.Omega.{arith}
 use lib.ListN.{length}
 use lib.Dec.{ltb}
@@ -20,15 +21,16 @@ use Rattle.answers.specs.Answer.{Answer, accepted, refused, refuse}
 use Rattle.field.specs.Bytes.{Bytes}
 use Rattle.field.proofs.UnitLaws.{or-left, or-right}
 use Rattle.order.specs.Floor.{Floor, joined}
-use Rattle.order.specs.Order.{Order, positionCount, rackCount, floorOf, orderOf, counts, wrongPlaces, wrongRacks, WellFormed}
+use Rattle.order.specs.Order.{Order, positionCount, rackCount, floorOf, startsOf, goalsOf, orderOf, counts, wrongPlaces, wrongRacks}
+use Rattle.order.specs.Order.{WellFormed}
 use Rattle.order.proofs.Written.{SoundOrder, record-read, record-sound}
 use Rattle.order.proofs.OrderLaws.{accepted-is}
 use Rattle.order.proofs.Theorems.{same-edges}
 use Rattle.graph.specs.Connected.{BiConnected, Ring}
 use Rattle.tables.proofs.AcceptedLaws.{well-placed}
-use Rattle.floor.specs.FloorAnswer.{Joins, biConnected?, ring?, holds, floorAnswer}
+use Rattle.floor.specs.FloorAnswer.{Joins, biConnected?, disordered?, floorAnswer}
 use Rattle.floor.specs.Plannable.{Plannable}
-use Rattle.floor.proofs.FloorLaws.{holds-yes, holds-no, floor-over, plannable-is}
+use Rattle.floor.proofs.FloorLaws.{holds-yes, holds-no, owed-off, floor-over, plannable-is}
 use Rattle.models.specs.Grid.{unknownModel, modelFloor}
 use Rattle.models.specs.ShortOrder.{modelCode, shortStarts, shortGoals, shortOf, wrongShort}
 use Rattle.models.specs.Expansion.{fullOrder, expanded, expandAnswer}
@@ -52,14 +54,23 @@ module _ (o : List ℕ) (k : ℕ) (h : HasModel o k) where
   order-noRing : Ring (floorOf o .positions) (Joins (floorOf o)) (length (floorOf o .edges)) → ⊥
   order-noRing = subst (λ (F : Floor). Ring (F .positions) (Joins F) (length (F .edges)) → ⊥) (sym same-floor) (model-noRing k (h .known))
 
-  -- only 20 is left of 20 to 22
+  -- only 20 is left of 20, 21 and 24
   crowded-or-accepted : floorAnswer o ≡ refuse (ltb (positionCount o) (rackCount o + 2)) 20 0 (accepted [])
   crowded-or-accepted =
       floor-over o (counts o) (accepted-is o (h .right))
-      ∙ rw (holds-yes (biConnected? (floorOf o)) order-biConnected, holds-no (ring? (floorOf o)) order-noRing) refl
+      ∙ rw (
+        owed-off (floorOf o) order-noRing,
+        holds-yes (biConnected? (floorOf o)) order-biConnected,
+        holds-no (disordered? (floorOf o) (rackCount o) (startsOf o) (goalsOf o)) (λ d. order-noRing (d .ring)),
+      ) refl
 
   pub never-turned : NeverTurned o
-  never-turned = record { not-21 = λ place e. never 21 place (λ x. omega arith) e; not-22 = λ place e. never 22 place (λ x. omega arith) e }
+  never-turned =
+      record {
+        not-21 = λ place e. never 21 place (λ x. omega arith) e;
+        not-22 = λ place e. never 22 place (λ x. omega arith) e;
+        not-24 = λ place e. never 24 place (λ x. omega arith) e;
+      }
     where
       neither : (t : Bool) (number place : ℕ) → (number ≡ 20 → ⊥) → refuse t 20 0 (accepted []) ≡ refused number place → ⊥
       neither true number place d e = d (let same : number ≡ 20 = cc in same)
@@ -69,7 +80,12 @@ module _ (o : List ℕ) (k : ℕ) (h : HasModel o k) where
       never number place d e = neither (ltb (positionCount o) (rackCount o + 2)) number place d (sym crowded-or-accepted ∙ e)
 
   pub model-plannable : rackCount o + 2 ≤ positionCount o → Plannable o
-  model-plannable vacancies = record { right = h .right; vacancies = vacancies; biConnected = order-biConnected; noRing = order-noRing }
+  model-plannable vacancies = record {
+    right = h .right;
+    biConnected = order-biConnected;
+    kind = inl
+        (record { noRing = order-noRing; vacancies = vacancies });
+  }
 
   pub model-planned : rackCount o + 2 ≤ positionCount o → floorAnswer o ≡ accepted []
   model-planned vacancies = plannable-is o (model-plannable vacancies)

@@ -3,16 +3,18 @@
 --     no-positions, many-positions, right-positions    11, from the facts
 --     RightHead s, right-head                          what 10 and 11 leave of a head
 --     well-formed, accepted-is                         accepted is well formed, and well formed is accepted
+--     order-past                                       no number above 14 is the order reader's
 -- Assumes nothing.
 use Prim.Native.Nat.{ℕ, _≤_, _<_}
-use mathlib.Core.Path.{_≡_}
+use mathlib.Core.Path.{_≡_, sym}
 use mathlib.Core.Bool.{true, false, or-true}
 use mathlib.Core.List.{List}
+use mathlib.Core.Logic.{_≢_}
 use native.Mathlib.Omega.{arith}
 use borrow.Author.Tests.{lt-ltb, le-ltb, eq-eqb, ne-eqb, ltb-false, eqb-false}
 use lib.Dec.{ltb, eqb}
-use Rattle.answers.specs.Answer.{accepted, refuse}
-use Rattle.answers.proofs.AnswerLaws.{refuse-not, refuse-else}
+use Rattle.answers.specs.Answer.{accepted, refused, refuse}
+use Rattle.answers.proofs.AnswerLaws.{refuse-not, refuse-else, refuse-past, not-both}
 use Rattle.field.proofs.UnitLaws.{Fitting, fitting, or-left, or-right}
 use Rattle.order.specs.Order.{positionCount, unitCount, wrongLength, wrongPositions, paddingSet, wrongEdges, wrongRacks, floorOf}
 use Rattle.order.specs.Order.{orderOf, counts, orderAnswer, WellFormed}
@@ -67,3 +69,13 @@ well-formed s v e =
       edges-right = refuse-not (wrongEdges (floorOf s)) 13 0 a₄ v e₃;
       racks-right = refuse-not (wrongRacks (orderOf s)) 14 0 (accepted (counts s)) v e₄;
     }
+
+pub order-past : (s : List ℕ) (f j : ℕ) → 14 < f → orderAnswer s ≢ refused f j
+unfolding orderAnswer
+order-past s f j l e =
+    let t₀ = refuse-past (wrongLength s) 10 0 _ f j (λ z. omega arith) e in
+    let t₁ = refuse-past (wrongPositions s) 11 0 _ f j (λ z. omega arith) (t₀ .1) in
+    let t₂ = refuse-past (paddingSet s) 12 0 _ f j (λ z. omega arith) (t₁ .1) in
+    let t₃ = refuse-past (wrongEdges (floorOf s)) 13 0 _ f j (λ z. omega arith) (t₂ .1) in
+    let t₄ = refuse-past (wrongRacks (orderOf s)) 14 0 _ f j (λ z. omega arith) (t₃ .1) in
+    not-both f j (counts s) (sym (t₄ .1))

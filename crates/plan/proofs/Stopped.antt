@@ -9,13 +9,12 @@ use Prim.Native.Nat.{ℕ, _≤_}
 use mathlib.Core.Bool.{false}
 use mathlib.Core.List.{List, [], _∷_}
 use mathlib.Core.Logic.{_↔_, _≢_}
-use mathlib.Core.Path.{_≡_, sym, _∙_}
+use mathlib.Core.Path.{_≡_, _∙_}
 use native.Mathlib.Omega.{arith}
 use Rattle.answers.specs.Answer.{refused}
-use Rattle.answers.proofs.AnswerLaws.{not-both, refuse-past, passUp-past, passUp-accepted}
-use Rattle.order.specs.Order.{floorOf, startsOf, goalsOf, orderOf, counts, wrongLength, wrongPositions, paddingSet, wrongEdges, wrongRacks}
-use Rattle.order.specs.Order.{orderAnswer, WellFormed}
-use Rattle.order.proofs.OrderLaws.{well-formed, accepted-is}
+use Rattle.answers.proofs.AnswerLaws.{refuse-past, passUp-past, passUp-accepted}
+use Rattle.order.specs.Order.{floorOf, startsOf, goalsOf, counts, orderAnswer, WellFormed}
+use Rattle.order.proofs.OrderLaws.{well-formed, accepted-is, order-past}
 use Rattle.motion.specs.Move.{legalMove, moveFault, afterMove}
 use Rattle.motion.specs.Replay.{replayMoves}
 use Rattle.motion.proofs.MoveLaws.{moveFault-none, BadMove, moveFault-bad}
@@ -32,23 +31,12 @@ module _ (o p : List ℕ) (f j : ℕ) where
     pub stops : Stops (moveFault (floorOf o)) (legalMove (floorOf o)) afterMove 1 (startsOf o) (planMoves p) f j
     pub reason : BadMove (floorOf o) (stops .there) (stops .bad) f
 
-  -- 10 to 14 are no number of a move
-  order-past : 32 ≤ f → orderAnswer o ≢ refused f j
-  unfolding orderAnswer
-  order-past l e =
-      let t₀ = refuse-past (wrongLength o) 10 0 _ f j (λ z. omega arith) e in
-      let t₁ = refuse-past (wrongPositions o) 11 0 _ f j (λ z. omega arith) (t₀ .1) in
-      let t₂ = refuse-past (paddingSet o) 12 0 _ f j (λ z. omega arith) (t₁ .1) in
-      let t₃ = refuse-past (wrongEdges (floorOf o)) 13 0 _ f j (λ z. omega arith) (t₂ .1) in
-      let t₄ = refuse-past (wrongRacks (orderOf o)) 14 0 _ f j (λ z. omega arith) (t₃ .1) in
-      not-both f j (counts o) (sym (t₄ .1))
-
   stopped-to : 32 ≤ f → 33 ≢ f → planAnswer o p ≡ refused f j → StoppedPlan
   unfolding planAnswer
   stopped-to l d e =
       let F = floorOf o in
       let x = replayMoves F (startsOf o) (planMoves p) in
-      let below = passUp-past (orderAnswer o) _ f j (order-past l) e in
+      let below = passUp-past (orderAnswer o) _ f j (order-past o f j (omega arith)) e in
       let t₀ = refuse-past (wrongPlanLength p) 30 0 _ f j (λ z. omega arith) (below .1) in
       let t₁ = refuse-past (planPaddingSet p) 31 0 _ f j (λ z. omega arith) (t₀ .1) in
       let s = replayMoves-stopped F (startsOf o) (planMoves p) f j .0

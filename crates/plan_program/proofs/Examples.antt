@@ -30,10 +30,13 @@ use Rattle.order.specs.EdgeSets.{listed, isEdge, floorFrom}
 use Rattle.plan.proofs.Examples.{plan-open}
 use Rattle.plan.specs.Plan.{planBits, planRecord}
 use Rattle.writers.specs.Lines.{digits, decimal, refusalLine}
-use Rattle.floor.specs.FloorAnswer.{biConnected?, ring?, floorAnswer}
+use Rattle.motion.specs.Arrangement.{stands}
+use Rattle.ring.specs.Circle.{placeIn, roundOf, follow, onward, firstFrom}
+use Rattle.floor.specs.FloorAnswer.{biConnected?, ring?, roundPlace, disordered?, floorAnswer}
+use Rattle.floor.specs.RoundDecision.{rack?, inTurn?, sameOrder?}
 use Rattle.floor.specs.Plannable.{Plannable}
 use Rattle.floor.proofs.FloorLaws.{plannable}
-use Rattle.floor.specs.CaseBookOrders.{threeInRing, threeRacks, pathOfFour}
+use Rattle.floor.specs.CaseBookOrders.{mirrored, threeRacks, pathOfFour}
 use Rattle.floor.proofs.ExamplesLaws.{twoRacks}
 use Rattle.planner.specs.Moves.{Solves}
 use Rattle.planner.specs.Planner.{refusals, made}
@@ -46,7 +49,8 @@ allOfEighteen = orderRecord (record { floor = floorFrom 18 (λ a b. true); start
 -- the hypotheses of `printed-large` hold of something
 pub large : Plannable allOfEighteen × (18 ≤ positionCount allOfEighteen)
 unfolding allOfEighteen orderRecord orderBits floorFrom listed isEdge bits pairBits positionBits toBytes padded pad bytes floorAnswer
-    biConnected? ring? joined some isPair orderAnswer wrongLength misfits recordLength unitCount wrongPositions paddingSet unclean
+    biConnected? ring? disordered? roundPlace sameOrder? rack? inTurn? placeIn roundOf follow onward firstFrom stands joined some isPair
+    orderAnswer wrongLength misfits recordLength unitCount wrongPositions paddingSet unclean
     wrongEdges badEdge precedes ascending wrongRacks wrongPlaces repeats orderOf floorOf startsOf goalsOf counts positionCount
     edgeCount rackCount field number bitsOf pairs positions
 large = (plannable allOfEighteen [] refl, lit≤ tt)
@@ -55,11 +59,12 @@ pub refusals-met :
     (refusals [] 65536 ≡ refused 10 0)
     × (refusals threeRacks 65536 ≡ refused 20 0)
     × (refusals pathOfFour 65536 ≡ refused 21 0)
-    × (refusals threeInRing 65536 ≡ refused 22 0)
+    × (refusals mirrored 65536 ≡ refused 24 0)
     × (refusals allOfEighteen 65536 ≡ refused 23 0)
     × (refusals twoRacks 65536 ≡ accepted [])
 unfolding refusals allOfEighteen orderRecord orderBits floorFrom listed isEdge bits pairBits positionBits toBytes padded pad bytes
-    floorAnswer biConnected? ring? joined some isPair orderAnswer wrongLength misfits recordLength unitCount wrongPositions paddingSet
+    floorAnswer biConnected? ring? disordered? roundPlace sameOrder? rack? inTurn? placeIn roundOf follow onward firstFrom stands joined
+    some isPair orderAnswer wrongLength misfits recordLength unitCount wrongPositions paddingSet
     unclean wrongEdges badEdge precedes ascending wrongRacks wrongPlaces repeats orderOf floorOf startsOf goalsOf counts positionCount
     edgeCount rackCount field number bitsOf pairs positions
 refusals-met = (refl, refl, refl, refl, refl, refl)
@@ -96,7 +101,7 @@ module _ (B : List ℕ) (lent : length B ≡ 65536) where
       Printed [] B (written B 0 (refusalLine 10 0)) (length (refusalLine 10 0))
       × Printed threeRacks B (written B 0 (refusalLine 20 0)) (length (refusalLine 20 0))
       × Printed pathOfFour B (written B 0 (refusalLine 21 0)) (length (refusalLine 21 0))
-      × Printed threeInRing B (written B 0 (refusalLine 22 0)) (length (refusalLine 22 0))
+      × Printed mirrored B (written B 0 (refusalLine 24 0)) (length (refusalLine 24 0))
       × Printed allOfEighteen B (written B 0 (refusalLine 23 0)) (length (refusalLine 23 0))
   lines-met = (
     line-printed lent (refusals-met .0),

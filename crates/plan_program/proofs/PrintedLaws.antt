@@ -7,7 +7,7 @@
 --     printed-text, printed-rest  the bytes written are the text, and behind them every byte stays
 --     printed-plan                an order that can be planned, of at most 17 positions: its plan is written; the plan checker accepts it
 --     printed-large               one of 18 positions or more: refused 23 0 floor
---     printed-refused             any other order: the line of its refusal, 10 to 14 or 20 to 22
+--     printed-refused             any other order: the line of its refusal, 10 to 14, 20, 21 or 24
 -- Assumes nothing.
 use Prim.Native.Nat.{ℕ, _+_, _*_, _/_, _≤_, _<_}
 use mathlib.Core.Path.{_≡_, refl, sym, ap, subst, _∙_}

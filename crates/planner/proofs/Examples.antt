@@ -2,6 +2,8 @@
 -- from 3 to 0) and its plan.
 --
 --     plan-moves-met      what `planner::plan_moves` asks for, in a buffer of just the bytes that 23 asks for
+--     round-met, ring-floor-met, ring-plan-met    what `planner::round` and the theorem on rings ask for
+--     mirrored-no-plan    an order on a ring that no moves fulfil
 --     plan                the case book's plan
 --     solves-met          its moves solve the order
 --     moves-met           and stand packed behind the head
@@ -28,8 +30,12 @@ use Rattle.motion.specs.Replay.{replayFrom, replayMoves}
 use Rattle.tables.specs.Accepted.{OrderGave}
 use Rattle.tables.proofs.AcceptedLaws.{order-gave}
 use Rattle.plan.specs.Plan.{planRecord}
-use Rattle.floor.proofs.ExamplesLaws.{twoRacks, floors-judged, plannable-met}
+use Rattle.floor.specs.CaseBookOrders.{threeInRing, mirrored}
+use Rattle.floor.proofs.FloorLaws.{told-disordered}
+use Rattle.floor.proofs.ExamplesLaws.{twoRacks, floors-judged, plannable-met, ring-met, on-met}
 use Rattle.planner.specs.Moves.{Solves, SomeTables, Moves}
+use Rattle.planner.specs.Rings.{OnRingFloor, NoPlan, TurnedDown}
+use Rattle.planner.proofs.RingTheorem.{ring-turned-down}
 use Rattle.planner.specs.Planner.{refusals, PlanMade, turned-down, made}
 
 order-read : OrderGave twoRacks 4 5 2
@@ -37,15 +43,44 @@ order-read =
     order-gave twoRacks 4 5 2
     (unfold counts positionCount edgeCount rackCount field number bitsOf bits in sym (accepted-is twoRacks (plannable-met .right)))
 
-pub plan-moves-met : SomeTables 4 2 (decodedRows twoRacks) (decodedStarts twoRacks) (decodedGoals twoRacks)
+pub plan-moves-met : SomeTables 4 5 2 (decodedRows twoRacks) (decodedStarts twoRacks) (decodedGoals twoRacks)
     × (12 * (4 * (4 * 4)) ≤ length (replicate {A = ℕ} 768 0))
 plan-moves-met = (
   record {
     order = twoRacks;
-    tables = record { edges = 5; gave = order-read; can = plannable-met; rows-are = refl; starts-are = refl; goals-are = refl };
+    tables = record { gave = order-read; can = plannable-met; rows-are = refl; starts-are = refl; goals-are = refl };
   },
   (let n = length-replicate {A = ℕ} 768 0 in omega arith),
 )
+
+ring-read : OrderGave threeInRing 3 3 1
+ring-read =
+    order-gave threeInRing 3 3 1
+    (unfold counts positionCount edgeCount rackCount field number bitsOf bits in sym (accepted-is threeInRing (ring-met .right)))
+
+pub round-met : SomeTables 3 3 1 (decodedRows threeInRing) (decodedStarts threeInRing) (decodedGoals threeInRing)
+round-met =
+    record {
+      order = threeInRing;
+      tables = record { gave = ring-read; can = ring-met; rows-are = refl; starts-are = refl; goals-are = refl };
+    }
+
+pub ring-floor-met : OnRingFloor threeInRing
+ring-floor-met = record { right = ring-met .right; ring = on-met .ring; vacancy = on-met .vacancy }
+
+-- the ring of three with one rack has a plan, so 24 is not its answer
+pub ring-plan-met : TurnedDown threeInRing
+ring-plan-met = ring-turned-down threeInRing ring-floor-met
+
+-- three racks on a ring of four that stand the other way round at the goal: no moves lead there
+mirrored-floor : OnRingFloor mirrored
+unfolding positionCount rackCount field number bitsOf bits
+mirrored-floor =
+    let told = told-disordered mirrored (floors-judged .6) in
+    record { right = told .0; ring = told .1 .ring; vacancy = lit≤ tt }
+
+pub mirrored-no-plan : NoPlan mirrored
+mirrored-no-plan = ring-turned-down mirrored mirrored-floor .0 (floors-judged .6)
 
 abbrev pub plan : List (ℕ × ℕ)
 plan = (0, 1) ∷ (3, 2) ∷ (2, 0) ∷ (1, 3) ∷ []

@@ -62,9 +62,9 @@ module _ (o B : List ℕ) where
     unfolding floorOf
     positions-are = gave .positions-are
 
-    pub tables : (g h k : List ℕ) → g ≡ decodedRows o → h ≡ decodedStarts o → k ≡ decodedGoals o → TablesOf o n m g h k
+    pub tables : (g h k : List ℕ) → g ≡ decodedRows o → h ≡ decodedStarts o → k ≡ decodedGoals o → TablesOf o n e m g h k
     tables g h k rows starts goals =
-        record { edges = e; gave = gave; can = can; rows-are = rows; starts-are = starts; goals-are = goals }
+        record { gave = gave; can = can; rows-are = rows; starts-are = starts; goals-are = goals }
 
     few : n ≤ 64
     few = let f = gave .placed-well .few-positions in let p = gave .positions-are in omega arith

@@ -1,14 +1,17 @@
 -- From an accepted order that can be planned to the moves of its plan.
 --
 --     start-holds, goal-holds    the tables that the order's starts and goals fill
---     room-racks                 two vacancies at least
---     rows-right, broken         the rows of its floor, and that they have a breakdown
+--     off-ring, on-ring          the number of edges tells which kind of floor it is
+--     ring-tables, ring-order    on a ring, what it is decoded to, and the order of its racks
+--     room-racks                 off rings, two vacancies at least
+--     rows-right, broken         the rows of its floor, and off rings that they have a breakdown
 --     none-needed                where the two tables agree there is nothing to move
 --     planned                    what the trip from the one to the other writes is a plan
 -- Assumes nothing.
 use Prim.Native.Nat.{ℕ, _+_, _*_, _≤_, _<_}
 use mathlib.Core.Path.{_≡_, refl, sym, ap, subst, _∙_}
 use mathlib.Core.List.{List, []}
+use mathlib.Core.Logic.{_≢_, ⊎-elim}
 use native.Mathlib.Omega.{arith}
 use lib.Dec.{T}
 use lib.ListN.{length}
@@ -29,11 +32,13 @@ use Rattle.shunting.proofs.WentLaws.{same-refl}
 use Rattle.shunting.specs.Journey.{row, Trip}
 use Rattle.shunting.proofs.JourneyLaws.{packed-nothing, trip-packed, went-written}
 use Rattle.solving.specs.Placed.{Placed, Filled}
-use Rattle.solving.specs.Moves.{solveMoves}
 use Rattle.solving.proofs.Planned.{trip-planned}
+use Rattle.floor.specs.FloorAnswer.{SameRound}
+use Rattle.floor.specs.RingTables.{RingTables}
 use Rattle.floor.proofs.FloorRows.{edge-joins, filled-is, filled-rows}
-use Rattle.floor.specs.Plannable.{Plannable}
-use Rattle.floor.proofs.FloorLaws.{plannable-rows}
+use Rattle.floor.specs.Plannable.{OffRing, OnRing, Plannable}
+use Rattle.floor.proofs.FloorLaws.{onRing-rows, offRing-rows}
+use Rattle.floor.proofs.Layers.{edges-length}
 use Rattle.planner.proofs.OrderTables.{held-by, held-placed, held-agree, tables-alike}
 use Rattle.planner.specs.Moves.{Moves}
 
@@ -65,8 +70,44 @@ module _ (o : List ℕ) (n e m : ℕ) (gave : OrderGave o n e m) where
       (w .goals-length ∙ sym (gave .racks-are))
 
   module _ (plannable : Plannable o) where
-    pub room-racks : m + 2 ≤ n
-    room-racks = let v = plannable .vacancies in let a = gave .positions-are ∙ positions-is in let b = gave .racks-are in omega arith
+    edges-are : length (floorOf o .edges) ≡ e
+    edges-are = edges-length o ∙ sym (gave .edges-are)
+
+    -- a bi-connected floor with n edges is a ring
+    pub off-ring : e ≢ n → OffRing o
+    off-ring d = ⊎-elim (λ k. k) (λ k. absurd (d (sym edges-are ∙ k .ring .count ∙ sym (gave .positions-are)))) (plannable .kind)
+
+    pub on-ring : e ≡ n → OnRing o
+    on-ring s =
+        ⊎-elim (λ k. absurd (k .noRing (record { biConnected = plannable .biConnected; count = edges-are ∙ s ∙ gave .positions-are })))
+        (λ k. k)
+        (plannable .kind)
+
+    pub ring-tables : e ≡ n → (g h k : List ℕ) → g ≡ decodedRows o → h ≡ decodedStarts o → k ≡ decodedGoals o → RingTables o n m g h k
+    ring-tables s g h k rows starts goals =
+        let ring = on-ring s in
+        let v = ring .vacancy in
+        let a = gave .positions-are ∙ positions-is in
+        let b = gave .racks-are in
+        record {
+          edges = e;
+          gave = gave;
+          rings = rw (gave .positions-are, filled-is o n e m gave g rows) (onRing-rows o (plannable .right) ring);
+          less = omega arith;
+          rows-are = rows;
+          starts-are = starts;
+          goals-are = goals;
+        }
+      where
+        positions-is : floorOf o .positions ≡ positionCount o
+        positions-is = unfold floorOf in refl
+
+    pub ring-order : (s : e ≡ n) → SameRound (floorOf o) m (startsOf o) (goalsOf o)
+    ring-order s =
+        subst (λ (k : ℕ). SameRound (floorOf o) k (startsOf o) (goalsOf o)) (sym (gave .racks-are)) (on-ring s .order)
+
+    pub room-racks : e ≢ n → m + 2 ≤ n
+    room-racks d = let v = off-ring d .vacancies in let a = gave .positions-are ∙ positions-is in let b = gave .racks-are in omega arith
       where
         positions-is : floorOf o .positions ≡ positionCount o
         positions-is = unfold floorOf in refl
@@ -75,10 +116,10 @@ module _ (o : List ℕ) (n e m : ℕ) (gave : OrderGave o n e m) where
       pub rows-right : Rows n g
       rows-right = filled-rows o n e m gave g filled
 
-      pub broken : (r c : ℕ) (a s l t : List ℕ) → Answer n g r c a s l t → 0 < r
-      broken r c a s l t answer =
+      pub broken : e ≢ n → (r c : ℕ) (a s l t : List ℕ) → Answer n g r c a s l t → 0 < r
+      broken d r c a s l t answer =
           answer .exactly .1
-          (rw (gave .positions-are, filled-is o n e m gave g filled) (plannable-rows o plannable))
+          (rw (gave .positions-are, filled-is o n e m gave g filled) (offRing-rows o plannable (off-ring d)))
 
       joins : (a b : ℕ) → Edge g a b → (a < floorOf o .positions) × (b < floorOf o .positions) × T (joined (floorOf o) a b)
       joins a b edge =
@@ -97,9 +138,9 @@ module _ (o : List ℕ) (n e m : ℕ) (gave : OrderGave o n e m) where
       pub planned : (h k start goal t : List ℕ) {t′ : List ℕ} {s : State} → Holds (startsOf o) h → Holds (goalsOf o) k
           → (((p : ℕ) → p < 64 → row h p ≡ row k p) → ⊥)
           → Filled m (row h) (row start) → Filled m (row k) (row goal) → 12 * (n * (n * n)) ≤ length t
-          → Trip g (solveMoves n) (begun start) t s t′ → Same (row (s .racks)) (row goal)
+          → {c : ℕ} → c ≤ 8 * (n * (n * n)) → Trip g c (begun start) t s t′ → Same (row (s .racks)) (row goal)
           → Moves o n t t′ (s .written)
-      planned h k start goal t a b differ fa fb room trip ends =
+      planned h k start goal t a b differ fa fb room most trip ends =
           let well = gave .placed-well in
           record {
             moves = trip .written;

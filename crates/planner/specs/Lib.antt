@@ -1,3 +1,4 @@
 pub mod Moves
 pub mod Planner
 pub mod Planned
+pub mod Rings

@@ -18,7 +18,7 @@ use Rattle.planner.specs.Moves.{Solves}
 use Rattle.planner.specs.declared.PlannerVerdict.{PlannerVerdict}
 use Rattle.planner.specs.declared.PlannerVerdict.the-variants.{Planned, Refused}
 
--- "planner 10 to 14 and 20 to 23"; 23: "plan buffer shorter than 12 × n × n × n + 3 bytes"
+-- "planner 10 to 14 and 20 to 23"; 24 comes before 23, and is the floor judge's; 23: "plan buffer shorter than 12 × n × n × n + 3 bytes"
 unfoldable pub refusals : List ℕ → ℕ → Answer
 refusals o b =
     let n = positionCount o in

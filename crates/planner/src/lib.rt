@@ -4,7 +4,7 @@ use answers::Fault;
 use floor::FloorVerdict;
 use shunting::State;
 ghost use mathlib.Core.Bool.{true};
-ghost use mathlib.Core.Logic.{_↔_};
+ghost use mathlib.Core.Logic.{_↔_, _≢_};
 ghost use mathlib.Core.Path.{_≡_};
 ghost use mathlib.Core.List.{[], _∷_};
 ghost use Prim.Native.Nat.{ℕ, _*_, _≤_, _<_};
@@ -12,7 +12,7 @@ ghost use lib.ListN.{length};
 ghost use Rattle.answers.specs.Answer.{accepted, PassedUp};
 ghost use Rattle.floor.specs.Verdict.{answerOf as floorAnswerOf};
 ghost use Rattle.shunting.specs.Journey.{row};
-ghost use Rattle.planner.specs.Moves.{SomeTables, MovesMade};
+ghost use Rattle.planner.specs.Moves.{Differ, SomeTables, MovesMade};
 ghost use Rattle.planner.specs.Planner.{PlanMade, answerOf};
 
 // The verdict of the planner: specs/Planner.antt gives it document 01's number and values.
@@ -35,25 +35,25 @@ fn same_tables(start: &[u8; 64], goal: &[u8; 64]) -> bool
     true
 }
 
-// The moves of a plan for an order of n positions and m racks that can be planned, from what it was decoded to, packed at the front of
-// the plan's bytes behind its head. Where each start is its goal there are none. Yields how many there are.
-fn plan_moves(
+// The moves of a plan on a floor that is no ring: vacancies beyond two are filled with stand-ins, and the breakdown leads from the one
+// arrangement to the other. Yields how many there are.
+fn broken_down(
     n: usize,
+    e: usize,
     m: usize,
     rows: &[u64; 64],
     starts: [u8; 64],
     goals: [u8; 64],
     tail: &mut [u8],
 ) -> usize
-    requires { ⌜ SomeTables n m (now rows) starts goals ⌝ }
+    requires { ⌜ SomeTables n e m (now rows) starts goals ⌝ }
+    requires { ⌜ Differ starts goals ⌝ }
+    requires { ⌜ e ≢ n ⌝ }
     requires { ⌜ 12 * (n * (n * n)) ≤ length (now tail) ⌝ }
-    ensures { λ r. ⌜ MovesMade n m (now (rows .entry)) starts goals (now (tail .entry)) (now (tail .exit)) r ⌝ }
+    ensures { λ r. ⌜ MovesMade n e m (now (rows .entry)) starts goals (now (tail .entry)) (now (tail .exit)) r ⌝ }
 {
     let mut start = starts;
     let mut goal = goals;
-    if same_tables(&start, &goal) {
-        return 0;
-    }
     solving::fill(n, m, &mut start);
     solving::fill(n, m, &mut goal);
     let found = breakdown::break_down(rows, n);
@@ -67,6 +67,62 @@ fn plan_moves(
     end.written
 }
 
+// The moves of a plan on a ring: its racks are driven round it. Yields how many there are.
+fn round(
+    n: usize,
+    e: usize,
+    m: usize,
+    rows: &[u64; 64],
+    starts: [u8; 64],
+    goals: [u8; 64],
+    tail: &mut [u8],
+) -> usize
+    requires { ⌜ SomeTables n e m (now rows) starts goals ⌝ }
+    requires { ⌜ Differ starts goals ⌝ }
+    requires { ⌜ e ≡ n ⌝ }
+    requires { ⌜ 12 * (n * (n * n)) ≤ length (now tail) ⌝ }
+    ensures { λ r. ⌜ MovesMade n e m (now (rows .entry)) starts goals (now (tail .entry)) (now (tail .exit)) r ⌝ }
+{
+    let circle = ring::circle(rows, n);
+    let goal = goals;
+    let real = m;
+    let state = State {
+        racks: starts,
+        real,
+        written: 0,
+        logged: 0,
+    };
+    let end = circling::solve(&circle, n, &goal, state, tail);
+    end.written
+}
+
+// The moves of a plan for an order of n positions, e edges and m racks that can be planned, from what it was decoded to, packed at the
+// front of the plan's bytes behind its head. Where each start is its goal there are none. A bi-connected floor with n edges is a ring.
+// Yields how many moves there are.
+fn plan_moves(
+    n: usize,
+    e: usize,
+    m: usize,
+    rows: &[u64; 64],
+    starts: [u8; 64],
+    goals: [u8; 64],
+    tail: &mut [u8],
+) -> usize
+    requires { ⌜ SomeTables n e m (now rows) starts goals ⌝ }
+    requires { ⌜ 12 * (n * (n * n)) ≤ length (now tail) ⌝ }
+    ensures { λ r. ⌜ MovesMade n e m (now (rows .entry)) starts goals (now (tail .entry)) (now (tail .exit)) r ⌝ }
+{
+    let start = starts;
+    let goal = goals;
+    if same_tables(&start, &goal) {
+        return 0;
+    }
+    if e == n {
+        return round(n, e, m, rows, starts, goals, tail);
+    }
+    broken_down(n, e, m, rows, starts, goals, tail)
+}
+
 // The floor judge's verdict as the planner's: the same fault at the same place, or no moves yet.
 fn passed_up(floor: FloorVerdict) -> PlannerVerdict
     ensures { λ r. ⌜ PassedUp floorAnswerOf floor (accepted (0 ∷ [])) (answerOf r) ⌝ }
@@ -77,7 +133,7 @@ fn passed_up(floor: FloorVerdict) -> PlannerVerdict
     }
 }
 
-// 10 to 14 and 20 to 23, or a plan: its record at the front of the buffer, and how many moves it has.
+// 10 to 14, 20, 21, 24 and 23, or a plan: its record at the front of the buffer, and how many moves it has.
 pub fn make(order: &[u8], buffer: &mut [u8]) -> PlannerVerdict
     ensures { λ r. ⌜ PlanMade (now (order .entry)) (now (buffer .entry)) (answerOf r) (now (buffer .exit)) ⌝ }
 {
@@ -89,11 +145,12 @@ pub fn make(order: &[u8], buffer: &mut [u8]) -> PlannerVerdict
         return passed_up(below);
     };
     let n = counts.positions;
+    let e = counts.edges;
     let m = counts.racks;
     if buffer.len() < 12 * (n * (n * n)) + 3 {
         return PlannerVerdict::Refused(Fault::PlanBuffer, 0);
     }
-    let k = plan_moves(n, m, &rows, starts, goals, &mut buffer[3..]);
+    let k = plan_moves(n, e, m, &rows, starts, goals, &mut buffer[3..]);
     field::put_head(buffer, k);
     PlannerVerdict::Planned(k)
 }

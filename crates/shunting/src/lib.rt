@@ -36,7 +36,7 @@ struct Tally {
 }
 
 // Moves the rack at a to b. The move of a stand-in is not written. Yields how many moves the plan has.
-fn move_rack(
+pub fn move_rack(
     a: usize,
     b: usize,
     real: usize,

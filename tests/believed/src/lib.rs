@@ -20,7 +20,7 @@ const CONTRACTS: [(&str, &[&str]); 5] = [
 ];
 
 /// The records that the main theorems state; of a file without names, all of it.
-const THEOREMS: [(&str, &[&str]); 7] = [
+const THEOREMS: &[(&str, &[&str])] = &[
     ("crates/order/specs/Theorems.antt", &[]),
     ("crates/models/specs/Theorems.antt", &[]),
     ("crates/plan/specs/Solutions.antt", &[]),
@@ -28,10 +28,11 @@ const THEOREMS: [(&str, &[&str]); 7] = [
     ("crates/motion/specs/LegalStep.antt", &[]),
     ("crates/floor/specs/Plannable.antt", &[]),
     ("crates/scheduling/specs/Maker.antt", &["Timetabled"]),
+    ("crates/planner/specs/Rings.antt", &[]),
 ];
 
 /// A decision carries the proof that it decides: what it decides stands in its type, and nobody has to believe the rest.
-const DECISIONS: [&str; 1] = ["crates/floor/specs/WayDecision.antt"];
+const DECISIONS: [&str; 2] = ["crates/floor/specs/WayDecision.antt", "crates/floor/specs/RoundDecision.antt"];
 
 pub struct Definition {
     pub name: String,
@@ -53,7 +54,7 @@ impl Believed {
                 cited.into_iter().filter(|(_, name)| names.is_empty() || names.contains(&name.as_str())),
             );
         }
-        for (file, names) in THEOREMS {
+        for &(file, names) in THEOREMS {
             let all = modules[file].blocks.iter().map(|block| block.name.as_str());
             let names: Vec<&str> = if names.is_empty() { all.collect() } else { names.to_vec() };
             wanted.extend(names.iter().map(|name| (file.to_string(), name.to_string())));

@@ -32,6 +32,7 @@ fn main() {
     timetable_step();
     timetable_make();
     quality::print_table();
+    quality::print_rings();
 }
 
 /// Seconds that one of so many calls takes.

@@ -7,6 +7,7 @@ use compare::orders;
 use compare::packed;
 use compare::proved;
 use compare::random::Random;
+use compare::rings;
 use compare::write::Plan;
 use published::bibox;
 use published::operation::Choice;
@@ -37,6 +38,36 @@ pub fn print_table() {
             let mut order = || orders::order_on(&mut random, &floor, floor.n - vacancies).record();
             let orders: Vec<Vec<u8>> = (0..count).map(|_| order()).collect();
             print_row(&format!("{rows} by {columns} {vacancies:>6}"), &orders);
+        }
+    }
+}
+
+/// Rings of 16 and 64 positions, with one vacancy and with half of the positions vacant.
+pub fn print_rings() {
+    println!();
+    println!("Plans on rings, the positions numbered in any order round them; means for one order. The distances are added");
+    println!("up as the racks go without passing each other: in the better of the two senses, all of them, and each in its");
+    println!("own, which no plan undercuts.");
+    println!("ring   vacant  orders  one sense      least |  moves  steps        time");
+    let mut random = Random::new(0xBE_0008);
+    for n in [16, 64] {
+        for vacancies in [1, n / 2] {
+            let (mut orders, mut one_sense, mut least) = (Vec::new(), 0, 0);
+            for _ in 0..1_000 {
+                let (floor, positions) = rings::random_ring(&mut random, n);
+                let mut order = orders::order_on(&mut random, &floor, n - vacancies);
+                order.goals = rings::goals_in_order(&mut random, &positions, &order.starts);
+                one_sense += rings::least_moves_in_one_sense(&positions, &order.starts, &order.goals);
+                least += rings::least_moves(&positions, &order.starts, &order.goals);
+                orders.push(order.record());
+            }
+            let mean = |sum: usize| sum as f64 / orders.len() as f64;
+            let (proved, time) = (mean_length(&orders, proved_plan), shown(mean_time(&orders)));
+            let (one_sense, least) = (mean(one_sense), mean(least));
+            println!(
+                "{n:>4} {vacancies:>8} {:>7} {one_sense:>10.1} {least:>10.1} | {proved} {time:>11}",
+                orders.len()
+            );
         }
     }
 }

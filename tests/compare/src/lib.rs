@@ -10,6 +10,7 @@
 //! | `write`      | records written from their fields, sound or not                    |
 //! | `kinds`      | an enum together with the list of all its kinds                    |
 //! | `floors`     | floors of every shape                                              |
+//! | `rings`      | ring floors, and orders on them that can be planned                |
 //! | `breakdowns` | the proved breakdown of a floor                                    |
 //! | `orders`     | orders on them, and damage                                         |
 //! | `short_orders` | short orders, and damage                                         |
@@ -32,6 +33,7 @@ pub mod programs;
 pub mod proved;
 pub mod racks;
 pub mod random;
+pub mod rings;
 pub mod short_orders;
 pub mod tally;
 pub mod timetables;

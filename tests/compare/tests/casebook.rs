@@ -113,9 +113,14 @@ fn case_3_a_ring_and_a_swap_have_no_leader() {
 
 #[test]
 fn case_4_a_ring_and_too_many_racks() {
-    assert_eq!(plan_make("06 06 04 00 10 02 04 20 01", 0), refused(22, 0));
-    assert_eq!(plan_make("06 06 04 00 10 02 04 20 01", 1000), refused(22, 0));
-    assert_eq!(floor_check("06 06 04 00 10 02 04 20 01"), refused(22, 0));
+    assert_eq!(plan_make("06 06 04 00 10 02 04 20 01", 0), refused(23, 0));
+    assert_eq!(plan_make("06 06 04 00 10 02 04 20 01", 326), refused(23, 0));
+    assert_eq!(plan_make("06 06 04 00 10 02 04 20 01", 327), Ok(()));
+    assert_eq!(floor_check("06 06 04 00 10 02 04 20 01"), Ok(()));
+    // three racks on a ring of four: turned by one place, and the other way round
+    assert_eq!(floor_check("08 08 0C 00 10 03 04 20 83 00 10 81 08 30"), Ok(()));
+    assert_eq!(floor_check("08 08 0C 00 10 03 04 20 83 00 10 82 04 00"), refused(24, 0));
+    assert_eq!(plan_make("08 08 0C 00 10 03 04 20 83 00 10 82 04 00", 0), refused(24, 0));
     assert_eq!(plan_make("08 0A 0C 00 10 02 04 20 43 08 30 01 08 10 80", 771), refused(20, 0));
     assert_eq!(floor_check(ORDER), Ok(()));
 }
@@ -266,8 +271,8 @@ fn small_floors() {
     assert_eq!(floor_check("04 02 00 00 10"), refused(21, 0)); // two positions, no rack
     assert_eq!(floor_check(TWO), refused(20, 0));
     assert_eq!(floor_check("06 04 00 00 10 42"), refused(21, 0)); // path of three
-    assert_eq!(floor_check("06 06 00 00 10 02 04 20"), refused(22, 0)); // ring of three
-    assert_eq!(floor_check("08 08 00 00 10 02 04 30 83"), refused(22, 0)); // ring of four
+    assert_eq!(floor_check("06 06 00 00 10 02 04 20"), Ok(())); // ring of three
+    assert_eq!(floor_check("08 08 00 00 10 02 04 30 83"), Ok(())); // ring of four
     assert_eq!(floor_check("08 0A 00 00 10 02 04 20 43 08 30"), Ok(())); // F
     assert_eq!(floor_check("08 08 00 00 10 02 00 30 42"), refused(21, 0)); // four edges, not a ring
 }

@@ -83,11 +83,13 @@ fn what_is_no_order() {
 
 #[test]
 fn what_no_floor_is_for() {
-    // F with three racks; a path of three with two, which 21 fits too; a path of four; a ring of three
+    // F with three racks; a path of three with two, which 21 fits too; a path of four; a ring the other way round
     assert_eq!(line(&order(4, &F, &[0, 1, 2], &[1, 2, 0])), "refused 20 0 floor\n");
     assert_eq!(line(&order(3, &[(0, 1), (1, 2)], &[0, 1], &[1, 2])), "refused 20 0 floor\n");
     assert_eq!(line(&order(4, &[(0, 1), (1, 2), (2, 3)], &[0], &[3])), "refused 21 0 floor\n");
-    assert_eq!(line(&order(3, &[(0, 1), (0, 2), (1, 2)], &[0], &[1])), "refused 22 0 floor\n");
+    let ring = [(0, 1), (0, 3), (1, 2), (2, 3)];
+    assert_eq!(line(&order(4, &ring, &[0, 1, 2], &[2, 1, 0])), "refused 24 0 floor\n");
+    assert_eq!(line(&order(4, &ring, &[0, 1, 2, 3], &[0, 1, 2, 3])), "refused 20 0 floor\n");
 }
 
 #[test]

@@ -7,7 +7,7 @@ use second::breakdown::{find, set_of, shortest_path, Breakdown};
 use second::floor::{self, all_positions};
 use second::order::{Floor, Order};
 
-/// BIBOX-Solve: a plan for an order that passes 20 to 22, none for another.
+/// BIBOX-Solve: a plan for an order that can be planned, on a floor that is no ring; none for another.
 pub fn plan(order: &Order, choice: Choice) -> Option<Vec<Move>> {
     floor::judge(order).ok()?;
     let Breakdown { mut ring, handles } = find(&order.floor)?;

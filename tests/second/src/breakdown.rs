@@ -87,7 +87,7 @@ fn is_walk(floor: &Floor, list: &[u8]) -> bool {
     list.windows(2).all(|two| joined(floor, two[0], two[1]))
 }
 
-/// "Such a breakdown is found for every floor that passes 20 to 22": one with a shortest ring, and
+/// "Such a breakdown is found for every floor that passes 20 to 22", so for no ring: one with a shortest ring, and
 /// with handles chosen shortest first, lowest first where several are. None for other floors.
 pub fn find(floor: &Floor) -> Option<Breakdown> {
     let ring = shortest_ring(floor)?;

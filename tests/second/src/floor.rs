@@ -1,28 +1,61 @@
-//! "The floor": connected, bi-connected, ring, and the planner's judgement as far as 22.
+//! "The floor": connected, bi-connected, ring, and the planner's judgement before it measures its
+//! buffer. Request (d), "Ring floors".
 
 use crate::answer::{refuse, Answer};
 use crate::order::{self, Floor, Order};
 
-/// The planner's judgement without a buffer: the lowest of 10 to 14 and 20 to 22 that applies.
+/// The planner's judgement without a buffer: the first of 10 to 14, 20, 21 and 24 that applies.
 pub fn check(order: &[u8]) -> Answer<()> {
     judge(&order::read(order)?)
 }
 
-/// The lowest of 20 to 22 that applies to a well-formed order.
+/// The first of 20, 21 and 24 that applies to a well-formed order.
 pub fn judge(order: &Order) -> Answer<()> {
-    // 20: "m + 2 is above n"
-    if order.m + 2 > order.floor.n {
+    let ring = is_ring(&order.floor);
+    // 20: "m + 2 is above n"; "On a ring, 20 is given only when no position is vacant."
+    let crowded = if ring { order.m == order.floor.n } else { order.m + 2 > order.floor.n };
+    if crowded {
         return refuse(20);
     }
     // 21: "floor not bi-connected"
     if !is_biconnected(&order.floor) {
         return refuse(21);
     }
-    // 22: "floor is a ring"
-    if is_ring(&order.floor) {
-        return refuse(22);
+    // 24: "the order round the ring differs; after 21, before 23"
+    if ring && !same_order_round(order) {
+        return refuse(24);
     }
     Ok(())
+}
+
+/// The positions of a ring in their order round it, from 0 on.
+pub fn round(floor: &Floor) -> Vec<usize> {
+    let mut round = vec![0];
+    let mut met = 1u64;
+    while round.len() < floor.n {
+        let at = round[round.len() - 1];
+        let next = (floor.neighbours[at] & !met).trailing_zeros() as usize;
+        round.push(next);
+        met |= 1 << next;
+    }
+    round
+}
+
+/// The racks that stand at `places`, read in the order of `round`, vacancies passed over.
+fn read_round(round: &[usize], places: &[u8]) -> Vec<usize> {
+    let rack_at = |&position: &usize| places.iter().position(|&place| usize::from(place) == position);
+    round.iter().filter_map(rack_at).collect()
+}
+
+/// "whenever the racks stand in the same order round it at start and goal": read from the same rack on,
+/// in the same sense, they are the same.
+pub fn same_order_round(order: &Order) -> bool {
+    let round = round(&order.floor);
+    let starts = read_round(&round, order.starts());
+    let mut goals = read_round(&round, order.goals());
+    let turn = starts.first().and_then(|first| goals.iter().position(|rack| rack == first));
+    goals.rotate_left(turn.unwrap_or(0));
+    starts == goals
 }
 
 /// The set of all positions of a floor.

@@ -12,7 +12,7 @@
 //! | `plan`      | Records, the plan; request (c)    | 30 to 35           |
 //! | `timetable` | Records, the timetable            | 40 to 43, 45       |
 //! | `making`    | Making the timetable              | 44                 |
-//! | `floor`     | The floor                         | 20 to 22           |
+//! | `floor`     | The floor, request (d)            | 20, 21, 24         |
 //! | `breakdown` | Breakdown and planning            |                    |
 //! | `planning`  | Breakdown and planning, demand 3  | 23                 |
 //! | `program`   | Programs                          |                    |

@@ -6,7 +6,7 @@ use crate::floor;
 use crate::order::{self, Order};
 use crate::plan;
 
-/// The planner's refusal, the lowest of 10 to 14 and 20 to 23 that applies, else the order to plan.
+/// The planner's refusal, the first of 10 to 14, 20, 21, 24 and 23 that applies, else the order to plan.
 pub fn judge_call(order: &[u8], buffer_length: usize) -> Answer<Order> {
     let order = order::read(order)?;
     floor::judge(&order)?;

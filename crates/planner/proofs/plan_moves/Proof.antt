@@ -1,10 +1,7 @@
--- `planner::plan_moves` meets its contract: `MovesLaws` has each part. Assumes nothing.
-use Prim.Native.Nat.{ℕ, _*_}
+-- `planner::plan_moves` meets its contract: where the tables agree there is nothing to move. Assumes nothing.
 use mathlib.Core.Bool.{false≢true}
 use mathlib.Core.Path.{sym, _∙_}
-use native.Mathlib.Omega.{arith}
-use Rattle.planner.proofs.MovesLaws.{start-holds, goal-holds, start-placed, goal-placed, room-racks, rows-right, broken}
-use Rattle.planner.proofs.MovesLaws.{none-needed, planned}
+use Rattle.planner.proofs.MovesLaws.{start-holds, goal-holds, none-needed}
 use borrow.Author.Needs.{needs}
 use Rattle.planner.proofs.plan_moves.Statement.{statement}
 use Rattle.planner.proofs.plan_moves.Tie as tie
@@ -19,74 +16,20 @@ returns c =
     let a = entry .args in
     record {
       moves-of = λ o t.
-          none-needed o (a .n) (t .edges) (a .m) (t .gave) (a .starts) (a .goals) (a .tail .now)
-          (start-holds o (a .n) (t .edges) (a .m) (t .gave) (a .starts) (t .starts-are))
-          (goal-holds o (a .n) (t .edges) (a .m) (t .gave) (a .goals) (t .goals-are)) (judged .same-tables .ensures .0 (c .if1 .taken));
+          none-needed o (a .n) (a .e) (a .m) (t .gave) (a .starts) (a .goals) (a .tail .now)
+          (start-holds o (a .n) (a .e) (a .m) (t .gave) (a .starts) (t .starts-are))
+          (goal-holds o (a .n) (a .e) (a .m) (t .gave) (a .goals) (t .goals-are)) (judged .same-tables .ensures .0 (c .if1 .taken));
     }
 
-fill-requires : tie.Need-fill-requires
-fill-requires c κs =
-    let judged = c .before .before in
-    let entry = (judged .before .before .before) .before in
-    let t = entry .pre .0 .tables in
-    let o = entry .pre .0 .order in
-    let a = entry .args in
-    let from = start-holds o (a .n) (t .edges) (a .m) (t .gave) (a .starts) (t .starts-are) in
-    let w = t .gave .placed-well .few-positions in
-    let p = t .gave .positions-are in (
-      omega arith,
-      (
-        room-racks o (a .n) (t .edges) (a .m) (t .gave) (t .can),
-        (start-placed o (a .n) (t .edges) (a .m) (t .gave) _ from, from .size),
-      ),
-    )
-
-fill-requires-2 : tie.Need-fill-requires-2
-fill-requires-2 c κs =
-    let test = c .before .before .before in
+round-requires : tie.Need-round-requires
+round-requires c κs =
+    let test = c .before .before in
     let judged = test .before in
-    let entry = (judged .before .before .before) .before in
-    let t = entry .pre .0 .tables in
-    let o = entry .pre .0 .order in
-    let a = entry .args in
-    let to = goal-holds o (a .n) (t .edges) (a .m) (t .gave) (a .goals) (t .goals-are) in
-    let w = t .gave .placed-well .few-positions in
-    let p = t .gave .positions-are in (
-      omega arith,
+    let entry = (judged .before .before .before) .before in (
+      entry .pre .0,
       (
-        room-racks o (a .n) (t .edges) (a .m) (t .gave) (t .can),
-        (goal-placed o (a .n) (t .edges) (a .m) (t .gave) _ to, to .size),
-      ),
-    )
-
-break-down-requires : tie.Need-break-down-requires
-break-down-requires c κs =
-    let first = c .before .before in
-    let judged = first .before .before .before in
-    let entry = (judged .before .before .before) .before in
-    let t = entry .pre .0 .tables in
-    let o = entry .pre .0 .order in
-    let a = entry .args in
-    rows-right o (a .n) (t .edges) (a .m) (t .gave) (t .can) _ (t .rows-are)
-
-solve-requires : tie.Need-solve-requires
-solve-requires c κs =
-    let found = c .before .before in
-    let second = found .before in
-    let first = second .before .before in
-    let judged = first .before .before .before in
-    let entry = (judged .before .before .before) .before in
-    let t = entry .pre .0 .tables in
-    let o = entry .pre .0 .order in
-    let a = entry .args in
-    let answer = found .break-down .ensures in
-    let f = first .fill .ensures in
-    let g = second .fill2 .ensures in
-    let room = entry .pre .1 in (
-      rows-right o (a .n) (t .edges) (a .m) (t .gave) (t .can) _ (t .rows-are),
-      (
-        answer .found (broken o (a .n) (t .edges) (a .m) (t .gave) (t .can) _ (t .rows-are) _ _ _ _ _ _ answer),
-        (f .0, (g .0, (g .1 .1 .0, record { racks = f .1 .1 .0; room = omega arith }))),
+        (λ all. false≢true (sym (test .if1 .left) ∙ judged .same-tables .ensures .1 all)),
+        (c .before .if2 .taken, entry .pre .1),
       ),
     )
 
@@ -94,25 +37,25 @@ same-length : tie.Need-same-length
 same-length c = search needs
 
 returns-2 : tie.Need-returns-2
-returns-2 c =
-    let solved = c .before .before in
-    let found = solved .before .before .before in
-    let second = found .before in
-    let first = second .before .before in
-    let test = first .before .before in
+returns-2 c = search needs
+
+broken-down-requires : tie.Need-broken-down-requires
+broken-down-requires c κs =
+    let test = c .before .before in
     let judged = test .before in
-    let entry = (judged .before .before .before) .before in
-    let a = entry .args in
-    let e = solved .solve .ensures in
-    record {
-      moves-of = λ o t.
-          planned o (a .n) (t .edges) (a .m) (t .gave) (t .can) (a .rows .now) (t .rows-are) (a .starts) (a .goals)
-          (first .fill .last .1 .1 .0) (second .fill2 .last .1 .1 .0) (a .tail .now)
-          (start-holds o (a .n) (t .edges) (a .m) (t .gave) (a .starts) (t .starts-are))
-          (goal-holds o (a .n) (t .edges) (a .m) (t .gave) (a .goals) (t .goals-are))
-          (λ all. false≢true (sym (test .if1 .left) ∙ judged .same-tables .ensures .1 all))
-          (first .fill .ensures .1 .0) (second .fill2 .ensures .1 .0) (entry .pre .1) (e .0) (e .1);
-    }
+    let entry = (judged .before .before .before) .before in (
+      entry .pre .0,
+      (
+        (λ all. false≢true (sym (test .if1 .left) ∙ judged .same-tables .ensures .1 all)),
+        (c .before .if2 .left, entry .pre .1),
+      ),
+    )
+
+same-length-2 : tie.Need-same-length-2
+same-length-2 c = search needs
+
+returns-3 : tie.Need-returns-3
+returns-3 c = search needs
 
 pub plan-moves-spec : {M : Type 1} → statement M
 plan-moves-spec =
@@ -120,9 +63,9 @@ plan-moves-spec =
     (tie.spec
     same-tables-requires
     returns
-    fill-requires
-    fill-requires-2
-    break-down-requires
-    solve-requires
+    round-requires
     same-length
-    returns-2)
+    returns-2
+    broken-down-requires
+    same-length-2
+    returns-3)

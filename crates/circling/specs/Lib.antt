@@ -1,0 +1,3 @@
+pub mod Lands
+pub mod Drive
+pub mod Needs

@@ -1,0 +1,5 @@
+pub mod CircleLaws
+pub mod RoundLaws
+pub mod OrderLaws
+pub mod StandingLaws
+pub mod Examples
