@@ -24,7 +24,8 @@
  *              must not be NULL, not even with a length of 0, and must have that many bytes behind it.
  *   Ownership  All memory stays the caller's. Nothing is kept after the call, nothing is allocated, and
  *              there is no state between calls, so that several threads may call at once. The stack has to
- *              have room for small tables: 512 KiB are enough for every function.
+ *              have room for small tables: 512 KiB are enough for every function but wichteab_plan_shorten,
+ *              which takes 1 MiB.
  *   Output     The result is one number: an answer, taken apart by the functions under "Helpers", or of the
  *              two functions that say so a length. Bytes are written only to a parameter named `buffer`, and
  *              only where the answer is accepted: the record begins at the buffer's first byte, and the bytes
@@ -47,9 +48,9 @@ extern "C" {
  * Library and header come together and are of one version. The first number goes up where a caller may have
  * to change its code, the second where something was added (a function, a number), the third otherwise.
  */
-#define WICHTEAB_VERSION "1.3.0"
+#define WICHTEAB_VERSION "1.4.0"
 #define WICHTEAB_VERSION_MAJOR 1
-#define WICHTEAB_VERSION_MINOR 3
+#define WICHTEAB_VERSION_MINOR 4
 #define WICHTEAB_VERSION_PATCH 0
 
 /*
@@ -120,6 +121,7 @@ enum {
                                     such rack */
     WICHTEAB_PLAN_NO_RACK = 34,  /* no rack stands at the position that a move leaves. Place: the move */
     WICHTEAB_PLAN_OCCUPIED = 35, /* the position that a move enters is occupied. Place: the move */
+    WICHTEAB_SECOND_BUFFER = 37, /* the buffer for the shortened plan is shorter than the plan given */
 
     /* The timetable; place 0 unless it is named. */
     WICHTEAB_TIMETABLE_LENGTH = 40,  /* it is under 3 bytes, a step runs past its end, or bytes are left over */
@@ -195,6 +197,20 @@ uint64_t wichteab_plan_make(const uint8_t *order, size_t order_length, uint8_t *
  */
 uint64_t wichteab_plan_check(const uint8_t *order, size_t order_length, const uint8_t *plan,
                              size_t plan_length);
+
+/*
+ * wichteab_plan_shorten: takes the moves that cancel out of a plan.
+ *
+ * Takes an order and a plan, which are only read, and a second buffer at least as long as the plan, whatever
+ * it holds. Two moves cancel if the later undoes the earlier for the same rack and no move between them leaves
+ * or enters either position. The cancelling pair whose later move comes first is removed, again and again until
+ * none is left. Accepted: wichteab_plan_moves gives the number of moves that are left, and the shortened plan is
+ * at the front of the buffer, as long as wichteab_plan_length says; wichteab_plan_check accepts it with these
+ * moves, and shortened once more it stays as it is. Refused: as wichteab_plan_check, and 37, place 0; the
+ * buffer is as it was.
+ */
+uint64_t wichteab_plan_shorten(const uint8_t *order, size_t order_length, const uint8_t *plan,
+                               size_t plan_length, uint8_t *buffer, size_t buffer_length);
 
 /*
  * wichteab_timetable_check: does this timetable bring every rack of the order to its goal?
@@ -274,7 +290,7 @@ static inline size_t wichteab_expanded_length(uint64_t answer)
     return (size_t)(answer >> 8);
 }
 
-/* Of wichteab_plan_check or wichteab_plan_make, accepted: the plan's moves. */
+/* Of wichteab_plan_check, wichteab_plan_make or wichteab_plan_shorten, accepted: the plan's moves. */
 static inline uint32_t wichteab_plan_moves(uint64_t answer)
 {
     return (uint32_t)(answer >> 8);
@@ -358,6 +374,8 @@ static inline const char *wichteab_reason(uint32_t number)
         return "This move of the plan leaves a position where no rack stands at its turn.";
     case WICHTEAB_PLAN_OCCUPIED:
         return "This move of the plan enters a position where another rack stands at its turn.";
+    case WICHTEAB_SECOND_BUFFER:
+        return "The buffer for the shortened plan is too short: it has to be as long as the plan given.";
     case WICHTEAB_TIMETABLE_LENGTH:
         return "The timetable was cut short, or other bytes follow it: its length is not the one its counts "
                "give.";

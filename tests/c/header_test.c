@@ -27,6 +27,7 @@ static const struct fault faults[] = {
     {WICHTEAB_PLAN_GOAL, 33, "plan"},
     {WICHTEAB_PLAN_NO_RACK, 34, "plan"},
     {WICHTEAB_PLAN_OCCUPIED, 35, "plan"},
+    {WICHTEAB_SECOND_BUFFER, 37, "plan"},
     {WICHTEAB_TIMETABLE_LENGTH, 40, "timetable"},
     {WICHTEAB_TIMETABLE_PADDING, 41, "timetable"},
     {WICHTEAB_TIMETABLE_STEP, 42, "timetable"},

@@ -1,8 +1,8 @@
 /*
- * The header says that 512 KiB of stack are enough for every exported function. Each one runs here on a thread that
- * has just that, below it a page that may not be touched, on floors of 64 positions: the 8 by 8 grid and a ring with
- * one handle, both with 62 racks, and a train of 63. It has to give what it gives on the main thread. How much of the
- * stack was touched is printed; some KiB of it are the thread's own start.
+ * The header says that 512 KiB of stack are enough for every exported function but wichteab_plan_shorten, which takes
+ * 1 MiB. Each one runs here on a thread that has just that, below it a page that may not be touched, on floors of 64
+ * positions: the 8 by 8 grid and a ring with one handle, both with 62 racks, and a train of 63. It has to give what it
+ * gives on the main thread. How much of the stack was touched is printed; some KiB of it are the thread's own start.
  */
 #define _DEFAULT_SOURCE
 #include <pthread.h>
@@ -14,6 +14,7 @@
 #include "wichteab.h"
 
 #define STACK (512 * 1024)
+#define SHORTENER_STACK (1024 * 1024)
 #define GUARD (64 * 1024)
 #define POSITIONS 64
 #define MOST_MOVES (8 * POSITIONS * POSITIONS * POSITIONS)
@@ -27,6 +28,7 @@ struct record {
 static struct record order;
 static size_t order_length;
 static uint8_t plan[12 * POSITIONS * POSITIONS * POSITIONS + 3], timetable[3 * MOST_MOVES + 3];
+static uint8_t shortened[sizeof plan];
 static size_t plan_length, timetable_length;
 
 static void begin(struct record *record)
@@ -173,6 +175,11 @@ static uint64_t plan_check(void)
     return wichteab_plan_check(order.bytes, order_length, plan, plan_length);
 }
 
+static uint64_t plan_shorten(void)
+{
+    return wichteab_plan_shorten(order.bytes, order_length, plan, plan_length, shortened, sizeof shortened);
+}
+
 static uint64_t timetable_make(void)
 {
     return wichteab_timetable_make(order.bytes, order_length, plan, plan_length, timetable, sizeof timetable);
@@ -206,39 +213,66 @@ static void *make_call(void *argument)
     return NULL;
 }
 
-/* What the function gives on a thread with 512 KiB of stack. */
-static uint64_t on_small_stack(uint64_t (*function)(void), const char *name)
+/* What the function gives on a thread with so many bytes of stack. */
+static uint64_t on_small_stack(uint64_t (*function)(void), const char *name, size_t size)
 {
     struct call call = {function, 0};
-    uint8_t *stack = (uint8_t *)mmap(NULL, GUARD + STACK, PROT_READ | PROT_WRITE, MAP_PRIVATE | MAP_ANONYMOUS, -1, 0);
-    size_t touched = STACK;
+    uint8_t *stack = (uint8_t *)mmap(NULL, GUARD + size, PROT_READ | PROT_WRITE, MAP_PRIVATE | MAP_ANONYMOUS, -1, 0);
+    size_t touched = size;
     pthread_attr_t attributes;
     pthread_t thread;
     if (stack == (uint8_t *)MAP_FAILED || mprotect(stack, GUARD, PROT_NONE) != 0) {
         abort();
     }
     stack += GUARD;
-    memset(stack, FILL, STACK);
-    if (pthread_attr_init(&attributes) != 0 || pthread_attr_setstack(&attributes, stack, STACK) != 0 ||
+    memset(stack, FILL, size);
+    if (pthread_attr_init(&attributes) != 0 || pthread_attr_setstack(&attributes, stack, size) != 0 ||
         pthread_create(&thread, &attributes, make_call, &call) != 0 || pthread_join(thread, NULL) != 0) {
         abort();
     }
-    while (touched > 0 && stack[STACK - touched] == FILL) {
+    while (touched > 0 && stack[size - touched] == FILL) {
         touched--;
     }
     printf("%s: %u KiB\n", name, (unsigned)(touched + 1023) / 1024);
     fflush(stdout);
     pthread_attr_destroy(&attributes);
-    munmap(stack - GUARD, GUARD + STACK);
+    munmap(stack - GUARD, GUARD + size);
     return call.result;
 }
 
 /* The same on both stacks; what it gave. */
-static uint64_t run(uint64_t (*function)(void), const char *name)
+static uint64_t run_on(size_t size, uint64_t (*function)(void), const char *name)
 {
-    uint64_t result = on_small_stack(function, name);
+    uint64_t result = on_small_stack(function, name, size);
     expect(result == function(), name);
     return result;
+}
+
+static uint64_t run(uint64_t (*function)(void), const char *name)
+{
+    return run_on(STACK, function, name);
+}
+
+/* One rack goes to and fro between two positions, so often that the shortener takes its largest tables. */
+static void put_to_and_fro(unsigned moves)
+{
+    static const uint8_t to_and_fro[] = {0x00, 0x10, 0x40}; /* 0>1, 1>0 */
+    size_t at;
+    begin(&order);
+    put(&order, 2, 7);
+    put(&order, 1, 8);
+    put(&order, 1, 7);
+    put(&order, 0, 2);
+    put_pair(&order, 0, 1);
+    put_pair(&order, 0, 0);
+    order_length = length_of(&order);
+    plan_length = wichteab_plan_length(moves);
+    plan[0] = (uint8_t)(moves >> 14);
+    plan[1] = (uint8_t)(moves >> 6);
+    plan[2] = (uint8_t)(moves << 2);
+    for (at = 3; at < plan_length; at++) {
+        plan[at] = to_and_fro[(at - 3) % 3];
+    }
 }
 
 /* Every function in turn on one order that can be planned. */
@@ -252,6 +286,7 @@ static void run_all(void)
     plan_length = wichteab_plan_length(wichteab_plan_moves(planned));
     expect(wichteab_number(planned) == 0, "planned");
     expect(run(plan_check, "wichteab_plan_check") == planned, "and its plan accepted");
+    expect(wichteab_number(run_on(SHORTENER_STACK, plan_shorten, "wichteab_plan_shorten")) == 0, "shortened");
     expect(wichteab_number(run(timetable_make, "wichteab_timetable_make")) == 0, "timetabled");
     timetable_length = (size_t)run(timetable_end, "wichteab_timetable_length");
     checked = run(timetable_check, "wichteab_timetable_check");
@@ -272,6 +307,9 @@ int main(void)
     put_ring_and_handle();
     put_racks_turned_round();
     run_all();
+    put_to_and_fro(200000);
+    answer = run_on(SHORTENER_STACK, plan_shorten, "wichteab_plan_shorten, 200000 moves");
+    expect(answer == 0, "of 200000 moves to and fro none is left");
     put_train();
     answer = run(timetable_check, "wichteab_timetable_check, a train of 63");
     expect(wichteab_number(answer) == 0 && wichteab_timetable_moves(answer) == 63, "the train is accepted");

@@ -46,6 +46,7 @@ numberOf Fault.OrderBuffer = 52
 numberOf Fault.PlanNoRack = 34
 numberOf Fault.PlanOccupied = 35
 numberOf Fault.FloorOrder = 24
+numberOf Fault.SecondBuffer = 37
 
 -- as an arm of a match on f tells it: f is some case, and r is that case's number
 pub record HasNumber (f : Fault) (r : ℕ) : Type 0 where

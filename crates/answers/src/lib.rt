@@ -56,6 +56,8 @@ pub enum Fault {
     PlanOccupied,
     // The racks stand in another order round the ring at the goal.
     FloorOrder,
+    // The second buffer is shorter than the plan given.
+    SecondBuffer,
 }
 
 // Document 01's number of a fault.
@@ -95,6 +97,7 @@ fn case_number(fault: Fault) -> u64
         Fault::PlanNoRack => 34,
         Fault::PlanOccupied => 35,
         Fault::FloorOrder => 24,
+        Fault::SecondBuffer => 37,
     }
 }
 

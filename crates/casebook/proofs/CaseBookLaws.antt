@@ -20,7 +20,8 @@ use Rattle.timetable.proofs.Inhabited.{timetable-open}
 use Rattle.scheduling.proofs.MakerCases.{maker-open}
 use Rattle.scheduling.specs.Maker.{madeOf, makerAnswer, bufferAfter}
 use Rattle.motion.specs.Arrangement.{stands}
-use Rattle.ring.specs.Circle.{placeIn, roundOf, follow, onward, firstFrom}
+use Rattle.sets.specs.First.{firstFrom}
+use Rattle.ring.specs.Circle.{placeIn, roundOf, follow, onward}
 use Rattle.floor.specs.FloorAnswer.{biConnected?, ring?, roundPlace, disordered?, floorAnswer}
 use Rattle.floor.specs.RoundDecision.{rack?, inTurn?, sameOrder?}
 use Rattle.planner.specs.Planner.{refusals, PlanMade}

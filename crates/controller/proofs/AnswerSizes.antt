@@ -4,7 +4,8 @@
 --     NoCounts, OneCount, StepsMoves, OffsetLength    the counts that fit, by function
 --     refuse-sized, passUp-sized, judged-sized        an answer made of sized answers is sized
 --     misplaced-small, Stopping                       a misplaced rack and the place where a replay stops are at most one above the list
---     order-sized, floor-sized, expand-sized, planner-sized, made-sized, plan-sized, timetable-sized, maker-sized, step-sized
+--     order-sized, floor-sized, expand-sized, planner-sized, made-sized, plan-sized, timetable-sized, maker-sized, shortener-sized,
+--     step-sized
 --                         so are the answers of each function
 -- Assumes nothing.
 use Prim.Native.Nat.{ℕ, zero, suc, _+_, _*_, _^_, _≤_, _<_}
@@ -46,6 +47,8 @@ use Rattle.timetable.specs.Timetable.{stepAnswer}
 use Rattle.timetable.proofs.StepLaws.{length-parts}
 use Rattle.timetable.specs.ByteString.{ByteString}
 use Rattle.timetable.proofs.SizeLaws.{count-small, total-small, offset-small, length-small}
+use Rattle.shortening.specs.Shortener.{shortenerAnswer}
+use Rattle.shortening.proofs.ShortenerLaws.{moves-small}
 use Rattle.scheduling.specs.Maker.{makerAnswer}
 use Rattle.scheduling.proofs.SizeLaws.{steps-small}
 
@@ -213,6 +216,13 @@ maker-sized o p n =
     passUp-sized (planAnswer o p) _ (plan-sized o p)
     (λ v e. refuse-sized (ltb n (3 * moveCount p + 3)) 44 0 _ tt tt (lit< tt)
     (λ room. accepts (one-count (steps-small o p n _ (sym (passUp-accepted (planAnswer o p) _ v e ∙ rw room refl))))))
+
+pub shortener-sized : (o p : List ℕ) (n : ℕ) → Sized OneCount (shortenerAnswer o p n)
+unfolding shortenerAnswer
+shortener-sized o p n =
+    passUp-sized (planAnswer o p) _ (plan-sized o p)
+    (λ v e. refuse-sized (ltb n (length p)) 37 0 _ tt tt (lit< tt)
+    (λ room. accepts (one-count (moves-small o p n _ (sym (passUp-accepted (planAnswer o p) _ v e ∙ rw room refl))))))
 
 pub step-sized : (s : List ℕ) (i : ℕ) → ByteString s → Sized OffsetLength (stepAnswer s i)
 unfolding stepAnswer

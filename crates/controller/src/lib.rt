@@ -8,6 +8,7 @@ use order::OrderVerdict;
 use plan::PlanVerdict;
 use planner::PlannerVerdict;
 use scheduling::MakerVerdict;
+use shortening::ShortenerVerdict;
 use timetable::StepVerdict;
 use timetable::TimetableVerdict;
 ghost use mathlib.Core.Path.{_≡_};
@@ -20,6 +21,7 @@ ghost use Rattle.models.specs.Expansion.{expandAnswer, bufferAfter as orderBuff
 ghost use Rattle.plan.specs.Plan.{planAnswer};
 ghost use Rattle.planner.specs.Planner.{PlanMade};
 ghost use Rattle.scheduling.specs.Maker.{makerAnswer, bufferAfter};
+ghost use Rattle.shortening.specs.Shortener.{shortenerAnswer, bufferAfter as planBufferAfter};
 ghost use Rattle.timetable.specs.Timetable.{timetableAnswer, stepAnswer};
 ghost use Rattle.timetable.specs.RecordLength.{wholeTimetableLength};
 ghost use Rattle.controller.specs.Packed.{packed, nothing, oneCount, stepsAndMoves, lengthAndOffset};
@@ -89,6 +91,20 @@ pub extern "C" fn wichteab_plan_check(order: &[u8], plan: &[u8]) -> u64
     match plan::check(order, plan) {
         PlanVerdict::Accepted(moves) => (moves as u64) * 256,
         PlanVerdict::Refused(fault, place) => refusal(fault, place),
+    }
+}
+
+// Takes the moves that cancel out of a plan for an order and writes what is left to the front of the buffer, judged by 10 to 14, 30 to 35
+// and 37. Accepted, it gives the moves written.
+#[no_mangle]
+pub extern "C" fn wichteab_plan_shorten(order: &[u8], plan: &[u8], buffer: &mut [u8]) -> u64
+    ensures { λ r. ⌜ Tells oneCount planMovesOf
+        (shortenerAnswer (now (order .entry)) (now (plan .entry)) (length (now (buffer .entry)))) r ⌝ }
+    ensures { λ _. ⌜ now (buffer .exit) ≡ planBufferAfter (now (order .entry)) (now (plan .entry)) (now (buffer .entry)) ⌝ }
+{
+    match shortening::shorten(order, plan, buffer) {
+        ShortenerVerdict::Accepted(moves) => (moves as u64) * 256,
+        ShortenerVerdict::Refused(fault, place) => refusal(fault, place),
     }
 }
 

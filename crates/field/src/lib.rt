@@ -37,16 +37,18 @@ pub fn second_of(x: u16) -> usize
     x as usize % 64
 }
 
-// The pair that stands j pairs after the first byte, as one number, first * 64 + second. Two pairs take three bytes.
+// The pair that stands j pairs after the first byte, as one number, first * 64 + second. Two pairs take three bytes, and each stands in
+// two of them. These are read in one way, so that reading pairs in no order has no branch to guess.
 pub fn pair_number(s: &[u8], j: usize) -> usize
     requires { ⌜ 12 * j + 12 ≤ 8 * length (now s) ⌝ }
     ensures { λ r. ⌜ PairAt (now (s .entry)) (12 * j) (r / 64) (r % 64) ⌝ }
 {
-    let at = j / 2 * 3;
+    let at = j + j / 2;
+    let x = wide(s[at]) * 256 + wide(s[at + 1]);
     if j % 2 == 0 {
-        return wide(s[at]) * 16 + wide(s[at + 1]) / 16;
+        return x / 16;
     }
-    wide(s[at + 1]) % 16 * 256 + wide(s[at + 2])
+    x % 4096
 }
 
 // The two positions of that pair.

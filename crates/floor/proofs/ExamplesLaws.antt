@@ -20,7 +20,8 @@ use Rattle.order.specs.Order.{positionCount, edgeCount, rackCount, unitCount, f
 use Rattle.order.specs.Order.{wrongPositions, paddingSet, badEdge, precedes, ascending, wrongEdges, repeats, wrongPlaces, wrongRacks}
 use Rattle.order.specs.Order.{counts, orderAnswer}
 use Rattle.motion.specs.Arrangement.{stands}
-use Rattle.ring.specs.Circle.{placeIn, roundOf, follow, onward, firstFrom}
+use Rattle.sets.specs.First.{firstFrom}
+use Rattle.ring.specs.Circle.{placeIn, roundOf, follow, onward}
 use Rattle.graph.specs.Connected.{BiConnected, Ring}
 use Rattle.graph.specs.Rows.{Edge}
 use Rattle.graph.specs.EdgeCount.{edgeCount as edgesIn}

@@ -14,7 +14,7 @@ use lib.Dec.{T, ltb, eqb}
 use Rattle.order.specs.Floor.{Floor, some}
 use Rattle.motion.specs.Arrangement.{Arrangement, occupied, vacant}
 use Rattle.motion.specs.Move.{goesTo, after, afterMove}
-use Rattle.motion.proofs.TraceLaws.{trace}
+use Rattle.motion.specs.Replay.{trace}
 use Rattle.motion.specs.Sound.{Sound}
 use Rattle.motion.specs.StepOf.{moved}
 use Rattle.motion.specs.StepSolutions.{movesBetween}

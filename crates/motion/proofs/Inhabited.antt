@@ -23,8 +23,7 @@ use Rattle.order.specs.Floor.{Floor, some, isPair, joined}
 use Rattle.motion.specs.Arrangement.{Arrangement, occupied, vacant}
 use Rattle.motion.specs.Move.{onFloor, legalMove, faultBy, moveFault, goesTo, after, afterMove}
 use Rattle.motion.specs.Step.{leaves, enters}
-use Rattle.motion.specs.Replay.{ended, stopped, replayFrom, replayMoves}
-use Rattle.motion.proofs.TraceLaws.{trace}
+use Rattle.motion.specs.Replay.{ended, stopped, replayFrom, replayMoves, trace}
 use Rattle.motion.proofs.Lawful.{Leads, Stops, replayMoves-ended, replayMoves-stopped}
 use Rattle.motion.proofs.MoveLaws.{turned}
 use Rattle.motion.proofs.Reversal.{undo, leads-undo}

@@ -25,11 +25,11 @@ use Rattle.motion.proofs.ArrangementLaws.{occupied-rack, vacant-racks, 
 use Rattle.motion.specs.Move.{onFloor, legalMove, afterMove}
 use Rattle.motion.proofs.MoveLaws.{onFloor-parts, legal-parts, legal-apart, move-length, moved-rack, moved-other}
 use Rattle.motion.proofs.Lawful.{Leads, still, _then_, replayMoves-ended}
-use Rattle.motion.specs.Replay.{ended, replayMoves}
+use Rattle.motion.specs.Replay.{ended, replayMoves, trace}
 use Rattle.motion.specs.Sound.{Sound}
 use Rattle.motion.proofs.SoundLaws.{move-sound}
 use Rattle.motion.proofs.Test.{equal?}
-use Rattle.motion.proofs.TraceLaws.{trace-length, trace-first, trace-last, trace-turn, trace-keeps, trace}
+use Rattle.motion.proofs.TraceLaws.{trace-length, trace-first, trace-last, trace-turn, trace-keeps}
 use Rattle.motion.specs.Pebble.{IsRack, UniquelyInvertible, Instance, arrangementAt, AlongEdges, IntoUnoccupied, OneMoves, Solution}
 
 to-sound : (F : Floor) (m : ℕ) (A : Arrangement) → UniquelyInvertible F m A → Sound (F .positions) A

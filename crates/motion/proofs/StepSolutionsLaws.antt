@@ -23,8 +23,7 @@ use lib.ListN.{length}
 use Rattle.order.specs.Floor.{Floor}
 use Rattle.motion.specs.Arrangement.{Arrangement}
 use Rattle.motion.specs.Move.{after}
-use Rattle.motion.specs.Replay.{ended, replaySteps}
-use Rattle.motion.proofs.TraceLaws.{trace}
+use Rattle.motion.specs.Replay.{ended, replaySteps, trace}
 use Rattle.motion.specs.Problem.{UniquelyInvertible, Instance, arrangementAt, AlongEdges}
 use Rattle.motion.specs.ParallelPathFinding.{InChains, Solution}
 use Rattle.motion.proofs.Racks.{valid-fits}

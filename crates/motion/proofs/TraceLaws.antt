@@ -1,6 +1,5 @@
 -- Laws of traces, of moves and of steps alike: the arrangements that a replay passes through, the first at index 0.
 --
---     trace a A       the arrangements that a replay passes through, the first and the last included
 --     trace-length    one arrangement more than the list has elements
 --     trace-first     the trace begins where the replay does
 --     trace-last      the trace of a lawful list ends where the list leads
@@ -15,11 +14,8 @@ use native.Mathlib.Omega.{arith}
 use lib.Dec.{T}
 use lib.ListN.{length, getD}
 use Rattle.motion.specs.Arrangement.{Arrangement}
+use Rattle.motion.specs.Replay.{trace}
 use Rattle.motion.proofs.Lawful.{Lawful, still, _then_}
-
-unfoldable pub trace : {X : Type 0} → (Arrangement → X → Arrangement) → Arrangement → List X → List Arrangement
-trace next A [] = A ∷ []
-trace next A (x ∷ xs) = A ∷ trace next (next A x) xs
 
 module _ {X : Type 0} (next : Arrangement → X → Arrangement) where
   pub trace-length : (A : Arrangement) (xs : List X) → length (trace next A xs) ≡ suc (length xs)

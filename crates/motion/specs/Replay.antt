@@ -7,6 +7,7 @@
 --     unlessLegal d        the fault of a step of which d decides whether it is legal: 42, or 0 for none
 --     stepFault legal?     the fault of a step, where legal? decides
 --     replaySteps legal? A replay of a timetable's steps from the arrangement A
+--     trace a A            the arrangements that a replay passes through, the first and the last included
 -- Whether a step is legal has to be decided for a replay to be computed. What is decided stands in the decision's type, `LegalStep`. Any
 -- decision gives the same replay; proofs/StepDecision.antt has one.
 -- Assumes nothing.
@@ -44,3 +45,7 @@ module _ {F : Floor} (legal? : (A : Arrangement) (ms : List (ℕ × ℕ)) → De
 
   unfoldable pub replaySteps : Arrangement → List (List (ℕ × ℕ)) → Replayed
   replaySteps A steps = replayFrom stepFault after 1 A steps
+
+unfoldable pub trace : {X : Type 0} → (Arrangement → X → Arrangement) → Arrangement → List X → List Arrangement
+trace next A [] = A ∷ []
+trace next A (x ∷ xs) = A ∷ trace next (next A x) xs

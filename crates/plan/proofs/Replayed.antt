@@ -25,8 +25,7 @@ use Rattle.order.proofs.OrderLaws.{well-formed, accepted-is}
 use Rattle.motion.specs.Arrangement.{Arrangement}
 use Rattle.motion.specs.Move.{afterMove}
 use Rattle.motion.proofs.MoveLaws.{onFloor-parts, legal-parts}
-use Rattle.motion.specs.Replay.{ended, replayMoves}
-use Rattle.motion.proofs.TraceLaws.{trace}
+use Rattle.motion.specs.Replay.{ended, replayMoves, trace}
 use Rattle.motion.proofs.Lawful.{Leads, still, _then_, replayMoves-ended}
 use Rattle.motion.proofs.SoundLaws.{leads-length}
 use Rattle.motion.specs.Judgement.{judged}

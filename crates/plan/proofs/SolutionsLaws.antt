@@ -13,8 +13,7 @@ use Rattle.field.proofs.BitLaws.{field-lt}
 use Rattle.order.specs.Order.{rackCount, floorOf, startsOf, goalsOf, WellFormed}
 use Rattle.motion.specs.Arrangement.{Arrangement}
 use Rattle.motion.specs.Move.{afterMove}
-use Rattle.motion.specs.Replay.{ended, replayMoves}
-use Rattle.motion.proofs.TraceLaws.{trace}
+use Rattle.motion.specs.Replay.{ended, replayMoves, trace}
 use Rattle.motion.specs.StepSolutions.{movesBetween}
 use Rattle.motion.proofs.Lawful.{replayMoves-ended}
 use Rattle.motion.proofs.PebbleLaws.{pebble-replay}

@@ -31,7 +31,8 @@ use Rattle.plan.proofs.Examples.{plan-open}
 use Rattle.plan.specs.Plan.{planBits, planRecord}
 use Rattle.writers.specs.Lines.{digits, decimal, refusalLine}
 use Rattle.motion.specs.Arrangement.{stands}
-use Rattle.ring.specs.Circle.{placeIn, roundOf, follow, onward, firstFrom}
+use Rattle.sets.specs.First.{firstFrom}
+use Rattle.ring.specs.Circle.{placeIn, roundOf, follow, onward}
 use Rattle.floor.specs.FloorAnswer.{biConnected?, ring?, roundPlace, disordered?, floorAnswer}
 use Rattle.floor.specs.RoundDecision.{rack?, inTurn?, sameOrder?}
 use Rattle.floor.specs.Plannable.{Plannable}

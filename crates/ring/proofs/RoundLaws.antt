@@ -18,11 +18,12 @@ use borrow.Author.Tests.{eqb-true, eqb-false, eq-eqb, ne-eqb, not-true}
 use lib.Dec.{eqb}
 use lib.ListN.{getD, length}
 use Rattle.sets.specs.Sets.{bit}
+use Rattle.sets.specs.First.{firstFrom}
 use Rattle.graph.specs.Connected.{Ring}
 use Rattle.graph.specs.EdgeCount.{rowSum, edgeCount}
 use Rattle.graph.specs.Rows.{Edge, Rows}
 use Rattle.graph.proofs.EdgeCountLaws.{handshake, rowsSum-more, rowSum-least-three, biConnected-neighbours, biConnected-degree}
-use Rattle.ring.specs.Circle.{Circle, firstFrom, onward, follow, roundOf, edgeIn, placeIn}
+use Rattle.ring.specs.Circle.{Circle, onward, follow, roundOf, edgeIn, placeIn}
 use Rattle.ring.proofs.CircleLaws.{Degree, Finds, way-circle}
 
 and-both : (a b : Bool) → a && b ≡ true → (a ≡ true) × (b ≡ true)

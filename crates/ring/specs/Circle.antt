@@ -3,7 +3,6 @@
 --
 --     next n i            the place after place i, of n places: after the last comes the first
 --     Circle n E at       the n positions are at 0, at 1, .., each at one place; an edge joins each to the next, and the last to the first
---     firstFrom f i k     the first of i, i + 1, .. that the test f passes, k of them tried; i + k where none does
 --     onward n e a b      the lowest position that an edge joins to b, and that is not a
 --     follow n e a b k    k positions in a row: b, and then always on, never straight back; a is the one before b
 --     roundOf n e         the n positions of a ring in their order round it
@@ -18,6 +17,7 @@ use mathlib.Core.Logic.{_≢_}
 use lib.Dec.{eqb}
 use lib.ListN.{getD}
 use Rattle.sets.specs.Sets.{bit}
+use Rattle.sets.specs.First.{firstFrom}
 
 abbrev pub next : ℕ → ℕ → ℕ
 next n i = cond (eqb (i + 1) n) 0 (i + 1)
@@ -27,10 +27,6 @@ pub record Circle (n : ℕ) (E : ℕ → ℕ → Type 0) (at : ℕ → ℕ) : Ty
   pub distinct : (i j : ℕ) → i < j → j < n → at i ≢ at j
   pub joined : (i : ℕ) → i + 1 < n → E (at i) (at (i + 1))
   pub closed : E (at (n - 1)) (at 0)
-
-unfoldable pub firstFrom : (ℕ → Bool) → ℕ → ℕ → ℕ
-firstFrom f i zero = i
-firstFrom f i (suc k) = cond (f i) i (firstFrom f (suc i) k)
 
 unfoldable pub onward : ℕ → (ℕ → ℕ → Bool) → ℕ → ℕ → ℕ
 onward n e a b = firstFrom (λ c. e b c && not (eqb c a)) 0 n

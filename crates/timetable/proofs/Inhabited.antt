@@ -40,8 +40,7 @@ use Rattle.order.specs.Order.{counts, orderAnswer, WellFormed}
 use Rattle.motion.specs.Arrangement.{occupied, vacant}
 use Rattle.motion.specs.Move.{onFloor, goesTo, after}
 use Rattle.motion.specs.Step.{every, ascends, leaves, enters, enteredOnce, led, legalStep}
-use Rattle.motion.specs.Replay.{replayFrom, unlessLegal, stepFault, replaySteps}
-use Rattle.motion.proofs.TraceLaws.{trace}
+use Rattle.motion.specs.Replay.{replayFrom, unlessLegal, stepFault, replaySteps, trace}
 use Rattle.motion.proofs.StepDecision.{by-test, legalStep?}
 use Rattle.motion.specs.Judgement.{misplaced, judged}
 use Rattle.motion.specs.StepOf.{moved, insert, sort, stepOf}

@@ -25,8 +25,7 @@ use Rattle.order.proofs.OrderLaws.{well-formed, accepted-is}
 use Rattle.motion.specs.Arrangement.{Arrangement}
 use Rattle.motion.specs.Move.{after}
 use Rattle.motion.proofs.MoveLaws.{after-length}
-use Rattle.motion.specs.Replay.{Replayed, ended, replaySteps}
-use Rattle.motion.proofs.TraceLaws.{trace}
+use Rattle.motion.specs.Replay.{Replayed, ended, replaySteps, trace}
 use Rattle.motion.proofs.StepDecision.{legalStep?}
 use Rattle.motion.proofs.Lawful.{LeadsSteps, still, _then_, replaySteps-ended}
 use Rattle.motion.specs.LegalStep.{LegalStep}

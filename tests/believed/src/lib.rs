@@ -29,6 +29,7 @@ const THEOREMS: &[(&str, &[&str])] = &[
     ("crates/floor/specs/Plannable.antt", &[]),
     ("crates/scheduling/specs/Maker.antt", &["Timetabled"]),
     ("crates/planner/specs/Rings.antt", &[]),
+    ("crates/shortening/specs/Theorems.antt", &[]),
 ];
 
 /// A decision carries the proof that it decides: what it decides stands in its type, and nobody has to believe the rest.

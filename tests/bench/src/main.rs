@@ -3,6 +3,7 @@
 
 mod quality;
 
+use compare::cancelling;
 use compare::floors;
 use compare::orders;
 use compare::plans;
@@ -28,11 +29,13 @@ fn main() {
     breakdown();
     clear();
     plan_check();
+    plan_shorten();
     timetable_check();
     timetable_step();
     timetable_make();
     quality::print_table();
     quality::print_rings();
+    quality::print_shortened();
 }
 
 /// Seconds that one of so many calls takes.
@@ -221,6 +224,31 @@ fn plan_check() {
             || compare::packed::count(second::plan::check(black_box(&order), &plan)),
         );
     }
+}
+
+/// Random plans, and the plans that a search for what cancels has to be made for. The second implementation's
+/// faster pass is the other side: it keeps two links for each move in a vector.
+fn plan_shorten() {
+    let most = 2_097_152;
+    for (m, moves, calls) in [(62, 1_354, 500), (62, most, 1), (32, most, 1), (1, most, 1)] {
+        let (order, plan) = grid_plan(m, moves);
+        shorten_line(&format!("8 by 8 grid, {m} racks, {moves} moves"), &order, &plan, calls);
+    }
+    for (name, sample) in cancelling::hurting(most) {
+        let input = format!("{} moves, {name}", sample.moves.len());
+        shorten_line(&input, &sample.order.record(), &sample.plan().record(), 1);
+    }
+}
+
+fn shorten_line(input: &str, order: &[u8], plan: &[u8], calls: usize) {
+    let (mut one, mut two) = (vec![0; plan.len()], vec![0; plan.len()]);
+    compare_speed(
+        "plan_shorten",
+        input,
+        calls,
+        || proved::plan_shorten(black_box(order), plan, &mut one),
+        || compare::packed::count(second::shortening::shorten_long(black_box(order), plan, &mut two)),
+    );
 }
 
 /// A timetable of so many steps on an 8 by 8 grid, with its order and its moves.

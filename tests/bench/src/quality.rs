@@ -72,6 +72,37 @@ pub fn print_rings() {
     }
 }
 
+/// Prints what the planner's own plans lose when they are shortened.
+pub fn print_shortened() {
+    println!();
+    println!(
+        "The proved planner's plans, and what the proved shortener leaves of them: means for one order."
+    );
+    println!("grid   vacant  orders |  moves   left     lost |  steps   left");
+    let mut random = Random::new(0xBE_0009);
+    for (rows, columns, count) in GRIDS {
+        let floor = floors::grid(rows, columns);
+        for vacancies in vacancy_counts(floor.n) {
+            let mut order = || orders::order_on(&mut random, &floor, floor.n - vacancies).record();
+            let orders: Vec<Vec<u8>> = (0..count).map(|_| order()).collect();
+            let (made, left) = (mean_length(&orders, proved_plan), mean_length(&orders, shortened_plan));
+            let lost = 100.0 * (made.moves - left.moves) / made.moves;
+            println!(
+                "{rows} by {columns} {vacancies:>6} {count:>7} | {:>6.1} {:>6.1} {lost:>6.2} % | {:>6.1} {:>6.1}",
+                made.moves, left.moves, made.steps, left.steps
+            );
+        }
+    }
+}
+
+fn shortened_plan(order: &[u8]) -> Vec<u8> {
+    let plan = proved_plan(order);
+    let mut buffer = vec![0; plan.len()];
+    let k = packed::to_count(proved::plan_shorten(order, &plan, &mut buffer)).expect("the plan is accepted");
+    buffer.truncate(second::plan::length(k as usize));
+    buffer
+}
+
 const HEAD: &str = "
                       distances |      proved planner       | BIBOX, nearest     ratios | BIBOX, first       ratios
 grid   vacant  orders    in all |  moves  steps        time |  moves  steps moves steps |  moves  steps moves steps";

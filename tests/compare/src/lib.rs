@@ -17,6 +17,7 @@
 //! | `racks`      | an arrangement, random moves and random steps on it                |
 //! | `cases`      | an order and a record for it, sound or damaged                     |
 //! | `plans`      | plans, and damage                                                  |
+//! | `cancelling` | plans made to cancel                                               |
 //! | `timetables` | timetables, and damage                                             |
 //! | `programs`   | the programs, run on an input                                      |
 
@@ -24,6 +25,7 @@
 mod kinds;
 
 pub mod breakdowns;
+pub mod cancelling;
 pub mod cases;
 pub mod floors;
 pub mod orders;

@@ -1,6 +1,6 @@
 //! Moves that are not legal at their turn, told apart: 32, 34 and 35, each at the first, a middle and the last move
-//! of a plan. What the plan checker has to answer is certain from how a plan was made; the timetable maker has to pass
-//! it up, whatever its buffer's length.
+//! of a plan. What the plan checker has to answer is certain from how a plan was made; the timetable maker and
+//! the shortener have to pass it up, whatever their buffer's length.
 
 use compare::cases::Case;
 use compare::packed;
@@ -20,11 +20,13 @@ fn compare(tally: &mut Tally, case: &Case, moves: usize) {
     let due = case.answer.expect("it is certain");
     tally.compare(packed::count(second::plan::check(order, plan)), due, &[order, plan]);
     assert_eq!(proved::plan_check(order, plan), due, "{order:02X?} | {plan:02X?}");
-    // 44 comes last: an empty buffer, and one that is long enough
+    // 37 and 44 come last: an empty buffer, and one that is long enough
     for length in [0, 3 * moves + 9] {
         let mut buffer = vec![0xAA; length];
         assert_eq!(proved::timetable_make(order, plan, &mut buffer), due, "{order:02X?} | {plan:02X?}");
         assert_eq!(packed::count(second::making::make(order, plan, &mut buffer)), due);
+        assert_eq!(proved::plan_shorten(order, plan, &mut buffer), due, "{order:02X?} | {plan:02X?}");
+        assert_eq!(packed::count(second::shortening::shorten(order, plan, &mut buffer)), due);
         assert!(buffer.iter().all(|&byte| byte == 0xAA), "the buffer changed");
     }
 }

@@ -18,6 +18,7 @@
 //! | `program`   | Programs                          |                    |
 //! | `models`    | request (a), floors by model code | 50, 51, 14, 52     |
 //! | `clearing`  | request (b), the nearest vacancy  |                    |
+//! | `shortening` | request (e), shorter plans       | 37                 |
 #![forbid(unsafe_code)]
 
 pub mod answer;
@@ -32,4 +33,5 @@ pub mod plan;
 pub mod planning;
 pub mod program;
 pub mod record;
+pub mod shortening;
 pub mod timetable;

@@ -10,20 +10,18 @@ use Rattle.field.proofs.pair_number.Tie as tie
 
 returns : tie.Need-returns
 returns c =
-    let read = c .before .before in
-    let a = read .before .before .before .before .args in
-    let at = a .j / 2 * 3 in
+    let a = c .before .before .before .before .before .before .args in
+    let at = a .j + a .j / 2 in
     let first = sextet-0 (a .s .now) (12 * a .j) at (omega arith) (omega arith) (omega arith) in
     let second = sextet-6 (a .s .now) (12 * a .j + 6) at (at + 1) refl (omega arith) (omega arith) (omega arith) in
     record { first-is = omega arith; second-is = omega arith; first-below = omega arith; second-below = omega arith }
 
 returns-2 : tie.Need-returns-2
 returns-2 c =
-    let read = c .before .before in
-    let a = read .before .before .before .before .args in
-    let at = a .j / 2 * 3 in
-    let first = sextet-4 (a .s .now) (12 * a .j) (at + 1) (at + 2) (omega arith) (omega arith) (omega arith) (omega arith) in
-    let second = sextet-2 (a .s .now) (12 * a .j + 6) (at + 2) (omega arith) (omega arith) in
+    let a = c .before .before .before .before .before .before .args in
+    let at = a .j + a .j / 2 in
+    let first = sextet-4 (a .s .now) (12 * a .j) at (at + 1) refl (omega arith) (omega arith) (omega arith) in
+    let second = sextet-2 (a .s .now) (12 * a .j + 6) (at + 1) (omega arith) (omega arith) in
     record { first-is = omega arith; second-is = omega arith; first-below = omega arith; second-below = omega arith }
 
 pub pair-number-spec : {M : Type 1} → statement M
@@ -39,12 +37,4 @@ pair-number-spec =
     (λ c κs. search needs)
     (λ c. search needs)
     returns
-    (λ c. search needs)
-    (λ c. search needs)
-    (λ c κs. search needs)
-    (λ c. search needs)
-    (λ c. search needs)
-    (λ c. search needs)
-    (λ c κs. search needs)
-    (λ c. search needs)
     returns-2)

@@ -1,0 +1,10 @@
+pub mod StackLaws
+pub mod RuleLaws
+pub mod RemovalLaws
+pub mod PassLaws
+pub mod LookingLaws
+pub mod MarkLaws
+pub mod WritingLaws
+pub mod ShortenerLaws
+pub mod Theorems
+pub mod Examples

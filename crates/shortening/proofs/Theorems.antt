@@ -1,0 +1,111 @@
+-- The theorems on shortening.
+--
+--     removal-keeps    a removal leaves every rack's final place as it was: the moves that are left are legal, and end where they all did
+--     one-partner      a move cancels with one earlier move at most
+--     one-result       the rule makes one list of a list, and the function gives it
+--     shorter          what holds of the result for every accepted plan
+-- Assumes nothing.
+use Prim.Native.Nat.{ℕ, _*_, _^_, _<_, _≤_}
+use mathlib.Core.List.{List, [], _∷_}
+use mathlib.Core.Logic.{_↔_}
+use mathlib.Core.Path.{_≡_, refl, sym, ap, ap₂, _∙_, subst}
+use native.Mathlib.Omega.{arith}
+use lib.Dec.{T}
+use lib.ListN.{length}
+use Rattle.answers.specs.Answer.{Answer, accepted}
+use Rattle.field.specs.Units.{recordLength}
+use Rattle.field.proofs.BitLaws.{field-lt}
+use Rattle.field.proofs.UnitLaws.{Fitting, fitting}
+use Rattle.order.specs.Floor.{Floor}
+use Rattle.order.specs.Order.{floorOf, startsOf, goalsOf}
+use Rattle.motion.specs.Arrangement.{Arrangement}
+use Rattle.motion.specs.Replay.{ended, replayMoves}
+use Rattle.motion.proofs.Lawful.{Leads, replayMoves-ended}
+use Rattle.tables.proofs.AcceptedLaws.{well-placed}
+use Rattle.plan.specs.Plan.{planRecord, moveCount, planMoves, wrongPlanLength, planAnswer}
+use Rattle.plan.proofs.Limits.{LeadingPlan, accepted-leads}
+use Rattle.plan.proofs.PlanRecord.{moves-counted, length-record, Written, written as read-back}
+use Rattle.plan.proofs.Replayed.{leads-small}
+use Rattle.timetable.specs.Timetable.{timetableRecord, timetableAnswer}
+use Rattle.scheduling.specs.Making.{timed, greatest}
+use Rattle.scheduling.specs.Maker.{madeOf}
+use Rattle.scheduling.proofs.MakerLaws.{timetabled}
+use Rattle.shortening.specs.Rule.{cancels, without, NoPair, Shortens, shortened}
+use Rattle.shortening.specs.Shortener.{shortenedOf}
+use Rattle.shortening.specs.Theorems.{Shorter}
+use Rattle.shortening.proofs.RuleLaws.{partner-unique, shortens-unique, shortened-rule, shortens-none, shortens-length}
+use Rattle.shortening.proofs.RuleLaws.{shortens-again}
+use Rattle.shortening.proofs.RemovalLaws.{removal-leads, shortens-leads}
+
+pub removal-keeps : (F : Floor) (A B : Arrangement) (ms : List (ℕ × ℕ)) (i j : ℕ) → replayMoves F A ms ≡ ended B → T (cancels A ms i j)
+    → replayMoves F A (without ms i j) ≡ ended B
+removal-keeps F A B ms i j e c =
+    replayMoves-ended F A (without ms i j) B .1 (removal-leads F ms i j c (replayMoves-ended F A ms B .0 e))
+
+pub one-partner : (A : Arrangement) (ms : List (ℕ × ℕ)) (i i′ j : ℕ) → T (cancels A ms i j) → T (cancels A ms i′ j) → i ≡ i′
+one-partner = partner-unique
+
+pub one-result : (A : Arrangement) (ms ns : List (ℕ × ℕ)) → Shortens A ms ns ↔ (ns ≡ shortened A ms)
+one-result A ms ns = (
+  λ s. shortens-unique A s (shortened-rule A ms),
+  λ e. subst (λ (l : List (ℕ × ℕ)). Shortens A ms l) (sym e) (shortened-rule A ms),
+)
+
+module _ (o p v : List ℕ) (e : planAnswer o p ≡ accepted v) where
+  gave : LeadingPlan o p v
+  gave = accepted-leads o p v .0 e
+
+  abbrev left : List (ℕ × ℕ)
+  left = shortenedOf o p
+
+  ruled : Shortens (startsOf o) (planMoves p) left
+  unfolding shortenedOf
+  ruled = shortened-rule (startsOf o) (planMoves p)
+
+  leads : Leads (floorOf o) (startsOf o) left (goalsOf o)
+  leads = shortens-leads (floorOf o) ruled (gave .leads)
+
+  few : length left ≤ moveCount p
+  few = omega (arith, shortens-length (startsOf o) ruled, moves-counted p)
+
+  small : moveCount p < 2 ^ 22
+  unfolding moveCount
+  small = field-lt p 0 22
+
+  read : Written left
+  read =
+      read-back left (omega (arith, few, small)) (leads-small (floorOf o) (well-placed o (gave .order-right) .few-positions) leads)
+
+  accepted-too : planAnswer o (planRecord left) ≡ accepted (length left ∷ [])
+  accepted-too =
+      accepted-leads o (planRecord left) (length left ∷ []) .1
+      (record {
+        order-right = gave .order-right;
+        length-right = read .length-right;
+        padding-clear = read .padding-clear;
+        counted = ap (λ (k : ℕ). k ∷ []) (read .count-is);
+        leads = rw (read .moves-are) leads;
+      })
+
+  fit : Fitting p (2 * moveCount p)
+  unfolding wrongPlanLength
+  fit = fitting p (2 * moveCount p) (gave .length-right)
+
+  stays : shortenedOf o (planRecord left) ≡ left
+  unfolding shortenedOf
+  stays = ap (shortened (startsOf o)) (read .moves-are) ∙ shortens-again (startsOf o) ruled
+
+  pub shorter : Shorter o p
+  shorter =
+      record {
+        by-rule = ruled;
+        accepted-too = accepted-too;
+        moves-at-most = few;
+        bytes-at-most = unfold recordLength in omega (arith, length-record left, few, fit .length-is);
+        no-pair = shortens-none (startsOf o) ruled;
+        stays = stays;
+        timetabled =
+            timetabled o (planRecord left) (length left ∷ []) accepted-too .checked
+            ∙ ap₂ (λ (ms : List (ℕ × ℕ)) (k : ℕ). accepted (greatest (timed (startsOf o) [] ms) ∷ k ∷ [])) (read .moves-are)
+            (read .count-is);
+      }

@@ -1,0 +1,118 @@
+-- `shortening::look_back` meets its contract. The loop's invariant: from the index that is reached on no kept move touches a position of
+-- `ends`, and the sets still cover what is kept. Assumes nothing.
+use Prim.Native.Nat.{_≤_}
+use mathlib.Core.Path.{_≡_, refl, _∙_}
+use native.Mathlib.Nat.{le-refl}
+use native.Mathlib.Omega.{arith}
+use lib.ListN.{length}
+use Rattle.shortening.specs.Looking.{ClearFrom, Looked}
+use Rattle.shortening.proofs.LookingLaws.{clear-down, never, found-at, found-none, looked-after}
+use Rattle.shortening.proofs.look_back.Statement.{statement}
+use Rattle.shortening.proofs.look_back.Tie as tie
+
+abbrev Inv-loop : tie.InvT-loop
+Inv-loop tail marks blocks₀ groups₀ from ends at₀ blocks groups at =
+    (at ≤ from) × Looked tail marks blocks groups × ClearFrom tail marks ends at × (length blocks ≡ length blocks₀)
+    × (length groups ≡ length groups₀)
+
+abbrev μ-loop : tie.MeasureT-loop
+μ-loop tail marks blocks₀ groups₀ from ends at₀ blocks groups at = at
+
+loop-holds : tie.Need-loop-holds Inv-loop μ-loop
+loop-holds c =
+    let entry = c .before .before .before .before in
+    (le-refl (entry .args .from), entry .pre .1 .0, entry .pre .1 .1, refl, refl)
+
+sub-touching : tie.Need-sub-touching Inv-loop μ-loop
+sub-touching c = omega arith
+
+touching-requires : tie.Need-touching-requires Inv-loop μ-loop
+touching-requires c κs = omega arith
+
+same-length : tie.Need-same-length Inv-loop μ-loop
+same-length c = c .before .before .before .loop .inv .3
+
+same-length-2 : tie.Need-same-length-2 Inv-loop μ-loop
+same-length-2 c = c .before .before .before .loop .inv .4
+
+returns : tie.Need-returns Inv-loop μ-loop
+returns c =
+    let call = c .before in
+    let turn = call .before .before in
+    let entry = turn .before .before .before .before .before .args in
+    let inv = turn .loop .inv in (
+      found-at (entry .tail .now) (entry .marks .now) (entry .ends) (entry .from) (turn .loop .at) (inv .0) (inv .2)
+          (call .touching .ensures .0 (c .if1 .taken)),
+      inv .1,
+    )
+
+sub-back : tie.Need-sub-back Inv-loop μ-loop
+sub-back c = omega arith
+
+back-requires : tie.Need-back-requires Inv-loop μ-loop
+back-requires c κs = omega arith
+
+forget-block-requires : tie.Need-forget-block-requires Inv-loop μ-loop
+forget-block-requires c κs = omega arith
+
+forget-group-requires : tie.Need-forget-group-requires Inv-loop μ-loop
+forget-group-requires c κs = omega arith
+
+loop-less : tie.Need-loop-less Inv-loop μ-loop
+loop-less c = omega arith
+
+loop-again : tie.Need-loop-again Inv-loop μ-loop
+loop-again c =
+    let grouped = c .before .before in
+    let blocked = grouped .before .before .before .before in
+    let went = blocked .before .before in
+    let tested = went .before .before .before in
+    let call = tested .before in
+    let turn = call .before .before in
+    let entry = turn .before .before .before .before .before .args in
+    let inv = turn .loop .inv in
+    let down = clear-down (entry .tail .now) (entry .marks .now) (entry .ends) (turn .loop .at) (call .before .loop-test .taken)
+    (λ t. never (call .touching .result) (tested .if1 .left) (call .touching .ensures .1 t)) (inv .2) in
+    let low = went .back .ensures .1 (entry .tail .now) (inv .1) down in (
+      omega (arith, inv .0, went .back .ensures .0),
+      looked-after (entry .tail .now) (entry .marks .now) (entry .ends) (went .back .result) (inv .1) low
+          (blocked .forget-block .ensures) (grouped .forget-group .ensures),
+      low,
+      blocked .forget-block .kept .0 ∙ inv .3,
+      grouped .forget-group .kept .0 ∙ inv .4,
+    )
+
+same-length-3 : tie.Need-same-length-3 Inv-loop μ-loop
+same-length-3 c = c .before .loop .inv .3
+
+same-length-4 : tie.Need-same-length-4 Inv-loop μ-loop
+same-length-4 c = c .before .loop .inv .4
+
+returns-2 : tie.Need-returns-2 Inv-loop μ-loop
+returns-2 c =
+    let turn = c .before in
+    let entry = turn .before .before .before .before .before .args in
+    let inv = turn .loop .inv in
+    (found-none (entry .tail .now) (entry .marks .now) (entry .ends) (entry .from) (turn .loop .at) (omega arith) (inv .2), inv .1)
+
+pub look-back-spec : {M : Type 1} → statement M
+look-back-spec =
+    tie.close
+    (tie.spec
+    Inv-loop
+    μ-loop
+    loop-holds
+    sub-touching
+    touching-requires
+    same-length
+    same-length-2
+    returns
+    sub-back
+    back-requires
+    forget-block-requires
+    forget-group-requires
+    loop-less
+    loop-again
+    same-length-3
+    same-length-4
+    returns-2)

@@ -1,0 +1,84 @@
+-- `shortening::mark_kept` meets its contract. The loop's invariant: the pass has come to the next move. Assumes nothing.
+use Prim.Native.Nat.{_≤_, _-_}
+use mathlib.Core.Path.{_≡_, refl, _∙_}
+use native.Mathlib.Omega.{arith}
+use lib.ListN.{length}
+use Rattle.shortening.specs.Looking.{Going}
+use Rattle.shortening.proofs.MarkLaws.{going-first}
+use Rattle.shortening.proofs.mark_kept.Statement.{statement}
+use Rattle.shortening.proofs.mark_kept.Tie as tie
+
+abbrev Inv-loop : tie.InvT-loop
+Inv-loop tail k marks₀ blocks₀ groups₀ bounds₀ lefts₀ enters₀ j₀ marks blocks groups bounds lefts enters j =
+    (j ≤ k) × Going tail j marks blocks groups bounds lefts enters × (length marks ≡ length marks₀) × (length blocks ≡ length blocks₀)
+    × (length groups ≡ length groups₀)
+
+abbrev μ-loop : tie.MeasureT-loop
+μ-loop tail k marks₀ blocks₀ groups₀ bounds₀ lefts₀ enters₀ j₀ marks blocks groups bounds lefts enters j = k - j
+
+loop-holds : tie.Need-loop-holds Inv-loop μ-loop
+loop-holds c =
+    let entry = c .before .before .before .before in
+    (omega arith, going-first (entry .args .tail .now) (entry .args .marks .now) _ _ (entry .pre .1 .1), refl, refl, refl)
+
+take-move-requires : tie.Need-take-move-requires Inv-loop μ-loop
+take-move-requires c κs =
+    let turn = c .before .before .before .before .before .before .before in
+    let inv = turn .loop .inv in
+    let room = turn .before .before .before .before .before .pre .1 .0 in (
+      (
+        omega arith,
+        record {
+          for-marks = omega (arith, inv .2, room .for-marks);
+          for-blocks = omega (arith, inv .3, room .for-blocks);
+          for-groups = omega (arith, inv .4, room .for-groups);
+        },
+      ),
+      inv .1,
+    )
+
+add-j : tie.Need-add-j Inv-loop μ-loop
+add-j c = omega arith
+
+loop-less : tie.Need-loop-less Inv-loop μ-loop
+loop-less c = omega arith
+
+loop-again : tie.Need-loop-again Inv-loop μ-loop
+loop-again c =
+    let took = c .before .before .before .before .before .before in
+    let turn = took .before .before .before .before .before .before .before .before in
+    let inv = turn .loop .inv in
+    let kept = took .take-move .kept .1 .1 in
+    (omega arith, took .take-move .ensures, kept .0 ∙ inv .2, kept .1 .0 ∙ inv .3, kept .1 .1 .0 ∙ inv .4)
+
+same-length : tie.Need-same-length Inv-loop μ-loop
+same-length c = c .before .loop .inv .2
+
+same-length-2 : tie.Need-same-length-2 Inv-loop μ-loop
+same-length-2 c = c .before .loop .inv .3
+
+same-length-3 : tie.Need-same-length-3 Inv-loop μ-loop
+same-length-3 c = c .before .loop .inv .4
+
+returns : tie.Need-returns Inv-loop μ-loop
+returns c =
+    let turn = c .before in
+    let entry = turn .before .before .before .before .before .args in
+    let all : turn .loop .j ≡ entry .k = omega arith in
+    rw all at (turn .loop .inv .1 .passes)
+
+pub mark-kept-spec : {M : Type 1} → statement M
+mark-kept-spec =
+    tie.close
+    (tie.spec
+    Inv-loop
+    μ-loop
+    loop-holds
+    take-move-requires
+    add-j
+    loop-less
+    loop-again
+    same-length
+    same-length-2
+    same-length-3
+    returns)

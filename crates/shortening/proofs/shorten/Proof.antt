@@ -1,0 +1,138 @@
+-- `shortening::shorten` meets its contract: a refusal of the plan checker is passed up, and `ShortenerLaws` has the answers above its
+-- acceptance. Assumes nothing.
+use Prim.Native.Nat.{ℕ}
+use mathlib.Core.Path.{_≡_, ap, sym, _∙_}
+use mathlib.Core.List.{List, [], _∷_}
+use native.Mathlib.Omega.{arith}
+use Rattle.answers.specs.Answer.{accepted}
+use Rattle.answers.proofs.AnswerLaws.{passed-up}
+use Rattle.plan.specs.Plan.{planAnswer}
+use Rattle.plan.specs.Verdict.{answerOf as planAnswerOf}
+use Rattle.shortening.proofs.ShortenerLaws.{shortener-refused, count-below, head-there, tail-fits, shortener-short}
+use Rattle.shortening.proofs.ShortenerLaws.{part-head, part-back, part-room, few-kept, shortener-made}
+use borrow.Author.Needs.{needs}
+use Rattle.shortening.proofs.shorten.Statement.{statement}
+use Rattle.shortening.proofs.shorten.Tie as tie
+
+-- what is known once the plan is accepted
+
+abbrev checked : tie.After-known-told → tie.After-check
+checked c = c .before .before .before
+
+abbrev start : tie.After-known-told → tie.Start
+start c = checked c .before .before .before .before
+
+abbrev order : tie.After-known-told → List ℕ
+order c = start c .args .order .now
+
+abbrev plan : tie.After-known-told → List ℕ
+plan c = start c .args .plan .now
+
+abbrev lent : tie.After-known-told → List ℕ
+lent c = start c .args .buffer .now
+
+abbrev count : tie.After-known-told → ℕ
+count c = c .before .below .given .0 .0
+
+read : (c : tie.After-known-told) → accepted (count c ∷ []) ≡ planAnswer (order c) (plan c)
+read c = ap planAnswerOf (sym (c .before .below .given .1)) ∙ checked c .check .ensures
+
+check-requires : tie.Need-check-requires
+check-requires c κs = search needs
+
+enum-known-below : tie.Need-enum-known-below
+enum-known-below c = search needs
+
+enum-told : tie.Need-enum-told
+enum-told c = search needs
+
+passed-up-requires : tie.Need-passed-up-requires
+passed-up-requires c κs = search needs
+
+returns : tie.Need-returns
+returns c =
+    let told = c .before in
+    let call = told .before .before in
+    let entry = call .before .before .before .before .args in
+    shortener-refused (entry .order .now) (entry .plan .now) (entry .buffer .now) _ _ _ _ (call .check .ensures)
+    (ap planAnswerOf (told .enum-told .given .1)) (passed-up (c .passed-up .ensures))
+
+returns-2 : tie.Need-returns-2
+returns-2 c =
+    let told = c .before in
+    shortener-short (order told) (plan told) (lent told) (count told) (read told) (c .if1 .taken)
+
+sub-shorten-moves : tie.Need-sub-shorten-moves
+sub-shorten-moves c = let told = c .before in head-there (order told) (plan told) (lent told) (count told) (read told)
+
+part-shorten-moves-start : tie.Need-part-shorten-moves-start
+part-shorten-moves-start c = let told = c .before in head-there (order told) (plan told) (lent told) (count told) (read told)
+
+part-shorten-moves-end : tie.Need-part-shorten-moves-end
+part-shorten-moves-end c = search needs
+
+sub-shorten-moves-2 : tie.Need-sub-shorten-moves-2
+sub-shorten-moves-2 c =
+    let else = c .before in
+    let told = else .before in
+    part-head (order told) (plan told) (lent told) (count told) (read told) (else .if1 .left)
+
+part-shorten-moves-start-2 : tie.Need-part-shorten-moves-start-2
+part-shorten-moves-start-2 c =
+    let else = c .before in
+    let told = else .before in
+    part-head (order told) (plan told) (lent told) (count told) (read told) (else .if1 .left)
+
+part-shorten-moves-end-2 : tie.Need-part-shorten-moves-end-2
+part-shorten-moves-end-2 c = search needs
+
+shorten-moves-requires : tie.Need-shorten-moves-requires
+shorten-moves-requires c κs =
+    let else = c .before .before in
+    let told = else .before in (
+      count-below (order told) (plan told) (lent told) (count told) (read told),
+      tail-fits (order told) (plan told) (lent told) (count told) (read told),
+      part-room (order told) (plan told) (lent told) (count told) (read told) (else .if1 .left),
+    )
+
+put-head-requires : tie.Need-put-head-requires
+put-head-requires c κs =
+    let wrote = c .before .before .before in
+    let else = wrote .before .before .before in
+    let told = else .before in
+    let few = few-kept (order told) (plan told) (lent told) (count told) (read told) (else .if1 .left) (wrote .shorten-moves .result)
+    (wrote .shorten-moves .last .1 .1 .0) (wrote .shorten-moves .ensures) in
+    (part-back (order told) (plan told) (lent told) (count told) (read told) (else .if1 .left) _, omega (arith, few))
+
+same-length : tie.Need-same-length
+same-length c = search needs
+
+returns-3 : tie.Need-returns-3
+returns-3 c =
+    let put = c .before .before in
+    let wrote = put .before .before .before .before in
+    let else = wrote .before .before .before in
+    let told = else .before in
+    shortener-made (order told) (plan told) (lent told) (count told) (read told) (else .if1 .left) (wrote .shorten-moves .result)
+    (wrote .shorten-moves .last .1 .1 .0) (wrote .shorten-moves .ensures) (put .put-head .last .0) (put .put-head .ensures)
+
+pub shorten-spec : {M : Type 1} → statement M
+shorten-spec =
+    tie.close
+    (tie.spec
+    check-requires
+    enum-known-below
+    enum-told
+    passed-up-requires
+    returns
+    returns-2
+    sub-shorten-moves
+    part-shorten-moves-start
+    part-shorten-moves-end
+    sub-shorten-moves-2
+    part-shorten-moves-start-2
+    part-shorten-moves-end-2
+    shorten-moves-requires
+    put-head-requires
+    same-length
+    returns-3)

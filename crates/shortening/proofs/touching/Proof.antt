@@ -1,0 +1,64 @@
+-- `shortening::touching` meets its contract. Assumes nothing.
+use Rattle.shortening.proofs.LookingLaws.{touching-not, touching-first, touching-second}
+use borrow.Author.Needs.{needs}
+use Rattle.shortening.proofs.touching.Statement.{statement}
+use Rattle.shortening.proofs.touching.Tie as tie
+
+mul-has : tie.Need-mul-has
+mul-has c = search needs
+
+shared-slice-read-has : tie.Need-shared-slice-read-has
+shared-slice-read-has c = search needs
+
+has-requires : tie.Need-has-requires
+has-requires c κs = search needs
+
+returns : tie.Need-returns
+returns c =
+    let call = c .before in
+    let entry = call .before .before .before .before .args in
+    touching-not (entry .tail .now) (entry .marks .now) (entry .ends) (entry .i) (call .has .result) (call .has .ensures) (c .if1 .taken)
+
+pair-at-requires : tie.Need-pair-at-requires
+pair-at-requires c κs = search needs
+
+has-requires-2 : tie.Need-has-requires-2
+has-requires-2 c κs = search needs
+
+returns-2 : tie.Need-returns-2
+returns-2 c =
+    let read = c .before .before in
+    let tested = read .before in
+    let call = tested .before in
+    let entry = call .before .before .before .before .args in
+    touching-first (entry .tail .now) (entry .marks .now) (entry .ends) (entry .i) (call .has .result) (call .has .ensures)
+    (tested .if1 .left) (read .pair-at .result .first) (read .pair-at .result .second) (read .pair-at .ensures)
+    (c .before .has2 .ensures .0 (c .if2 .taken))
+
+has-requires-3 : tie.Need-has-requires-3
+has-requires-3 c κs = search needs
+
+returns-3 : tie.Need-returns-3
+returns-3 c =
+    let second = c .before .before in
+    let read = second .before in
+    let tested = read .before in
+    let call = tested .before in
+    let entry = call .before .before .before .before .args in
+    touching-second (entry .tail .now) (entry .marks .now) (entry .ends) (entry .i) (call .has .result) (call .has .ensures)
+    (tested .if1 .left) (read .pair-at .result .first) (read .pair-at .result .second) (read .pair-at .ensures) (second .has2 .result)
+    (c .has3 .result) (second .has2 .ensures) (c .before .if2 .left) (c .has3 .ensures)
+
+pub touching-spec : {M : Type 1} → statement M
+touching-spec =
+    tie.close
+    (tie.spec
+    mul-has
+    shared-slice-read-has
+    has-requires
+    returns
+    pair-at-requires
+    has-requires-2
+    returns-2
+    has-requires-3
+    returns-3)

@@ -1,0 +1,5 @@
+pub mod Rule
+pub mod Shortener
+pub mod Theorems
+pub mod Stack
+pub mod Looking

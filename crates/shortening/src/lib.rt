@@ -1,0 +1,369 @@
+// The shortener: of a plan that the plan checker accepts it takes away the moves that cancel. specs/Rule.antt has the rule,
+// specs/Shortener.antt the answer and the buffer afterwards; `shorten` is the entry point. One pass over the plan marks the moves that
+// are kept (specs/Stack.antt, specs/Looking.antt), a second one writes them.
+use answers::Fault;
+use plan::PlanVerdict;
+ghost use mathlib.Core.Path.{_≡_};
+ghost use mathlib.Core.Bool.{true};
+ghost use mathlib.Core.List.{[], _∷_};
+ghost use mathlib.Core.Logic.{_↔_};
+ghost use Prim.Native.Nat.{ℕ, _+_, _-_, _*_, _/_, _%_, _^_, _≤_, _<_, max, min};
+ghost use lib.ListN.{length, set};
+ghost use Rattle.answers.specs.Answer.{accepted, PassedUp};
+ghost use Rattle.plan.specs.Verdict.{answerOf as planAnswerOf};
+ghost use Rattle.sets.specs.Sets.{Has};
+ghost use Rattle.shortening.specs.Stack.{Passes, laid};
+ghost use Rattle.shortening.specs.Looking.{moveOf, stackOf, ClearFrom, Touching, GoesBack, Forgets, Found, NoneKept};
+ghost use Rattle.shortening.specs.Looking.{Room, Looked, Marks, Unmarks, TakesIn, linkOf, Going, GoesAhead};
+ghost use Rattle.shortening.specs.Looking.{Packed, WritesOne, Shortened};
+ghost use Rattle.shortening.specs.Shortener.{shortenerAnswer, bufferAfter, answerOf};
+
+// Have two sets no position in common?
+fn disjoint(s: u64, t: u64) -> bool
+    ensures { λ r. ⌜ (r ≡ true → (p : ℕ) → Has s p → Has t p → ⊥) ⌝ }
+{
+    s & t == 0
+}
+
+// Is the move of index i kept, and does it touch a position of `ends`?
+fn touching(tail: &[u8], marks: &[u64], i: usize, ends: u64) -> bool
+    requires { ⌜ (12 * i + 12 ≤ 8 * length (now tail)) × (i < 64 * length (now marks)) ⌝ }
+    ensures { λ r. ⌜ (r ≡ true) ↔ Touching (now (tail .entry)) (now (marks .entry)) ends i ⌝ }
+{
+    if !sets::has(marks[i / 64], i % 64) {
+        return false;
+    }
+    let step = field::pair_at(tail, i);
+    if sets::has(ends, step.first) {
+        return true;
+    }
+    sets::has(ends, step.second)
+}
+
+// From an index from which on no kept move touches a position of `ends`, down to a lower one of which the same is known, or to itself.
+fn back(marks: &[u64], blocks: &[u64], groups: &[u64], at: usize, ends: u64) -> usize
+    requires { ⌜ Room (at + 1) (now marks) (now blocks) (now groups) ⌝ }
+    ensures { λ r. ⌜ GoesBack (now (marks .entry)) (now (blocks .entry)) (now (groups .entry)) ends at r ⌝ }
+{
+    let group = at / 16384;
+    if disjoint(groups[group], ends) {
+        return group * 16384;
+    }
+    let block = at / 256;
+    if disjoint(blocks[block], ends) {
+        return block * 256;
+    }
+    if marks[at / 64] == 0 {
+        return at / 64 * 64;
+    }
+    at
+}
+
+// No kept move from the index `at` on touches a position of `ends`: the block that begins there does without them.
+fn forget_block(blocks: &mut [u64], at: usize, ends: u64)
+    requires { ⌜ at < 256 * length (now blocks) ⌝ }
+    ensures { λ _. ⌜ Forgets ends at 256 (now (blocks .entry)) (now (blocks .exit)) ⌝ }
+{
+    if at % 256 != 0 {
+        return;
+    }
+    blocks[at / 256] = sets::minus(blocks[at / 256], ends);
+}
+
+// And the group that begins there.
+fn forget_group(groups: &mut [u64], at: usize, ends: u64)
+    requires { ⌜ at < 16384 * length (now groups) ⌝ }
+    ensures { λ _. ⌜ Forgets ends at 16384 (now (groups .entry)) (now (groups .exit)) ⌝ }
+{
+    if at % 16384 != 0 {
+        return;
+    }
+    groups[at / 16384] = sets::minus(groups[at / 16384], ends);
+}
+
+// The latest kept move that touches a position of `ends`, below the index `from`, where the search begins: its index plus 1, or 0.
+fn look_back(
+    tail: &[u8],
+    marks: &[u64],
+    blocks: &mut [u64],
+    groups: &mut [u64],
+    from: usize,
+    ends: u64,
+) -> usize
+    requires { ⌜ (12 * from ≤ 8 * length (now tail)) × Room from (now marks) (now blocks) (now groups) ⌝ }
+    requires { ⌜ Looked (now tail) (now marks) (now blocks) (now groups) × ClearFrom (now tail) (now marks) ends from ⌝ }
+    ensures { λ r. ⌜ Found (now (tail .entry)) (now (marks .entry)) ends from r ⌝ }
+    ensures { λ _. ⌜ Looked (now (tail .entry)) (now (marks .entry)) (now (blocks .exit)) (now (groups .exit)) ⌝ }
+{
+    let mut at = from;
+    while at > 0 {
+        if touching(tail, marks, at - 1, ends) {
+            return at;
+        }
+        at = back(marks, blocks, groups, at - 1, ends);
+        forget_block(blocks, at, ends);
+        forget_group(groups, at, ends);
+    }
+    0
+}
+
+// The greater of two indices.
+fn later(x: usize, y: usize) -> usize
+    ensures { λ r. ⌜ r ≡ max x y ⌝ }
+{
+    if x < y {
+        return y;
+    }
+    x
+}
+
+// The lower of two indices.
+fn sooner(x: usize, y: usize) -> usize
+    ensures { λ r. ⌜ r ≡ min x y ⌝ }
+{
+    if y < x {
+        return y;
+    }
+    x
+}
+
+// Is there a move before the index `at`, and does it go from b to a?
+fn undone(tail: &[u8], at: usize, a: usize, b: usize) -> bool
+    requires { ⌜ 12 * at ≤ 8 * length (now tail) ⌝ }
+    ensures { λ r. ⌜ (r ≡ true) ↔ ((0 < at) × (moveOf (now (tail .entry)) (at - 1) ≡ (b, a))) ⌝ }
+{
+    if at == 0 {
+        return false;
+    }
+    let step = field::pair_at(tail, at - 1);
+    if step.first != b {
+        return false;
+    }
+    step.second == a
+}
+
+// Marks the move of index i as kept.
+fn set_mark(marks: &mut [u64], i: usize)
+    requires { ⌜ i < 64 * length (now marks) ⌝ }
+    ensures { λ _. ⌜ Marks (now (marks .entry)) i (now (marks .exit)) ⌝ }
+{
+    marks[i / 64] = sets::with(marks[i / 64], i % 64);
+}
+
+// Takes the mark of the move of index i away.
+fn clear_mark(marks: &mut [u64], i: usize)
+    requires { ⌜ i < 64 * length (now marks) ⌝ }
+    ensures { λ _. ⌜ Unmarks (now (marks .entry)) i (now (marks .exit)) ⌝ }
+{
+    marks[i / 64] = sets::without(marks[i / 64], i % 64);
+}
+
+// Puts the positions a and b into one of the sets.
+fn take_in(list: &mut [u64], place: usize, a: usize, b: usize)
+    requires { ⌜ (place < length (now list)) × (a < 64) × (b < 64) ⌝ }
+    ensures { λ _. ⌜ TakesIn (now (list .entry)) place a b (now (list .exit)) ⌝ }
+{
+    list[place] = sets::with(sets::with(list[place], a), b);
+}
+
+// The link of the move of index h: from where on no kept move before it touches its position. Of a move before the latest 512 nothing
+// is known but h itself.
+fn link(links: &[usize; 512], j: usize, h: usize) -> usize
+    requires { ⌜ h < j ⌝ }
+    ensures { λ r. ⌜ r ≡ linkOf (now (links .entry)) j h ⌝ }
+{
+    if j - h > 512 {
+        return h;
+    }
+    links[h % 512]
+}
+
+// Sets the link of the move of index j.
+fn set_link(links: &mut [usize; 512], j: usize, x: usize)
+    ensures { λ _. ⌜ now (links .exit) ≡ set (now (links .entry)) (j % 512) x ⌝ }
+{
+    links[j % 512] = x;
+}
+
+// Sets the entries of the positions a and b.
+fn set_two(list: &mut [usize; 64], a: usize, b: usize, x: usize, y: usize)
+    requires { ⌜ (a < 64) × (b < 64) ⌝ }
+    ensures { λ _. ⌜ now (list .exit) ≡ set (set (now (list .entry)) a x) b y ⌝ }
+{
+    list[a] = x;
+    list[b] = y;
+}
+
+// Takes the move of index j: where it cancels with a kept one, that one is kept no longer; else the move is kept.
+fn take_move(
+    tail: &[u8],
+    j: usize,
+    marks: &mut [u64],
+    blocks: &mut [u64],
+    groups: &mut [u64],
+    bounds: &mut [usize; 64],
+    lefts: &mut [usize; 512],
+    enters: &mut [usize; 512],
+)
+    requires { ⌜ (12 * (j + 1) ≤ 8 * length (now tail)) × Room (j + 1) (now marks) (now blocks) (now groups) ⌝ }
+    requires { ⌜ Going (now tail) j (now marks) (now blocks) (now groups) (now bounds) (now lefts) (now enters) ⌝ }
+    ensures { λ _. ⌜ Going (now (tail .entry)) (j + 1) (now (marks .exit)) (now (blocks .exit)) (now (groups .exit))
+        (now (bounds .exit)) (now (lefts .exit)) (now (enters .exit)) ⌝ }
+{
+    let step = field::pair_at(tail, j);
+    let a = step.first;
+    let b = step.second;
+    let ends = sets::with(sets::only(a), b);
+    let x = bounds[a];
+    let y = bounds[b];
+    let at = look_back(tail, marks, blocks, groups, later(x, y), ends);
+    if undone(tail, at, a, b) {
+        let gone = at - 1;
+        clear_mark(marks, gone);
+        set_two(bounds, a, b, link(enters, j, gone), link(lefts, j, gone));
+        return;
+    }
+    set_mark(marks, j);
+    take_in(blocks, j / 256, a, b);
+    take_in(groups, j / 16384, a, b);
+    set_link(lefts, j, sooner(x, at));
+    set_link(enters, j, sooner(y, at));
+    set_two(bounds, a, b, j + 1, j + 1);
+}
+
+// Marks the moves that are kept of the k moves of a plan's tail.
+fn mark_kept(tail: &[u8], k: usize, marks: &mut [u64], blocks: &mut [u64], groups: &mut [u64])
+    requires { ⌜ (k < 2 ^ 22) × (12 * k ≤ 8 * length (now tail)) ⌝ }
+    requires { ⌜ Room k (now marks) (now blocks) (now groups) × NoneKept (now marks) ⌝ }
+    ensures { λ _. ⌜ Passes (moveOf (now (tail .entry))) k (stackOf (now (tail .entry)) (now (marks .exit)) k) ⌝ }
+{
+    let mut bounds = [0usize; 64];
+    let mut lefts = [0usize; 512];
+    let mut enters = [0usize; 512];
+    let mut j = 0;
+    while j < k {
+        take_move(
+            tail,
+            j,
+            marks,
+            blocks,
+            groups,
+            &mut bounds,
+            &mut lefts,
+            &mut enters,
+        );
+        j += 1;
+    }
+}
+
+// From an index up to the next whose move may be marked, or to k: none on the way is.
+fn ahead(marks: &[u64], i: usize, k: usize) -> usize
+    requires { ⌜ (i ≤ k) × (k < 2 ^ 22) × (k ≤ 64 * length (now marks)) ⌝ }
+    ensures { λ r. ⌜ GoesAhead (now (marks .entry)) i k r ⌝ }
+{
+    if i == k {
+        return k;
+    }
+    let rest = sets::minus(marks[i / 64], sets::below(i % 64));
+    if rest == 0 {
+        return sooner(i / 64 * 64 + 64, k);
+    }
+    sooner(i / 64 * 64 + sets::lowest(rest), k)
+}
+
+// Writes the move of index i, if it is marked, behind the `count` moves at the front of the room, and says how many these are then.
+fn write_one(tail: &[u8], i: usize, marks: &[u64], room: &mut [u8], count: usize) -> usize
+    requires { ⌜ (i < 2 ^ 22) × (12 * (i + 1) ≤ 8 * length (now tail)) × (i < 64 * length (now marks)) ⌝ }
+    requires { ⌜ (count ≤ i) × ((12 * (i + 1) + 7) / 8 ≤ length (now room)) ⌝ }
+    ensures { λ r. ⌜ WritesOne (now (tail .entry)) i (now (marks .entry)) (now (room .entry)) count (now (room .exit)) r ⌝ }
+{
+    if !sets::has(marks[i / 64], i % 64) {
+        return count;
+    }
+    let step = field::pair_at(tail, i);
+    field::put_pair(room, count, step.first, step.second);
+    count + 1
+}
+
+// Writes the marked ones of the k moves of a plan's tail to the front of the room behind a record's head, and says how many they are.
+fn write_kept(tail: &[u8], k: usize, marks: &[u64], room: &mut [u8]) -> usize
+    requires { ⌜ (k < 2 ^ 22) × (12 * k ≤ 8 * length (now tail)) × (k ≤ 64 * length (now marks)) ⌝ }
+    requires { ⌜ (12 * k + 7) / 8 ≤ length (now room) ⌝ }
+    ensures { λ r. ⌜ Packed (now (room .entry)) (laid (stackOf (now (tail .entry)) (now (marks .entry)) k) []) r (now (room .exit)) ⌝ }
+{
+    let mut count = 0;
+    let mut i = 0;
+    while i < k {
+        count = write_one(tail, i, marks, room, count);
+        i = ahead(marks, i + 1, k);
+    }
+    count
+}
+
+// Marks and writes the moves that are kept of a plan of at most 16,384 moves.
+fn shorten_few(tail: &[u8], k: usize, room: &mut [u8]) -> usize
+    requires { ⌜ (k ≤ 16384) × (12 * k ≤ 8 * length (now tail)) × ((12 * k + 7) / 8 ≤ length (now room)) ⌝ }
+    ensures { λ r. ⌜ Shortened (now (tail .entry)) k (now (room .entry)) r (now (room .exit)) ⌝ }
+{
+    let mut marks = [0u64; 256];
+    let mut blocks = [0u64; 64];
+    let mut groups = [0u64; 1];
+    mark_kept(tail, k, &mut marks, &mut blocks, &mut groups);
+    write_kept(tail, k, &marks, room)
+}
+
+// Marks and writes the moves that are kept of a plan of any size.
+fn shorten_many(tail: &[u8], k: usize, room: &mut [u8]) -> usize
+    requires { ⌜ (k < 2 ^ 22) × (12 * k ≤ 8 * length (now tail)) × ((12 * k + 7) / 8 ≤ length (now room)) ⌝ }
+    ensures { λ r. ⌜ Shortened (now (tail .entry)) k (now (room .entry)) r (now (room .exit)) ⌝ }
+{
+    let mut marks = [0u64; 65536];
+    let mut blocks = [0u64; 16384];
+    let mut groups = [0u64; 256];
+    mark_kept(tail, k, &mut marks, &mut blocks, &mut groups);
+    write_kept(tail, k, &marks, room)
+}
+
+// The same with tables of a size that goes with the plan's, since they are zeroed for each plan.
+fn shorten_moves(tail: &[u8], k: usize, room: &mut [u8]) -> usize
+    requires { ⌜ (k < 2 ^ 22) × (12 * k ≤ 8 * length (now tail)) × ((12 * k + 7) / 8 ≤ length (now room)) ⌝ }
+    ensures { λ r. ⌜ Shortened (now (tail .entry)) k (now (room .entry)) r (now (room .exit)) ⌝ }
+{
+    if k <= 16384 {
+        return shorten_few(tail, k, room);
+    }
+    shorten_many(tail, k, room)
+}
+
+// The verdict of the shortener: specs/Shortener.antt gives it the number and the values.
+pub enum ShortenerVerdict {
+    Accepted(usize),
+    Refused(Fault, u32),
+}
+
+// The plan checker's verdict as the shortener's: the same fault at the same place, or no moves yet.
+fn passed_up(plan: PlanVerdict) -> ShortenerVerdict
+    ensures { λ r. ⌜ PassedUp planAnswerOf plan (accepted (0 ∷ [])) (answerOf r) ⌝ }
+{
+    match plan {
+        PlanVerdict::Accepted(_) => ShortenerVerdict::Accepted(0),
+        PlanVerdict::Refused(fault, place) => ShortenerVerdict::Refused(fault, place),
+    }
+}
+
+// Shortens a plan for an order and writes the result at the front of the buffer: the plan checker's numbers, then 37.
+pub fn shorten(order: &[u8], plan: &[u8], buffer: &mut [u8]) -> ShortenerVerdict
+    ensures { λ r. ⌜ answerOf r ≡ shortenerAnswer (now (order .entry)) (now (plan .entry)) (length (now (buffer .entry))) ⌝ }
+    ensures { λ _. ⌜ now (buffer .exit) ≡ bufferAfter (now (order .entry)) (now (plan .entry)) (now (buffer .entry)) ⌝ }
+{
+    let below = plan::check(order, plan);
+    let PlanVerdict::Accepted(k) = below else {
+        return passed_up(below);
+    };
+    if buffer.len() < plan.len() {
+        return ShortenerVerdict::Refused(Fault::SecondBuffer, 0);
+    }
+    let count = shorten_moves(&plan[3..], k, &mut buffer[3..]);
+    field::put_head(buffer, count);
+    ShortenerVerdict::Accepted(count)
+}
