@@ -234,8 +234,7 @@ fn place(
     let opened = open_stage(rows, lane, k, state, log, tail);
     let mut fetched = fetch(rows, lane, k, goal, opened, log, tail);
     fetched.logged = 0;
-    let racks = fetched.racks;
-    let from = shunting::where_is(&racks, n, rack);
+    let from = shunting::where_is(&fetched.racks, n, rack);
     let brought = shunting::bring(rows, n, stage, from, left, fetched, log, tail);
     let cleared = shunting::clear_within(
         rows,
@@ -333,10 +332,9 @@ fn settle_handle(
     ensures { λ _. ⌜ length (now (log .exit)) ≡ length (now (log .entry)) ⌝ }
 {
     let order = lane.order;
-    let racks = state.racks;
     let s = lane.start;
     let e = lane.end;
-    if is_settled(&order, s, e, goal, &racks) {
+    if is_settled(&order, s, e, goal, &state.racks) {
         return state;
     }
     let mut lane = lane;

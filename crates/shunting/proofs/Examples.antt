@@ -15,9 +15,14 @@
 --     near, here, fast     with racks 1 and 2 at the first two positions, the second is 1 away from the nearest vacancy, and the last,
 --                          which is vacant, 0; held it has no way
 --     lined, log, fits     what `shunting::clear` asks for, and `shunting::bring` of its room: clear-met, bring-room
+--     cycle, ring, ring-rows    a floor of five positions in a ring, and its cycle 4, 1, 0, 3, 2
+--     standing             racks 1 and 2 and the stand-in 3 on it, with two vacancies, at places 1 and 3
+--     turn-moves, turn-written    its turn: from the vacancy at place 1, rack 1, the stand-in, and rack 2 past the other vacancy; written
+--                          are the moves of the racks 1 and 2
+--     turn-met             what `shunting::turn` asks for, on that floor
 -- Assumes nothing.
-use Prim.Native.Nat.{ℕ, zero, suc, _≤_, _<_}
-use mathlib.Core.Path.{_≡_, refl}
+use Prim.Native.Nat.{ℕ, zero, suc, _+_, _≤_, _<_}
+use mathlib.Core.Path.{_≡_, refl, sym, ap, _∙_}
 use mathlib.Core.List.{List, [], _∷_}
 use mathlib.Core.Logic.{_≢_}
 use native.Mathlib.Omega.{arith}
@@ -26,6 +31,7 @@ use Rattle.sets.specs.Sets.{bit, Has}
 use Rattle.sets.proofs.SetLaws.{has-none, has-below}
 use Rattle.graph.specs.Rows.{Edge, Rows}
 use Rattle.graph.proofs.Examples.{rows-tested}
+use Rattle.breakdown.specs.Part.{placeFrom}
 use Rattle.shunting.specs.Went.{Move, Went, Within, Back}
 use Rattle.shunting.specs.Went.Went.{stay, real, stand-in}
 use Rattle.shunting.specs.Went.Back.{done}
@@ -33,6 +39,7 @@ use Rattle.shunting.proofs.WentLaws.{same-refl}
 use Rattle.shunting.specs.declared.State.{State}
 use Rattle.shunting.specs.Journey.{row, onto, Fits, Space}
 use Rattle.shunting.specs.Journey.Trail.{start, entry}
+use Rattle.shunting.specs.Turned.{Simple, Round, Turnable, passMoves, turnMoves, turnWritten}
 use Rattle.shunting.specs.Undone.{carried, Entries, Undoing}
 use Rattle.shunting.specs.Distance.{Unheld, NoWay, Distance}
 use Rattle.shunting.proofs.DistanceLaws.{at-most-inside, vacant-here, vacant-beside, held-no-way}
@@ -168,3 +175,65 @@ clear-met = (line-rows, omega arith, clear-room (at-most-inside 3 (λ p x. x .in
 pub bring-room : RoomToBring (Has 7) lined log (replicate 6 0)
 bring-room =
     record { most = 2; few = at-most-inside 3 (λ p x. has-below 3 7 p (omega arith) x); fits = fits 4 (omega arith) }
+
+abbrev pub cycle : List ℕ
+cycle = 4 ∷ 1 ∷ 0 ∷ 3 ∷ 2 ∷ []
+
+unfoldable pub ring : List ℕ
+ring = 10 ∷ 17 ∷ 24 ∷ 5 ∷ 6 ∷ []
+
+pub ring-rows : Rows 5 ring
+unfolding ring bit
+ring-rows = rows-tested 5 ring tt
+
+abbrev pub standing : State
+standing = record { racks = 2 ∷ 0 ∷ 3 ∷ 0 ∷ 1 ∷ replicate 59 0; real = 2; written = 0; logged = 0 }
+
+pub turn-moves : turnMoves (row cycle) 5 (row (standing .racks)) ≡ (4, 1) ∷ (2, 4) ∷ (0, 3) ∷ []
+unfolding passMoves placeFrom
+turn-moves = refl
+
+pub turn-written : turnWritten (row cycle) 5 standing ≡ (4, 1) ∷ (0, 3) ∷ []
+unfolding passMoves placeFrom
+turn-written = refl
+
+-- the place of each position, so that different places have different positions
+abbrev places : List ℕ
+places = 2 ∷ 1 ∷ 4 ∷ 3 ∷ 0 ∷ []
+
+place-back : (i : ℕ) → i < 5 → (row cycle i < 64) × (row places (row cycle i) ≡ i)
+place-back zero l = (omega arith, refl)
+place-back (suc zero) l = (omega arith, refl)
+place-back (suc (suc zero)) l = (omega arith, refl)
+place-back (suc (suc (suc zero))) l = (omega arith, refl)
+place-back (suc (suc (suc (suc zero)))) l = (omega arith, refl)
+place-back (suc (suc (suc (suc (suc i))))) l = absurd (omega arith)
+
+around : (i : ℕ) → i + 1 < 5 → Edge ring (row cycle i) (row cycle (i + 1))
+unfolding ring bit
+around zero l = refl
+around (suc zero) l = refl
+around (suc (suc zero)) l = refl
+around (suc (suc (suc zero))) l = refl
+around (suc (suc (suc (suc i)))) l = absurd (omega arith)
+
+back : Edge ring (row cycle 4) (row cycle 0)
+unfolding ring bit
+back = refl
+
+pub turn-met : Round (row cycle) 5 ring × Simple (row cycle) 5 × Turnable (row cycle) 5 (row (standing .racks))
+    × Fits standing log (replicate 8 0) 5
+turn-met =
+    let h = length-replicate {A = ℕ} 59 0 in
+    let t = length-replicate {A = ℕ} 8 0 in (
+      record { joined = around; closed = back },
+      record {
+        short = omega arith;
+        below = λ i l. place-back i l .0;
+        distinct = λ i j l m e.
+            let x = sym (place-back i (omega arith) .1) ∙ ap (row places) e ∙ place-back j m .1 in
+            absurd (omega arith);
+      },
+      (1, record { before = omega arith; vacant = refl }),
+      record { racks = omega arith; log = length-replicate {A = ℕ} 8256 0; logged = omega arith; room = omega arith },
+    )

@@ -14,6 +14,8 @@
 --     trip-anew, trip-logged       a trip does not look at how many moves the log has, where it begins and where it ends
 --     journey-in-none, journey-in-append, journey-in-more, journey-in-less    the same of journeys within a set, and within a larger one
 --     journey-in-one       a journey of one move, from a to b
+--     journey-by-none, journey-by-more, journey-by-append, journey-by-to    the same of journeys whose moves are known; the same moves
+--     journey-by-went      those moves, each legal at its turn, lead there
 --     journey-trail        a journey leaves in the log what was there
 --     journey-others       and the log's entries before its moves and behind them stay
 --     trip-written         a trip writes no more moves than its bound
@@ -48,7 +50,7 @@ use Rattle.shunting.specs.Went.Went.{stay, real, stand-in}
 use Rattle.shunting.proofs.WentLaws.{same-refl, went-append, within-less, within-append, went-one}
 use Rattle.shunting.specs.declared.State.{State}
 use Rattle.shunting.specs.Journey.{row, relogged, Packed, packedOn, noted, onto, Trail, Fits, Room, Space, made, Moved}
-use Rattle.shunting.specs.Journey.{Trip, Journey, JourneyIn, Joins, JourneyOn}
+use Rattle.shunting.specs.Journey.{Trip, Journey, JourneyIn, JourneyBy, Joins, JourneyOn}
 use Rattle.shunting.specs.Turned.{Movable, Passed}
 use Rattle.shunting.specs.Journey.Trail.{start, entry}
 
@@ -310,6 +312,38 @@ module _ {g : List ℕ} where
             within =
                 went-one a b (m .held) (x .left) (m .vacant) (λ e. m .held (sym (x .entered) ∙ e)) pa pb (y .trip .went) (y .trip .few);
           }
+
+  pub journey-by-none : (s : State) (l t : List ℕ) → JourneyBy [] [] g 0 s l t s l t
+  unfolding journey-none trip-none
+  journey-by-none s l t = record { journey = journey-none s l t; moves = refl; written = refl }
+
+  module _ {ms ws : List (ℕ × ℕ)} {c : ℕ} {s s′ : State} {l t l′ t′ : List ℕ} where
+    pub journey-by-more : (d : ℕ) → c ≤ d → JourneyBy ms ws g c s l t s′ l′ t′ → JourneyBy ms ws g d s l t s′ l′ t′
+    unfolding journey-more trip-more
+    journey-by-more d le a = record { journey = journey-more d le (a .journey); moves = a .moves; written = a .written }
+
+    pub journey-by-append : {ns xs : List (ℕ × ℕ)} {d : ℕ} {s″ : State} {l″ t″ : List ℕ} → JourneyBy ms ws g c s l t s′ l′ t′
+        → JourneyBy ns xs g d s′ l′ t′ s″ l″ t″ → JourneyBy (ms ++ ns) (ws ++ xs) g (c + d) s l t s″ l″ t″
+    unfolding journey-append trip-append
+    journey-by-append a b =
+        record {
+          journey = journey-append (a .journey) (b .journey);
+          moves = both (a .moves) (b .moves);
+          written = both (a .written) (b .written);
+        }
+      where
+        both : {x y u v : List (ℕ × ℕ)} → x ≡ y → u ≡ v → x ++ u ≡ y ++ v
+        both {y = y} {u} e f = ap (λ (z : List (ℕ × ℕ)). z ++ u) e ∙ ap (λ (z : List (ℕ × ℕ)). y ++ z) f
+
+    pub journey-by-to : {ns xs : List (ℕ × ℕ)} → ms ≡ ns → ws ≡ xs → JourneyBy ms ws g c s l t s′ l′ t′
+        → JourneyBy ns xs g c s l t s′ l′ t′
+    journey-by-to e f a = record { journey = a .journey; moves = a .moves ∙ e; written = a .written ∙ f }
+
+    pub journey-by-went : JourneyBy ms ws g c s l t s′ l′ t′ → Went (Edge g) (s .real) (row (s .racks)) ms ws (row (s′ .racks))
+    journey-by-went a =
+        subst (λ (xs : List (ℕ × ℕ)). Went (Edge g) (s .real) (row (s .racks)) ms xs (row (s′ .racks))) (a .written)
+        (subst (λ (ns : List (ℕ × ℕ)). Went (Edge g) (s .real) (row (s .racks)) ns (a .journey .trip .written) (row (s′ .racks)))
+        (a .moves) (a .journey .trip .went))
 
   -- a trip writes no more moves than it makes
   module _ {c : ℕ} {s s′ : State} {t t′ : List ℕ} (a : Trip g c s t s′ t′) where

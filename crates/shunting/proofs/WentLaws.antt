@@ -7,7 +7,8 @@
 --     went-from, went-to      the same moves between tables that agree
 --     went-append             moves and then more of them
 --     within-less, within-append    moves within a set are within a larger one; moves within it and then more of them
---     went-one                at most one move, after which a is vacant and was not, and b is not and was: just the move from a to b
+--     move-just               a move after which a is vacant and was not, and b is not and was, is the one from a to b
+--     went-one                at most one move, and such a one: within every set that has a and b
 -- Assumes nothing.
 use Prim.Native.Nat.{ℕ, _≤_, _<_}
 use mathlib.Core.Path.{_≡_, refl, sym, ap, subst, _∙_}
@@ -95,6 +96,18 @@ module _ {E : ℕ → ℕ → Type 0} {m : ℕ} where
   went-append (real x l w) v = real x l (went-append w v)
   went-append (stand-in x l w) v = stand-in x l (went-append w v)
 
+-- a move that leaves a vacant and b not: it leaves a, since no other way makes a vacant, and enters b
+pub move-just : {E : ℕ → ℕ → Type 0} {h i k : ℕ → ℕ} (a b : ℕ) {x y : ℕ} → h a ≢ 0 → k a ≡ 0 → h b ≡ 0 → k b ≢ 0
+    → Move E h x y i → Same i k → (a ≡ x) × (b ≡ y)
+move-just {h = h} a b {x} {y} held left vacant entered move same = (
+  by-cases (ℕ-discrete a x)
+      (λ e. e)
+      (λ e. absurd (held (sym (move .others a e (λ f. held (ap h f ∙ move .vacant))) ∙ same a ∙ left))),
+  by-cases (ℕ-discrete b y)
+      (λ e. e)
+      (λ e. absurd (entered (sym (same b) ∙ move .others b (λ f. move .held (sym (ap h f) ∙ vacant)) e ∙ vacant))),
+)
+
 module _ {P : ℕ → Type 0} where
   pub within-less : {Q : ℕ → Type 0} {ms : List (ℕ × ℕ)} → ((p : ℕ) → P p → Q p) → Within P ms → Within Q ms
   within-less f Within.none = Within.none
@@ -106,21 +119,10 @@ module _ {P : ℕ → Type 0} where
 
   module _ {E : ℕ → ℕ → Type 0} {h k : ℕ → ℕ} (a b : ℕ) (held : h a ≢ 0) (left : k a ≡ 0) (vacant : h b ≡ 0)
       (entered : k b ≢ 0) (pa : P a) (pb : P b) where
-    -- the move leaves a, since no other way makes a vacant, and enters b
     one-move : {i : ℕ → ℕ} {x y : ℕ} → Move E h x y i → Same i k → Within P ((x, y) ∷ [])
-    one-move {i} {x} {y} move same = Within.more (subst P leaves pa) (subst P enters pb) Within.none
-      where
-        leaves : a ≡ x
-        leaves =
-            by-cases (ℕ-discrete a x)
-            (λ e. e)
-            (λ e. absurd (held (sym (move .others a e (λ f. held (ap h f ∙ move .vacant))) ∙ same a ∙ left)))
-
-        enters : b ≡ y
-        enters =
-            by-cases (ℕ-discrete b y)
-            (λ e. e)
-            (λ e. absurd (entered (sym (same b) ∙ move .others b (λ f. move .held (sym (ap h f) ∙ vacant)) e ∙ vacant)))
+    one-move move same =
+        let just = move-just a b held left vacant entered move same in
+        Within.more (subst P (just .0) pa) (subst P (just .1) pb) Within.none
 
     pub went-one : {m : ℕ} {ms ws : List (ℕ × ℕ)} → Went E m h ms ws k → length ms ≤ 1 → Within P ms
     went-one (stay s) few = Within.none

@@ -19,6 +19,7 @@
 --                               packed into the plan, and nothing else of it changes
 --     Journey g c s l t s′ l′ t′       such a trip, with all of its moves logged, and nothing else of the log changes
 --     JourneyIn P g c s l t s′ l′ t′   such a journey, each of whose moves leaves a position of P and enters one
+--     JourneyBy ms ws g c s l t s′ l′ t′   such a journey, whose moves are just ms, and those of them that are written just ws
 --     Joins a b g                the rows g have an edge from a to b
 --     Along at size g            the rows g have an edge from each of at 0, .., at (size - 1) to the next
 --     JourneyOn F c s l t s′ l′ t′     a journey on every floor that F holds of: which moves are made does not hang on the rest of the
@@ -115,6 +116,11 @@ pub record Journey (g : List ℕ) (c : ℕ) (s : State) (l t : List ℕ) (s′ :
 pub record JourneyIn (P : ℕ → Type 0) (g : List ℕ) (c : ℕ) (s : State) (l t : List ℕ) (s′ : State) (l′ t′ : List ℕ) : Type 0 where
   pub journey : Journey g c s l t s′ l′ t′
   pub within : Within P (journey .trip .moves)
+
+pub record JourneyBy (ms ws : List (ℕ × ℕ)) (g : List ℕ) (c : ℕ) (s : State) (l t : List ℕ) (s′ : State) (l′ t′ : List ℕ) : Type 0 where
+  pub journey : Journey g c s l t s′ l′ t′
+  pub moves : journey .trip .moves ≡ ms
+  pub written : journey .trip .written ≡ ws
 
 abbrev pub Joins : ℕ → ℕ → List ℕ → Type 0
 Joins a b g = Edge g a b

@@ -7,8 +7,8 @@ ghost use Rattle.graph.specs.Connected.{Robust};
 ghost use Rattle.graph.specs.Rows.{Edge, Rows};
 ghost use Rattle.shunting.specs.Journey.{row, stateOf, unlogged, Fits, Space, Moved};
 ghost use Rattle.shunting.specs.Journey.{Joins, JourneyOn, JourneyAlong};
-ghost use Rattle.shunting.specs.Turned.{Enterable, Movable, Passed, Simple, Round};
-ghost use Rattle.shunting.specs.Turned.{VacantPlace, Turnable, Turned, Shiftable, Shifted};
+ghost use Rattle.shunting.specs.Turned.{Enterable, Movable, Passed, Simple, Shiftable, Shifted};
+ghost use Rattle.shunting.specs.Turned.{Turnable, vacantPlace, TurnJourney, TurnShown};
 ghost use Rattle.shunting.specs.Undone.{Entries, Undoable, Undone};
 ghost use Rattle.shunting.specs.Distance.{Unheld, Reaches};
 ghost use Rattle.shunting.specs.Cleared.{VacantBelow, Inside, RoomToClear, Clears, Outcome};
@@ -271,11 +271,11 @@ pub fn bring(
     state
 }
 
-// A place of the cycle that is vacant.
+// The lowest place of the cycle that is vacant.
 fn vacancy_on(cycle: &[u8; 64], size: usize, racks: &[u8; 64]) -> usize
     requires { ⌜ Simple (row (now cycle)) size ⌝ }
     requires { ⌜ Turnable (row (now cycle)) size (row (now racks)) ⌝ }
-    ensures { λ r. ⌜ VacantPlace (row (now (cycle .entry))) size (row (now (racks .entry))) r ⌝ }
+    ensures { λ r. ⌜ r ≡ vacantPlace (row (now (cycle .entry))) size (row (now (racks .entry))) ⌝ }
 {
     let mut i: usize = 0;
     while i + 1 < size {
@@ -310,37 +310,34 @@ fn pass_on(
     step(a, b, real, racks, log, tail, tally)
 }
 
-// Turns a cycle by one place: from a vacancy on, the rack before it moves into it, then the one before that, and so on round. A vacant
-// place is passed over.
+// Turns a cycle by one place: from the vacancy at its lowest place on, the rack before it moves into it, then the one before that, and so
+// on round. A vacant place is passed over. The state's own table is changed, where it stands, and none is kept beside it.
 pub fn turn(cycle: &[u8; 64], size: usize, state: State, log: &mut Log, tail: &mut [u8]) -> State
     requires { ⌜ Simple (row (now cycle)) size ⌝ }
     requires { ⌜ Turnable (row (now cycle)) size (row (state .racks)) ⌝ }
     requires { ⌜ Fits state (now log) (now tail) size ⌝ }
-    ensures { λ r. ⌜ JourneyOn (Round (row (now (cycle .entry))) size) size state (now (log .entry)) (now (tail .entry))
+    ensures { λ r. ⌜ TurnJourney (row (now (cycle .entry))) size state (now (log .entry)) (now (tail .entry))
         r (now (log .exit)) (now (tail .exit)) ⌝ }
-    ensures { λ r. ⌜ Turned (row (now (cycle .entry))) size (row (state .racks)) (row (r .racks)) ⌝ }
+    ensures { λ r. ⌜ TurnShown (row (now (cycle .entry))) size state r ⌝ }
 {
-    let real = state.real;
-    let mut racks = state.racks;
-    let z = vacancy_on(cycle, size, &racks);
-    let mut tally = Tally {
-        written: state.written,
-        logged: state.logged,
-    };
+    let mut state = state;
+    let z = vacancy_on(cycle, size, &state.racks);
     // The place i places after that vacancy is vacant: what stands before it moves there.
     let mut i = size;
     while 1 < i {
         let b = cycle[(z + i) % size] as usize;
         i -= 1;
         let a = cycle[(z + i) % size] as usize;
-        tally = pass_on(a, b, real, &mut racks, log, tail, tally);
+        let real = state.real;
+        let begun = Tally {
+            written: state.written,
+            logged: state.logged,
+        };
+        let made = pass_on(a, b, real, &mut state.racks, log, tail, begun);
+        state.written = made.written;
+        state.logged = made.logged;
     }
-    State {
-        racks,
-        real,
-        written: tally.written,
-        logged: tally.logged,
-    }
+    state
 }
 
 // Takes back the moves that the log has from entry `from` up to entry `to`, the last of them first. A move is skipped where nothing stands

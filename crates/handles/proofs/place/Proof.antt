@@ -38,7 +38,7 @@ abbrev opened : tie.After-fetch → tie.After-open-stage
 opened c = let known = c .before .before .before in known .before .before
 
 abbrev fetched : tie.After-where-is → tie.After-fetch
-fetched c = let racks = c .before .before in racks .before .before .before
+fetched c = let lent = c .before .before in lent .before .before .before
 
 abbrev found : tie.After-bring → tie.After-where-is
 found c = c .before .before .before
@@ -194,7 +194,7 @@ same-length c =
     let bring = brought (held clear) in
     let fetch = fetched (found bring) in
     let p = entry (found bring) .pre in
-    turn .turn .ensures .0 _ (cycle-round (p .0) (p .1 .0) (p .1 .1 .1 .0)) .trip .tail
+    turn .turn .ensures .0 _ (cycle-round (p .0) (p .1 .0) (p .1 .1 .1 .0)) .journey .trip .tail
     ∙ clear .clear-within .ensures .journey .journey .trip .tail ∙ bring .bring .ensures .0 .journey .trip .tail
     ∙ fetch .fetch .ensures .0 .tail ∙ opened fetch .open-stage .ensures .0 .tail
 
@@ -218,7 +218,7 @@ returns c =
     let b = bring .bring .ensures in
     let cl = clear .clear-within .ensures in
     let t = turn .turn .ensures in
-    let last = t .0 _ (cycle-round rows on closed) in
+    let last = t .0 _ (cycle-round rows on closed) .journey in
     let go = brought-few (stage-few rows on _ stage) (b .0) in
     let way = clear-few (rest-few rows on _ stage _ without) cl .journey in
     let table = table-went (rows .inside) (go .trip .went) (f .1 .0 .placing .table) in
@@ -230,7 +230,7 @@ returns c =
     let home = trip-append (go .trip) (trip-append (way .trip) (last .trip)) in (
       place-trip (n at) (o .0) (f .0) (omega arith) home,
       (
-        placing-turned rows on placing2 (asked .1 .0) closed there (t .1) table3,
+        placing-turned rows on placing2 (asked .1 .0) closed there (t .1 .turned) table3,
         last .log ∙ way .log ∙ go .log ∙ f .1 .1 ∙ o .1 .1 .1,
       ),
     )

@@ -28,8 +28,8 @@ is-settled-requires c κs =
 returns : tie.Need-returns Inv-loop μ-loop
 returns c =
     let after-is-settled = c .before in
-    let after-racks = after-is-settled .before .before .before in
-    let entry = after-racks .before .before .before in
+    let lent = after-is-settled .before .before .before in
+    let entry = lent .before .before .before in
     let x = entry .args .lane in
     let placing = entry .pre .1 .1 .0 in (
       trip-more (laneMoves x) (omega arith) (trip-none _ _),
@@ -51,16 +51,16 @@ beside-end-requires c κs =
 
 close-cycle-requires : tie.Need-close-cycle-requires Inv-loop μ-loop
 close-cycle-requires c κs =
-    let after-racks2 = c .before .before .before in
-    let after-order = after-racks2 .before .before .before in
+    let lent = c .before .before .before in
+    let after-order = lent .before .before .before in
     let entry = after-order .before .before in
     (entry .pre .0, entry .pre .1 .0)
 
 loop-holds : tie.Need-loop-holds Inv-loop μ-loop
 loop-holds c =
     let after-is-settled = c .before .before .before in
-    let after-racks = after-is-settled .before .before .before in
-    let entry = after-racks .before .before .before in
+    let lent = after-is-settled .before .before .before in
+    let entry = lent .before .before .before in
     settling-begin (entry .pre .1 .1 .0) (entry .pre .1 .1 .1)
 
 sub-loop : tie.Need-sub-loop Inv-loop μ-loop
@@ -78,8 +78,8 @@ place-requires c κs =
     let turn = test .before in
     let after-close-cycle = turn .before in
     let after-beside-end = after-close-cycle .before in
-    let after-racks2 = after-beside-end .before .before .before in
-    let after-order = after-racks2 .before .before .before in
+    let lent = after-beside-end .before .before .before in
+    let after-order = lent .before .before .before in
     let entry = after-order .before .before in
     let state = turn .loop .inv in
     let more = test .loop-test .taken in (
@@ -98,8 +98,8 @@ add-k c =
     let after-place = c .before .before in
     let test = after-place .before .before .before in
     let after-beside-end = test .before .before .before in
-    let after-racks2 = after-beside-end .before .before .before in
-    let after-order = after-racks2 .before .before .before in
+    let lent = after-beside-end .before .before .before in
+    let after-order = lent .before .before .before in
     let entry = after-order .before .before in
     let small = entry .pre .0 .small in
     let inner = entry .pre .1 .0 .handle .inner in

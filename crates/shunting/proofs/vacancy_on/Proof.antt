@@ -1,26 +1,27 @@
--- `shunting::vacancy_on` meets its contract. The loop's invariant: a place from i on is vacant.
+-- `shunting::vacancy_on` meets its contract. The invariant: what is left of the search finds what the whole of it finds.
 -- Assumes nothing.
-use Prim.Native.Nat.{_-_}
+use Prim.Native.Nat.{_-_, _<_}
+use mathlib.Core.Path.{_≡_, refl, sym, _∙_}
 use native.Mathlib.Omega.{arith}
 use Rattle.shunting.specs.Journey.{row}
-use Rattle.shunting.proofs.TurnLaws.{Ahead, ahead-next, ahead-last}
+use Rattle.breakdown.specs.Part.{placeOf}
+use Rattle.breakdown.proofs.PlaceLaws.{placeOf-here, placeOf-next, placeOf-end}
 use Rattle.shunting.proofs.vacancy_on.Statement.{statement}
 use Rattle.shunting.proofs.vacancy_on.Tie as tie
 
 abbrev Inv-loop : tie.InvT-loop
-Inv-loop cycle size racks i₀ i = Ahead (row cycle) size (row racks) i
+Inv-loop cycle size racks i₀ i =
+    (i < size) × (placeOf (λ j. row racks (row cycle j)) i size 0 ≡ placeOf (λ j. row racks (row cycle j)) 0 size 0)
 
 abbrev μ-loop : tie.MeasureT-loop
 μ-loop cycle size racks i₀ i = size - i
 
 loop-holds : tie.Need-loop-holds Inv-loop μ-loop
-loop-holds c = let v = c .pre .1 in record { place = v .0; from = omega arith; vacant = v .1 }
+loop-holds c = let before = c .pre .1 .1 .before in (omega arith, refl)
 
 add-loop : tie.Need-add-loop Inv-loop μ-loop
 add-loop c =
-    let v = c .loop .inv in
-    let from = v .from in
-    let before = v .vacant .before in
+    let low = c .loop .inv .0 in
     let short = c .before .pre .0 .short in
     omega arith
 
@@ -37,7 +38,13 @@ element-copy-out-if1 : tie.Need-element-copy-out-if1 Inv-loop μ-loop
 element-copy-out-if1 c = let entry = c .before .before .before in entry .pre .0 .below (c .before .before .loop .i) (omega arith)
 
 returns : tie.Need-returns Inv-loop μ-loop
-returns c = record { before = omega arith; vacant = c .if1 .taken }
+returns c =
+    let at-loop = c .before .before .before .before in
+    let l = at-loop .loop in
+    let a = at-loop .before .args in
+    let h = row (a .racks .now) in
+    let at = row (a .cycle .now) in
+    sym (placeOf-here (λ j. h (at j)) 0 (l .i) (a .size) (omega arith) (c .if1 .taken)) ∙ l .inv .1
 
 add-i : tie.Need-add-i Inv-loop μ-loop
 add-i c = omega arith
@@ -50,13 +57,17 @@ loop-again c =
     let read = c .before .before .before in
     let l = read .before .loop in
     let a = read .before .before .args in
-    ahead-next (row (a .cycle .now)) (row (a .racks .now)) (l .i) (a .size) (c .if1 .left) (l .inv)
+    let h = row (a .racks .now) in
+    let at = row (a .cycle .now) in
+    (omega arith, placeOf-next (λ j. h (at j)) 0 (l .i) (a .size) (omega arith) (c .if1 .left) ∙ l .inv .1)
 
 returns-2 : tie.Need-returns-2 Inv-loop μ-loop
 returns-2 c =
     let a = c .before .before .args in
     let l = c .before .loop in
-    ahead-last (row (a .cycle .now)) (row (a .racks .now)) (l .i) (a .size) (omega arith) (l .inv)
+    let h = row (a .racks .now) in
+    let at = row (a .cycle .now) in
+    sym (placeOf-end (λ j. h (at j)) 0 (l .i) (a .size) (omega arith)) ∙ l .inv .1
 
 pub vacancy-on-spec : {M : Type 1} → statement M
 vacancy-on-spec =
