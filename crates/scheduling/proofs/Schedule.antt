@@ -1,6 +1,7 @@
 -- The timetable so far, as the rule makes it move by move, and that each move joins it lawfully.
 --
 --     arranged A l i      the arrangement that the timed moves l, latest first, make of A up to step i
+--     arranged-before, arranged-from   one more move changes it from its step on
 --     Scheduled F A l B   the steps of l, made in turn from A, are legal and come to B; where a rack of B stands, it has stood since its
 --                         last step, and what is vacant in B has been so since the last step in which it was left
 --     scheduled-none      no moves are so scheduled
@@ -39,11 +40,11 @@ unfoldable pub arranged : Arrangement → List Timed → ℕ → Arrangement
 arranged A [] i = A
 arranged A (t ∷ l) i = cond (leb (t .step) i) (afterMove (arranged A l i) (t .move)) (arranged A l i)
 
-arranged-before : (A : Arrangement) (t : Timed) (l : List Timed) (i : ℕ) → i < t .step → arranged A (t ∷ l) i ≡ arranged A l i
+pub arranged-before : (A : Arrangement) (t : Timed) (l : List Timed) (i : ℕ) → i < t .step → arranged A (t ∷ l) i ≡ arranged A l i
 unfolding arranged
 arranged-before A t l i h = rw (lt-leb (t .step) i h)
 
-arranged-from : (A : Arrangement) (t : Timed) (l : List Timed) (i : ℕ) → t .step ≤ i
+pub arranged-from : (A : Arrangement) (t : Timed) (l : List Timed) (i : ℕ) → t .step ≤ i
     → arranged A (t ∷ l) i ≡ afterMove (arranged A l i) (t .move)
 unfolding arranged
 arranged-from A t l i h = rw (le-leb (t .step) i h)

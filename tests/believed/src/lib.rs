@@ -28,6 +28,7 @@ const THEOREMS: &[(&str, &[&str])] = &[
     ("crates/motion/specs/LegalStep.antt", &[]),
     ("crates/floor/specs/Plannable.antt", &[]),
     ("crates/scheduling/specs/Maker.antt", &["Timetabled"]),
+    ("crates/optimality/specs/Shortest.antt", &[]),
     ("crates/planner/specs/Rings.antt", &[]),
     ("crates/shortening/specs/Theorems.antt", &[]),
 ];

@@ -19,6 +19,7 @@
 //! | `models`    | request (a), floors by model code | 50, 51, 14, 52     |
 //! | `clearing`  | request (b), the nearest vacancy  |                    |
 //! | `shortening` | request (e), shorter plans       | 37                 |
+//! | `shortest`  | request (g), no shorter timetable |                    |
 #![forbid(unsafe_code)]
 
 pub mod answer;
@@ -34,4 +35,5 @@ pub mod planning;
 pub mod program;
 pub mod record;
 pub mod shortening;
+pub mod shortest;
 pub mod timetable;

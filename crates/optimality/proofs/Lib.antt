@@ -1,0 +1,9 @@
+pub mod Beginnings
+pub mod Course
+pub mod Occupants
+pub mod Told
+pub mod Instants
+pub mod Bound
+pub mod Kept
+pub mod Theorems
+pub mod Examples
