@@ -57,14 +57,14 @@ static int refused(uint64_t answer)
     return 1;
 }
 
-/* Writes the plan of an order that wichteab_floor_check has accepted. */
+/* Writes the plan of an order that wichteab_floor_check has accepted: it is of edition two. */
 static uint64_t make_plan(const struct record *order, struct record *plan)
 {
     size_t room = wichteab_plan_buffer_length(wichteab_order_positions(order->bytes));
     uint64_t answer;
     plan->bytes = buffer_of(room);
     answer = wichteab_plan_make(order->bytes, order->length, plan->bytes, room);
-    plan->length = wichteab_plan_length(wichteab_plan_moves(answer));
+    plan->length = wichteab_plan_length(2, wichteab_plan_moves(answer));
     return answer;
 }
 

@@ -11,7 +11,8 @@
  *     cc -I include program.c target/staticlib/libcontroller.a
  *
  * From an order to a checked timetable it is three calls: wichteab_plan_make, wichteab_timetable_make and
- * wichteab_timetable_check. examples/delivery.c makes them; examples/controller.c takes a timetable's steps.
+ * wichteab_timetable_check. examples/delivery.c makes them; examples/controller.c takes a timetable's steps;
+ * examples/screen.c shows which rack each move of a plan takes.
  *
  * What is proved: the functions under "Functions" are exported by the library. Each was proved to answer and
  * to write as described here for every input, to read and write only inside what it is lent, and to end. The
@@ -47,10 +48,15 @@ extern "C" {
  *
  * Library and header come together and are of one version. The first number goes up where a caller may have
  * to change its code, the second where something was added (a function, a number), the third otherwise.
+ *
+ * What a caller of version 1 has to change: wichteab_plan_make writes plans of edition two (see "Records")
+ * and asks for a longer buffer, which wichteab_plan_buffer_length gives; wichteab_plan_length takes the
+ * edition. The moves of a plan are read by wichteab_plan_move, in either edition. Plans of edition one are read
+ * as before, and wichteab_plan_convert writes a plan of edition two as one of edition one.
  */
-#define WICHTEAB_VERSION "1.4.0"
-#define WICHTEAB_VERSION_MAJOR 1
-#define WICHTEAB_VERSION_MINOR 4
+#define WICHTEAB_VERSION "2.0.0"
+#define WICHTEAB_VERSION_MAJOR 2
+#define WICHTEAB_VERSION_MINOR 0
 #define WICHTEAB_VERSION_PATCH 0
 
 /*
@@ -66,8 +72,16 @@ extern "C" {
  *              its floor, a grid whose positions run row by row, with edges between side neighbours: model
  *              1 is 2 rows by 3 columns, 2 is 3 by 4, 3 is 4 by 4, 4 is 4 by 5, 5 is 8 by 8.
  *              Its length is 2 + (3 * m + 1) / 2 bytes. wichteab_order_expand writes it out as an order.
- *   Plan       k (moves) in 22 bits, two spare zero bits; k moves; pad.
- *              Its length is 3 + (3 * k + 1) / 2 bytes.
+ *   Plan       k (moves) in 22 bits, two spare bits, which tell the edition; k moves; pad.
+ *              Edition one has the spare bits 00. Its length is 3 + (3 * k + 1) / 2 bytes; the pad has 0 bits
+ *              where k is even, and 4 where it is odd.
+ *              Edition two has the spare bits 01, and each move has 6 more bits at its end: the number of the
+ *              rack that moves, minus 1. Its length is 3 + (9 * k + 3) / 4 bytes; the pad has 0, 6, 4 or 2 bits
+ *              where k % 4 is 0, 1, 2 or 3.
+ *              The spare bits 10 and 11 are no edition: a plan with them is measured as edition one (30) and
+ *              then refused (31). Every function that takes a plan reads both editions. wichteab_plan_make
+ *              writes edition two, wichteab_plan_shorten the edition of the plan given, and
+ *              wichteab_plan_convert the other one.
  *   Timetable  s (steps) in 22 bits, two spare zero bits; s steps. A step is one byte c, c moves ascending
  *              by position left, pad; c may be 0.
  *              A step's length is 1 + (3 * c + 1) / 2 bytes, and the timetable's is 3 and its steps'. The
@@ -107,21 +121,25 @@ enum {
     WICHTEAB_FLOOR_NOT_BICONNECTED = 21, /* it has under 3 positions, is not connected, or falls apart when
                                             some one position is taken away */
     WICHTEAB_FLOOR_RING = 22,            /* no longer given: rings are planned */
-    WICHTEAB_PLAN_BUFFER = 23,           /* the plan buffer is shorter than 12 * n * n * n + 3 bytes */
+    WICHTEAB_PLAN_BUFFER = 23,           /* the plan buffer is shorter than 18 * n * n * n + 3 bytes */
     WICHTEAB_FLOOR_ORDER = 24,           /* it is a ring, and the racks stand in another order round it at the
                                             goal, so that no plan exists; judged before 23 */
 
-    /* The plan; place 0 unless it is named. The first move that is not legal at its turn decides, with the
-       lowest of 32, 34 and 35 that applies to it; all three come before 33. */
-    WICHTEAB_PLAN_LENGTH = 30,   /* it is under 3 bytes, or its length is not the one k gives */
-    WICHTEAB_PLAN_PADDING = 31,  /* a spare or pad bit is set */
-    WICHTEAB_PLAN_MOVE = 32,     /* a move has a position of n or more, or no edge joins its two. Place: the
-                                    move, from 1 */
-    WICHTEAB_PLAN_GOAL = 33,     /* every move is legal, and then a rack is not at its goal. Place: the lowest
-                                    such rack */
-    WICHTEAB_PLAN_NO_RACK = 34,  /* no rack stands at the position that a move leaves. Place: the move */
-    WICHTEAB_PLAN_OCCUPIED = 35, /* the position that a move enters is occupied. Place: the move */
-    WICHTEAB_SECOND_BUFFER = 37, /* the buffer for the shortened plan is shorter than the plan given */
+    /* The plan; place 0 unless it is named. The first move that is not legal at its turn, or that names a wrong
+       rack, decides, with the first of 32, 34, 35 and 36 that applies to it; all four come before 33. */
+    WICHTEAB_PLAN_LENGTH = 30,      /* it is under 3 bytes, or its length is not the one k gives in its edition */
+    WICHTEAB_PLAN_PADDING = 31,     /* its spare bits are 10 or 11, or a pad bit is set */
+    WICHTEAB_PLAN_MOVE = 32,        /* a move has a position of n or more, or no edge joins its two. Place: the
+                                       move, from 1 */
+    WICHTEAB_PLAN_GOAL = 33,        /* no move is refused, and after the last one a rack is not at its goal. Place:
+                                       the lowest such rack */
+    WICHTEAB_PLAN_NO_RACK = 34,     /* no rack stands at the position that a move leaves. Place: the move */
+    WICHTEAB_PLAN_OCCUPIED = 35,    /* the position that a move enters is occupied. Place: the move */
+    WICHTEAB_PLAN_RACK = 36,        /* the rack that a move names is not the one that stands there; edition two
+                                       only. Place: the move */
+    WICHTEAB_SECOND_BUFFER = 37,    /* the buffer for the shortened plan is shorter than the plan given */
+    WICHTEAB_CONVERTED_BUFFER = 38, /* the buffer for the converted plan is shorter than the plan's record in the
+                                       other edition; judged last */
 
     /* The timetable; place 0 unless it is named. */
     WICHTEAB_TIMETABLE_LENGTH = 40,  /* it is under 3 bytes, a step runs past its end, or bytes are left over */
@@ -174,12 +192,12 @@ uint64_t wichteab_order_expand(const uint8_t *short_order, size_t short_order_le
 /*
  * wichteab_plan_make: writes a plan that brings every rack of the order to its goal.
  *
- * Takes an order, which is only read, and a buffer of at least 12 * n * n * n + 3 bytes (see
+ * Takes an order, which is only read, and a buffer of at least 18 * n * n * n + 3 bytes (see
  * wichteab_plan_buffer_length), whatever it holds. Every order that wichteab_floor_check accepts is planned:
  * with two vacancies or more, on a bi-connected floor that is no ring, every arrangement is reached from
  * every other; on a ring with a vacancy, every one with the racks in the same order round it. Accepted:
  * wichteab_plan_moves gives the number of moves, at most 8 * n * n * n, and 0 where each start is its goal;
- * the plan is at the front of the buffer, as long as wichteab_plan_length says, and
+ * the plan is at the front of the buffer, in edition two, wichteab_plan_length(2, moves) bytes long, and
  * wichteab_plan_check accepts it with these moves. Refused: as wichteab_floor_check, and then 23, place 0; the
  * buffer is as it was.
  */
@@ -189,11 +207,12 @@ uint64_t wichteab_plan_make(const uint8_t *order, size_t order_length, uint8_t *
 /*
  * wichteab_plan_check: does this plan bring every rack of the order to its goal?
  *
- * Takes an order, on a floor of any shape, and a plan; both are only read. A move is legal if both positions
- * are below n, an edge joins them, the first holds a rack and the second is vacant. Accepted: every move is
- * legal at its turn, after the last one every rack stands at its goal, and wichteab_plan_moves gives the
- * number of moves. Refused: 10 to 14 and 30 to 35. The first move that is not legal is refused with 32, 34 or
- * 35, by the first of these tests that it fails, before 33; their place is the move, that of 33 the rack.
+ * Takes an order, on a floor of any shape, and a plan of either edition; both are only read. A move is legal if
+ * both positions are below n, an edge joins them, the first holds a rack and the second is vacant. Accepted:
+ * every move is legal at its turn and in edition two names the rack that it moves, after the last one every
+ * rack stands at its goal, and wichteab_plan_moves gives the number of moves. Refused: 10 to 14 and 30 to 36.
+ * The first move that is not legal or names another rack is refused with 32, 34, 35 or 36, by the first of
+ * these tests that it fails, before 33; their place is the move, that of 33 the rack.
  */
 uint64_t wichteab_plan_check(const uint8_t *order, size_t order_length, const uint8_t *plan,
                              size_t plan_length);
@@ -201,15 +220,29 @@ uint64_t wichteab_plan_check(const uint8_t *order, size_t order_length, const ui
 /*
  * wichteab_plan_shorten: takes the moves that cancel out of a plan.
  *
- * Takes an order and a plan, which are only read, and a second buffer at least as long as the plan, whatever
- * it holds. Two moves cancel if the later undoes the earlier for the same rack and no move between them leaves
- * or enters either position. The cancelling pair whose later move comes first is removed, again and again until
- * none is left. Accepted: wichteab_plan_moves gives the number of moves that are left, and the shortened plan is
- * at the front of the buffer, as long as wichteab_plan_length says; wichteab_plan_check accepts it with these
- * moves, and shortened once more it stays as it is. Refused: as wichteab_plan_check, and 37, place 0; the
+ * Takes an order and a plan of either edition, which are only read, and a second buffer at least as long as the
+ * plan, whatever it holds. Two moves cancel if the later undoes the earlier for the same rack and no move between
+ * them leaves or enters either position. The cancelling pair whose later move comes first is removed, again and
+ * again until none is left. Accepted: wichteab_plan_moves gives the number of moves that are left, and the
+ * shortened plan is at the front of the buffer, in the edition of the plan given,
+ * wichteab_plan_length(wichteab_plan_edition(plan), moves) bytes long; wichteab_plan_check accepts it with these
+ * moves, and shortened once more it stays as it is. Refused: as wichteab_plan_check, and then 37, place 0; the
  * buffer is as it was.
  */
 uint64_t wichteab_plan_shorten(const uint8_t *order, size_t order_length, const uint8_t *plan,
+                               size_t plan_length, uint8_t *buffer, size_t buffer_length);
+
+/*
+ * wichteab_plan_convert: writes a plan in the other edition.
+ *
+ * Takes an order and a plan of either edition, which are only read, and a buffer at least as long as the plan's
+ * record in the other edition (see wichteab_converted_length), whatever it holds. Accepted: wichteab_plan_moves
+ * gives the number of moves, which is the plan's, and the same moves are at the front of the buffer in the other
+ * edition, wichteab_converted_length(plan, plan_length) bytes long; edition two names for each move the rack that
+ * it moves. wichteab_plan_check accepts what was written with the same moves, and converted back it is the plan
+ * given, byte for byte. Refused: as wichteab_plan_check, and then 38, place 0; the buffer is as it was.
+ */
+uint64_t wichteab_plan_convert(const uint8_t *order, size_t order_length, const uint8_t *plan,
                                size_t plan_length, uint8_t *buffer, size_t buffer_length);
 
 /*
@@ -229,13 +262,14 @@ uint64_t wichteab_timetable_check(const uint8_t *order, size_t order_length, con
 /*
  * wichteab_timetable_make: writes the timetable of a plan.
  *
- * Takes an order and a plan, which are only read, and a buffer of at least 3 bytes more than three for each
- * move of the plan (see wichteab_timetable_buffer_length), whatever it holds. The moves are taken in plan
- * order. A move's step is the greater of one more than the step of the same rack's previous move, and the
- * step of the latest earlier move that left the position now entered; with neither, it is 1. Accepted:
+ * Takes an order and a plan of either edition, which are only read, and a buffer of at least 3 bytes more than
+ * three for each move of the plan (see wichteab_timetable_buffer_length), whatever it holds. The moves are taken
+ * in plan order. A move's step is the greater of one more than the step of the same rack's previous move, and
+ * the step of the latest earlier move that left the position now entered; with neither, it is 1. Accepted:
  * wichteab_timetable_steps gives the greatest step, or 0 with no moves; the timetable is at the front of the
  * buffer, as long as wichteab_timetable_length says, and wichteab_timetable_check accepts it with these
- * steps and the plan's moves. Refused: as wichteab_plan_check, and 44, place 0; the buffer is as it was.
+ * steps and the plan's moves. Both editions of a plan give one timetable. Refused: as wichteab_plan_check, and
+ * then 44, place 0; the buffer is as it was.
  */
 uint64_t wichteab_timetable_make(const uint8_t *order, size_t order_length, const uint8_t *plan,
                                  size_t plan_length, uint8_t *buffer, size_t buffer_length);
@@ -290,7 +324,8 @@ static inline size_t wichteab_expanded_length(uint64_t answer)
     return (size_t)(answer >> 8);
 }
 
-/* Of wichteab_plan_check, wichteab_plan_make or wichteab_plan_shorten, accepted: the plan's moves. */
+/* Of wichteab_plan_check, wichteab_plan_make, wichteab_plan_shorten or wichteab_plan_convert, accepted: the plan's
+   moves. */
 static inline uint32_t wichteab_plan_moves(uint64_t answer)
 {
     return (uint32_t)(answer >> 8);
@@ -357,14 +392,14 @@ static inline const char *wichteab_reason(uint32_t number)
     case WICHTEAB_FLOOR_RING:
         return "The floor is a ring. This number is no longer given.";
     case WICHTEAB_PLAN_BUFFER:
-        return "The plan buffer is too short: n positions need 12 * n * n * n + 3 bytes.";
+        return "The plan buffer is too short: n positions need 18 * n * n * n + 3 bytes.";
     case WICHTEAB_FLOOR_ORDER:
         return "The racks stand in another order round the ring at the goal: no moves lead there.";
     case WICHTEAB_PLAN_LENGTH:
         return "The plan was cut short, or other bytes follow it: its length is not the one its count of moves "
-               "gives.";
+               "gives in its edition.";
     case WICHTEAB_PLAN_PADDING:
-        return "A spare or pad bit of the plan is set; all of them have to be 0.";
+        return "The spare bits of the plan are those of no edition, or a pad bit of it is set.";
     case WICHTEAB_PLAN_MOVE:
         return "This move of the plan names a position that the floor does not have, or no edge joins its two "
                "positions.";
@@ -374,8 +409,12 @@ static inline const char *wichteab_reason(uint32_t number)
         return "This move of the plan leaves a position where no rack stands at its turn.";
     case WICHTEAB_PLAN_OCCUPIED:
         return "This move of the plan enters a position where another rack stands at its turn.";
+    case WICHTEAB_PLAN_RACK:
+        return "This move of the plan names another rack than the one that it moves.";
     case WICHTEAB_SECOND_BUFFER:
         return "The buffer for the shortened plan is too short: it has to be as long as the plan given.";
+    case WICHTEAB_CONVERTED_BUFFER:
+        return "The buffer for the converted plan is too short for the plan in the other edition.";
     case WICHTEAB_TIMETABLE_LENGTH:
         return "The timetable was cut short, or other bytes follow it: its length is not the one its counts "
                "give.";
@@ -401,16 +440,39 @@ static inline const char *wichteab_reason(uint32_t number)
     }
 }
 
-/* The length of a plan of so many moves. */
-static inline size_t wichteab_plan_length(uint32_t moves)
+/* The edition of a plan of at least 3 bytes: 2 if its spare bits are 01, else 1. */
+static inline uint32_t wichteab_plan_edition(const uint8_t *plan)
 {
-    return 3 + (3 * (size_t)moves + 1) / 2;
+    return (plan[2] & 3) == 1 ? 2 : 1;
 }
 
-/* The length that wichteab_plan_make asks of its buffer, for an order of so many positions. */
+/* The length of a plan of this edition, 1 or 2, and so many moves. */
+static inline size_t wichteab_plan_length(uint32_t edition, uint32_t moves)
+{
+    return edition == 2 ? 3 + (9 * (size_t)moves + 3) / 4 : 3 + (3 * (size_t)moves + 1) / 2;
+}
+
+/*
+ * The length that wichteab_plan_convert asks of its buffer and writes: that of the plan's record in the other
+ * edition. The plan may be one that is not accepted: only its first 3 bytes are read, for count and edition.
+ * It is 0 where there are fewer; the plan is refused then.
+ */
+static inline size_t wichteab_converted_length(const uint8_t *plan, size_t plan_length)
+{
+    if (plan_length < 3) {
+        return 0;
+    }
+    return wichteab_plan_length(3 - wichteab_plan_edition(plan),
+                                (uint32_t)plan[0] << 14 | (uint32_t)plan[1] << 6 | (uint32_t)plan[2] >> 2);
+}
+
+/*
+ * The length that wichteab_plan_make asks of its buffer, for an order of so many positions. It is that of the
+ * longest plan which it may write, of 8 * n * n * n moves.
+ */
 static inline size_t wichteab_plan_buffer_length(uint32_t positions)
 {
-    return 12 * (size_t)positions * positions * positions + 3;
+    return 18 * (size_t)positions * positions * positions + 3;
 }
 
 /* The length that wichteab_timetable_make asks of its buffer, for a plan of so many moves. */
@@ -436,7 +498,8 @@ struct wichteab_move {
     uint8_t entered;
 };
 
-/* The move of this number in a list of moves: what follows a plan's third byte, or a step's first. */
+/* The move of this number in a list of moves of 12 bits: what follows the third byte of a plan of edition one, or
+   a step's first. */
 static inline struct wichteab_move wichteab_listed_move(const uint8_t *list, uint32_t number)
 {
     const uint8_t *at = list + (number - 1) / 2 * 3 + (number - 1) % 2;
@@ -448,10 +511,33 @@ static inline struct wichteab_move wichteab_listed_move(const uint8_t *list, uin
     return move;
 }
 
-/* A plan's move of this number, from 1 to the plan's moves. */
+/* The 18 bits of a move in a plan of edition two. Four moves take 9 bytes, and each of them lies in 3. */
+static inline uint32_t wichteab_move_with_rack(const uint8_t *plan, uint32_t number)
+{
+    uint32_t of_four = (number - 1) % 4;
+    const uint8_t *at = plan + 3 + (number - 1) / 4 * 9 + 2 * of_four;
+    uint32_t three = (uint32_t)at[0] << 16 | (uint32_t)at[1] << 8 | at[2];
+    return three >> (6 - 2 * of_four) & 0x3FFFF;
+}
+
+/* A plan's move of this number, from 1 to the plan's moves, in either edition. */
 static inline struct wichteab_move wichteab_plan_move(const uint8_t *plan, uint32_t number)
 {
-    return wichteab_listed_move(plan + 3, number);
+    struct wichteab_move move;
+    uint32_t bits;
+    if (wichteab_plan_edition(plan) == 1) {
+        return wichteab_listed_move(plan + 3, number);
+    }
+    bits = wichteab_move_with_rack(plan, number);
+    move.left = (uint8_t)(bits >> 12);
+    move.entered = (uint8_t)(bits >> 6 & 63);
+    return move;
+}
+
+/* The rack that a plan names for its move of this number, from 1; 0 in edition one, which names none. */
+static inline uint32_t wichteab_plan_rack(const uint8_t *plan, uint32_t number)
+{
+    return wichteab_plan_edition(plan) == 2 ? (wichteab_move_with_rack(plan, number) & 63) + 1 : 0;
 }
 
 /* The moves of a step: its count c. The step begins at wichteab_step_offset in its timetable. */

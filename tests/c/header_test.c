@@ -27,7 +27,9 @@ static const struct fault faults[] = {
     {WICHTEAB_PLAN_GOAL, 33, "plan"},
     {WICHTEAB_PLAN_NO_RACK, 34, "plan"},
     {WICHTEAB_PLAN_OCCUPIED, 35, "plan"},
+    {WICHTEAB_PLAN_RACK, 36, "plan"},
     {WICHTEAB_SECOND_BUFFER, 37, "plan"},
+    {WICHTEAB_CONVERTED_BUFFER, 38, "plan"},
     {WICHTEAB_TIMETABLE_LENGTH, 40, "timetable"},
     {WICHTEAB_TIMETABLE_PADDING, 41, "timetable"},
     {WICHTEAB_TIMETABLE_STEP, 42, "timetable"},
@@ -70,6 +72,7 @@ static void run_words(void)
     expect(number == 256, "the reason of a number that is not listed");
     expect(strcmp(wichteab_family(WICHTEAB_ACCEPTED), "other") == 0, "the family of 0");
     expect(strcmp(wichteab_family(50), "other") == 0, "the family of 50");
+    expect(strstr(wichteab_reason(WICHTEAB_PLAN_BUFFER), " 18 * n * n * n + 3 bytes") != NULL, "the size in the reason of 23");
 }
 
 static void run_version(void)
@@ -77,6 +80,7 @@ static void run_version(void)
     char numbers[40];
     sprintf(numbers, "%d.%d.%d", WICHTEAB_VERSION_MAJOR, WICHTEAB_VERSION_MINOR, WICHTEAB_VERSION_PATCH);
     expect(strcmp(numbers, WICHTEAB_VERSION) == 0, "the version's numbers are its string's");
+    expect(WICHTEAB_VERSION_MAJOR == 2, "version 2");
 }
 
 static int is(struct wichteab_move move, unsigned left, unsigned entered)
@@ -84,17 +88,37 @@ static int is(struct wichteab_move move, unsigned left, unsigned entered)
     return move.left == left && move.entered == entered;
 }
 
-/* The case book's order, plan and timetable, read by the helpers. */
+/* A plan's move, and the rack that it names. */
+static int names(const uint8_t *plan, uint32_t number, unsigned left, unsigned entered, unsigned rack)
+{
+    return is(wichteab_plan_move(plan, number), left, entered) && wichteab_plan_rack(plan, number) == rack;
+}
+
+/* Plans of both editions, read by the helpers: a move in each of the places that moves take in bytes. */
+static void run_plans(void)
+{
+    static const uint8_t one[] = {0x00, 0x00, 0x10, 0x00, 0x10, 0xC2, 0x08, 0x00, 0x43};
+    static const uint8_t two[] = {0x00, 0x00, 0x11, 0x00, 0x10, 0x03, 0x08, 0x10, 0x80, 0x04, 0x10, 0xC0};
+    /* 63>0 rack 64, 0>63 rack 1, 63>63 rack 64, 0>0 rack 64, 1>2 rack 4 */
+    static const uint8_t ends[] = {0x00, 0x00, 0x15, 0xFC, 0x0F, 0xC0, 0xFC, 0x0F, 0xFF, 0xFC, 0x00, 0x3F, 0x04, 0x20, 0xC0};
+    expect(wichteab_plan_edition(one) == 1 && wichteab_plan_edition(two) == 2, "wichteab_plan_edition");
+    expect(names(one, 1, 0, 1, 0) && names(one, 2, 3, 2, 0), "moves 1 and 2 of edition one, which names no rack");
+    expect(names(one, 3, 2, 0, 0) && names(one, 4, 1, 3, 0), "moves 3 and 4 of edition one");
+    expect(names(two, 1, 0, 1, 1) && names(two, 2, 3, 2, 2), "moves 1 and 2 of edition two");
+    expect(names(two, 3, 2, 0, 2) && names(two, 4, 1, 3, 1), "moves 3 and 4 of edition two");
+    expect(names(ends, 1, 63, 0, 64) && names(ends, 2, 0, 63, 1), "the first and second of five");
+    expect(names(ends, 3, 63, 63, 64) && names(ends, 4, 0, 0, 64), "the third and fourth of five");
+    expect(names(ends, 5, 1, 2, 4), "the fifth of five");
+}
+
+/* The case book's order and timetable, read by the helpers. */
 static void run_records(void)
 {
     static const uint8_t order[] = {0x08, 0x0A, 0x08, 0x00, 0x10, 0x02, 0x04, 0x20, 0x43, 0x08, 0x30, 0x03, 0x0C, 0x00};
-    static const uint8_t plan[] = {0x00, 0x00, 0x10, 0x00, 0x10, 0xC2, 0x08, 0x00, 0x43};
     static const uint8_t timetable[] = {0x00, 0x00, 0x08, 0x02, 0x00, 0x10, 0xC2, 0x02, 0x04, 0x30, 0x80};
     static const uint8_t ends[] = {0x03, 0x03, 0xFF, 0xC0, 0xFF, 0xF0}; /* a step of 0>63, 63>0, 63>63 */
     const uint8_t *second = timetable + wichteab_step_offset(wichteab_timetable_step(timetable, sizeof timetable, 2));
     expect(wichteab_order_positions(order) == 4, "wichteab_order_positions");
-    expect(is(wichteab_plan_move(plan, 1), 0, 1) && is(wichteab_plan_move(plan, 2), 3, 2), "moves 1 and 2 of the plan");
-    expect(is(wichteab_plan_move(plan, 3), 2, 0) && is(wichteab_plan_move(plan, 4), 1, 3), "moves 3 and 4 of the plan");
     expect(wichteab_step_moves(second) == 2, "the moves of step 2");
     expect(is(wichteab_step_move(second, 1), 1, 3) && is(wichteab_step_move(second, 2), 2, 0), "step 2");
     expect(wichteab_step_moves(ends) == 3 && is(wichteab_step_move(ends, 1), 0, 63), "the first of three");
@@ -106,6 +130,7 @@ int main(void)
 {
     run_version();
     run_words();
+    run_plans();
     run_records();
     return close_tests();
 }

@@ -73,16 +73,45 @@ static void run_longest(void)
 /* The lengths of what the library writes, as the header's sums have them. */
 static void run_sums(void)
 {
-    static const size_t plans[] = {3, 5, 6, 8, 9};
+    static const size_t plans[] = {3, 5, 6, 8, 9, 11, 12, 14, 15};
+    static const size_t plans_two[] = {3, 6, 8, 10, 12, 15, 17, 19, 21};
     uint32_t moves;
     for (moves = 0; moves < sizeof plans / sizeof plans[0]; moves++) {
-        expect(wichteab_plan_length(moves) == plans[moves], "wichteab_plan_length");
+        expect(wichteab_plan_length(1, moves) == plans[moves], "wichteab_plan_length of edition one");
+        expect(wichteab_plan_length(2, moves) == plans_two[moves], "wichteab_plan_length of edition two");
         expect(wichteab_timetable_buffer_length(moves) == 3 * (size_t)moves + 3, "wichteab_timetable_buffer_length");
     }
-    expect(wichteab_plan_length(0x3FFFFF) == 6291458, "the longest plan");
+    expect(wichteab_plan_length(1, 0x3FFFFF) == 6291458, "the longest plan of edition one");
+    expect(wichteab_plan_length(2, 0x3FFFFF) == 9437185, "the longest plan of edition two");
     expect(wichteab_timetable_buffer_length(0x3FFFFF) == 12582912, "the longest plan's timetable");
-    expect(wichteab_plan_buffer_length(4) == 771, "a plan buffer for 4 positions");
-    expect(wichteab_plan_buffer_length(64) == 3145731, "a plan buffer for 64 positions");
+    expect(wichteab_plan_buffer_length(4) == 1155, "a plan buffer for 4 positions");
+    expect(wichteab_plan_buffer_length(15) == 60753, "a plan buffer for 15 positions");
+    expect(wichteab_plan_buffer_length(16) == 73731, "a plan buffer for 16 positions");
+    expect(wichteab_plan_buffer_length(64) == 4718595, "a plan buffer for 64 positions");
+    expect(wichteab_plan_length(2, 8 * 64 * 64 * 64) == 4718595, "it is enough for the most moves");
+}
+
+/* The length of a plan's record in the other edition, off the three bytes that a plan begins with. */
+static void run_converted(void)
+{
+    static const struct length_case plans[] = {
+        {"no moves, edition one", 3, 3, {0x00, 0x00, 0x00}},
+        {"no moves, edition two", 3, 3, {0x00, 0x00, 0x01}},
+        {"four moves, edition one", 12, 9, {0x00, 0x00, 0x10}},
+        {"four moves, edition two", 9, 12, {0x00, 0x00, 0x11}},
+        {"five moves, edition one", 15, 11, {0x00, 0x00, 0x14}},
+        {"five moves, edition two", 11, 15, {0x00, 0x00, 0x15}},
+        {"the most moves, edition one, cut", 9437185, 3, {0xFF, 0xFF, 0xFC}},
+        {"the most moves, edition two, cut", 6291458, 3, {0xFF, 0xFF, 0xFD}},
+        {"bits of all three bytes", 3 + 9 * (0x048D15 / 4) + 3, 3, {0x12, 0x34, 0x54}},
+        {"no edition", 12, 3, {0x00, 0x00, 0x13}},
+        {"two bytes", 0, 2, {0xFF, 0xFF}},
+        {"no bytes", 0, 0, {0}},
+    };
+    size_t i;
+    for (i = 0; i < sizeof plans / sizeof plans[0]; i++) {
+        expect(wichteab_converted_length(plans[i].bytes, plans[i].length) == plans[i].expected, plans[i].name);
+    }
 }
 
 int main(void)
@@ -96,5 +125,6 @@ int main(void)
     }
     run_longest();
     run_sums();
+    run_converted();
     return close_tests();
 }

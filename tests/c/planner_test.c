@@ -40,7 +40,7 @@ static const struct floor_case cases[] = {
 };
 
 /* What 23 asks for n = 4, and some bytes more. */
-#define ENOUGH 771
+#define ENOUGH 1155
 static uint8_t buffer[ENOUGH + 9];
 
 static uint64_t make(const struct floor_case *c, size_t length)
@@ -49,12 +49,13 @@ static uint64_t make(const struct floor_case *c, size_t length)
     return wichteab_plan_make(c->bytes, c->length, buffer, length);
 }
 
-/* The plan at the front of the buffer: accepted with as many moves as were answered, and the rest of the buffer as it was. */
+/* The plan at the front of the buffer: of edition two, accepted with as many moves as were answered, and the rest of the buffer as it was. */
 static void judge_plan(const struct floor_case *c, uint64_t answer)
 {
     uint32_t moves = wichteab_plan_moves(answer);
-    size_t end = wichteab_plan_length(moves);
+    size_t end = wichteab_plan_length(2, moves);
     expect(wichteab_number(answer) == 0 && moves <= 8 * 4 * 4 * 4, c->name);
+    expect(wichteab_plan_edition(buffer) == 2, "the plan is of edition two");
     expect(end <= ENOUGH && wichteab_plan_check(c->bytes, c->length, buffer, end) == answer, "the plan checker accepts it");
     expect(untouched(buffer, end, sizeof buffer), "the bytes behind it stay as they were");
 }
@@ -71,10 +72,10 @@ static void run(const struct floor_case *c)
     }
 }
 
-/* Case 6: 770 bytes are 23, 771 are enough; and so is more. */
+/* Case 6: 1,154 bytes are 23, 1,155 are enough; and so is more. */
 static void run_buffers(const struct floor_case *c)
 {
-    static const size_t lengths[] = {0, 1, 3, 100, ENOUGH - 1, ENOUGH, ENOUGH + 1, ENOUGH + 9};
+    static const size_t lengths[] = {0, 1, 3, 771, ENOUGH - 1, ENOUGH, ENOUGH + 1, ENOUGH + 9};
     size_t i;
     expect(wichteab_plan_buffer_length(wichteab_order_positions(c->bytes)) == ENOUGH, "wichteab_plan_buffer_length");
     for (i = 0; i < sizeof lengths / sizeof lengths[0]; i++) {
@@ -94,7 +95,7 @@ static void run_delivery(const struct floor_case *c)
     uint64_t planned = make(c, ENOUGH), made, checked;
     uint32_t moves = wichteab_plan_moves(planned);
     size_t end;
-    made = wichteab_timetable_make(c->bytes, c->length, buffer, wichteab_plan_length(moves), timetable,
+    made = wichteab_timetable_make(c->bytes, c->length, buffer, wichteab_plan_length(2, moves), timetable,
                                    wichteab_timetable_buffer_length(moves));
     end = (size_t)wichteab_timetable_length(timetable, wichteab_timetable_buffer_length(moves));
     checked = wichteab_timetable_check(c->bytes, c->length, timetable, end);
@@ -112,6 +113,6 @@ int main(void)
     run_buffers(&cases[0]);
     run_delivery(&cases[0]);
     expect(wichteab_plan_moves(make(&cases[0], ENOUGH)) > 0, "F with two racks has to move");
-    expect(make(&cases[1], ENOUGH) == 0 && buffer[0] == 0 && buffer[1] == 0 && buffer[2] == 0, "no moves where each start is its goal");
+    expect(make(&cases[1], ENOUGH) == 0 && buffer[0] == 0 && buffer[1] == 0 && buffer[2] == 1, "no moves where each start is its goal");
     return close_tests();
 }

@@ -27,8 +27,8 @@ struct record {
 
 static struct record order;
 static size_t order_length;
-static uint8_t plan[12 * POSITIONS * POSITIONS * POSITIONS + 3], timetable[3 * MOST_MOVES + 3];
-static uint8_t shortened[sizeof plan];
+static uint8_t plan[18 * POSITIONS * POSITIONS * POSITIONS + 3], timetable[3 * MOST_MOVES + 3];
+static uint8_t shortened[sizeof plan], converted[sizeof plan];
 static size_t plan_length, timetable_length;
 
 static void begin(struct record *record)
@@ -180,6 +180,11 @@ static uint64_t plan_shorten(void)
     return wichteab_plan_shorten(order.bytes, order_length, plan, plan_length, shortened, sizeof shortened);
 }
 
+static uint64_t plan_convert(void)
+{
+    return wichteab_plan_convert(order.bytes, order_length, plan, plan_length, converted, sizeof converted);
+}
+
 static uint64_t timetable_make(void)
 {
     return wichteab_timetable_make(order.bytes, order_length, plan, plan_length, timetable, sizeof timetable);
@@ -253,7 +258,16 @@ static uint64_t run(uint64_t (*function)(void), const char *name)
     return run_on(STACK, function, name);
 }
 
-/* One rack goes to and fro between two positions, so often that the shortener takes its largest tables. */
+/* The plan is converted, and from now on it is the converted one. */
+static uint64_t turn_edition(const char *name)
+{
+    uint64_t answer = run(plan_convert, name);
+    plan_length = wichteab_converted_length(plan, plan_length);
+    memcpy(plan, converted, plan_length);
+    return answer;
+}
+
+/* One rack goes to and fro between two positions, so often that the shortener takes its largest tables. Edition one. */
 static void put_to_and_fro(unsigned moves)
 {
     static const uint8_t to_and_fro[] = {0x00, 0x10, 0x40}; /* 0>1, 1>0 */
@@ -266,13 +280,23 @@ static void put_to_and_fro(unsigned moves)
     put_pair(&order, 0, 1);
     put_pair(&order, 0, 0);
     order_length = length_of(&order);
-    plan_length = wichteab_plan_length(moves);
+    plan_length = wichteab_plan_length(1, moves);
     plan[0] = (uint8_t)(moves >> 14);
     plan[1] = (uint8_t)(moves >> 6);
     plan[2] = (uint8_t)(moves << 2);
     for (at = 3; at < plan_length; at++) {
         plan[at] = to_and_fro[(at - 3) % 3];
     }
+}
+
+/* So many moves to and fro, in both editions: none is left. */
+static void run_to_and_fro(unsigned moves)
+{
+    put_to_and_fro(moves);
+    expect(run_on(SHORTENER_STACK, plan_shorten, "wichteab_plan_shorten, many moves") == 0, "of the moves none is left");
+    expect(turn_edition("wichteab_plan_convert, many moves") == (uint64_t)moves << 8, "they are converted");
+    expect(run_on(SHORTENER_STACK, plan_shorten, "wichteab_plan_shorten, many moves, edition two") == 0,
+           "of the moves in edition two none is left");
 }
 
 /* Every function in turn on one order that can be planned. */
@@ -283,10 +307,12 @@ static void run_all(void)
     expect(run(order_end, "wichteab_order_length") == order_length, "of its length");
     expect(run(floor_check, "wichteab_floor_check") == 0, "that can be planned");
     planned = run(plan_make, "wichteab_plan_make");
-    plan_length = wichteab_plan_length(wichteab_plan_moves(planned));
+    plan_length = wichteab_plan_length(2, wichteab_plan_moves(planned));
     expect(wichteab_number(planned) == 0, "planned");
     expect(run(plan_check, "wichteab_plan_check") == planned, "and its plan accepted");
     expect(wichteab_number(run_on(SHORTENER_STACK, plan_shorten, "wichteab_plan_shorten")) == 0, "shortened");
+    expect(turn_edition("wichteab_plan_convert, to edition one") == planned, "converted");
+    expect(turn_edition("wichteab_plan_convert, to edition two") == planned, "and back");
     expect(wichteab_number(run(timetable_make, "wichteab_timetable_make")) == 0, "timetabled");
     timetable_length = (size_t)run(timetable_end, "wichteab_timetable_length");
     checked = run(timetable_check, "wichteab_timetable_check");
@@ -307,9 +333,7 @@ int main(void)
     put_ring_and_handle();
     put_racks_turned_round();
     run_all();
-    put_to_and_fro(200000);
-    answer = run_on(SHORTENER_STACK, plan_shorten, "wichteab_plan_shorten, 200000 moves");
-    expect(answer == 0, "of 200000 moves to and fro none is left");
+    run_to_and_fro(200000);
     put_train();
     answer = run(timetable_check, "wichteab_timetable_check, a train of 63");
     expect(wichteab_number(answer) == 0 && wichteab_timetable_moves(answer) == 63, "the train is accepted");

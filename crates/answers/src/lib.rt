@@ -22,11 +22,11 @@ pub enum Fault {
     FloorNotBiconnected,
     // The floor is a ring. No longer given: rings are planned.
     FloorRing,
-    // The plan buffer is shorter than 12 × n × n × n + 3 bytes.
+    // The plan buffer is shorter than 18 × n × n × n + 3 bytes.
     PlanBuffer,
     // The plan is under 3 bytes, or its length is not the one k gives.
     PlanLength,
-    // A spare or pad bit of the plan is set.
+    // The plan's spare bits are 10 or 11, or a pad bit is set.
     PlanPadding,
     // A move has a position of n or more, or no edge joins its two.
     PlanMove,
@@ -58,6 +58,10 @@ pub enum Fault {
     FloorOrder,
     // The second buffer is shorter than the plan given.
     SecondBuffer,
+    // The rack that a move names is not the one that stands there.
+    PlanRack,
+    // The converter's buffer is shorter than the plan in the other edition.
+    ConvertedBuffer,
 }
 
 // Document 01's number of a fault.
@@ -98,6 +102,8 @@ fn case_number(fault: Fault) -> u64
         Fault::PlanOccupied => 35,
         Fault::FloorOrder => 24,
         Fault::SecondBuffer => 37,
+        Fault::PlanRack => 36,
+        Fault::ConvertedBuffer => 38,
     }
 }
 

@@ -136,13 +136,13 @@ pub settle-ring-met :
     Rows 5 square
     × BaseRing (Edge square) circle
     × RestSettled circle (row racks) (row racks)
-    × Space state (replicate 648 0) (ringMoves 4)
+    × Space state (replicate 972 0) (ringMoves 4)
 unfolding exchangeMoves
 settle-ring-met =
     let h = length-replicate {A = ℕ} 59 0 in
-    let t = length-replicate {A = ℕ} 648 0 in (
+    let t = length-replicate {A = ℕ} 972 0 in (
       square-rows,
       square-ring,
       record { table = racks-table; goal = square-open; outside = λ p out. refl },
-      record { racks = omega arith; room = omega arith },
+      record { racks = omega arith; few-racks = omega arith; room = omega arith },
     )

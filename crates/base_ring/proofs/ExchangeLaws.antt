@@ -322,7 +322,8 @@ module _ {g : List ℕ} (r : ℕ) {a b : ℕ} {s s₂ s₃ : State} {l t l₃ t�
   unfolding exchangeMoves
   exchange-space room =
       let few = made .few in
-      space-less (s₂ .logged - 0) (omega arith) (space-then (record { racks = room .racks; room = room .room }) (made .trip))
+      let space : Space s t (exchangeMoves r) = record { racks = room .racks; few-racks = room .few-racks; room = room .room } in
+      space-less (s₂ .logged - 0) (omega arith) (space-then space (made .trip))
 
   pub exchange-trip : {s₄ : State} {t₄ : List ℕ} → Trip g (s₂ .logged - 0) s₃ t₃ s₄ t₄ → Trip g (exchangeMoves r) s t s₄ t₄
   unfolding exchangeMoves

@@ -89,15 +89,15 @@ starred =
     ∷ timetable-checked order₃ ring₃ (refused 42 1)
     ∷ timetable-checked order₄ swap₄ (refused 42 1)
     -- 4. Request (d): "The starred case of three positions in a ring with one rack becomes `planned`." "F with three racks: 20; with two:
-    -- planned." The buffers are as long as 23 asks.
-    ∷ plan-made threeInRing 327 planned
-    ∷ plan-made threeRacks 771 (refused 20 0)
-    ∷ plan-made order₁ 771 planned
+    -- planned." The buffers are as long as 23 asks, 18 × n × n × n + 3 bytes.
+    ∷ plan-made threeInRing 489 planned
+    ∷ plan-made threeRacks 1155 (refused 20 0)
+    ∷ plan-made order₁ 1155 planned
     -- 5. "Path 0-1, 1-2, 2-3, one rack: 21."
-    ∷ plan-made pathOfFour 771 (refused 21 0)
-    -- 6. "F, buffer of 770 bytes: 23; 771: planned."
-    ∷ plan-made order₁ 770 (refused 23 0)
-    ∷ plan-made order₁ 771 planned
+    ∷ plan-made pathOfFour 1155 (refused 21 0)
+    -- 6. F, buffer of 1,154 bytes: 23; 1,155: planned. Request (h): "case 6 turns at 1,154 and 1,155 bytes."
+    ∷ plan-made order₁ 1154 (refused 23 0)
+    ∷ plan-made order₁ 1155 planned
     -- 7. "Empty plan for the order above: 33, rack 1."
     ∷ plan-checked order₁ (0x00 ∷ 0x00 ∷ 0x00 ∷ []) (refused 33 1)
     ∷ []

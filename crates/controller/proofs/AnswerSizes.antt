@@ -5,7 +5,7 @@
 --     refuse-sized, passUp-sized, judged-sized        an answer made of sized answers is sized
 --     misplaced-small, Stopping                       a misplaced rack and the place where a replay stops are at most one above the list
 --     order-sized, floor-sized, expand-sized, planner-sized, made-sized, plan-sized, timetable-sized, maker-sized, shortener-sized,
---     step-sized
+--     converter-sized, step-sized
 --                         so are the answers of each function
 -- Assumes nothing.
 use Prim.Native.Nat.{ℕ, zero, suc, _+_, _*_, _^_, _≤_, _<_}
@@ -20,26 +20,27 @@ use lib.ListN.{length, drop, length-append, length-map}
 use Rattle.answers.specs.Answer.{Answer, accepted, refused, refuse, passUp}
 use Rattle.answers.proofs.AnswerLaws.{passUp-accepted}
 use Rattle.field.proofs.BitLaws.{field-lt}
-use Rattle.field.proofs.RecordLaws.{length-positions, length-pairs}
+use Rattle.field.proofs.RecordLaws.{length-positions}
 use Rattle.field.proofs.UnitLaws.{or-right}
 use Rattle.order.specs.Floor.{Floor}
 use Rattle.order.specs.Order.{positionCount, edgeCount, rackCount, floorOf, startsOf, goalsOf, orderOf, wrongLength, wrongPositions}
 use Rattle.order.specs.Order.{paddingSet, wrongEdges, wrongRacks, orderAnswer}
 use Rattle.motion.specs.Arrangement.{Arrangement}
-use Rattle.motion.specs.Move.{legalMove, moveFault, after, afterMove}
-use Rattle.motion.proofs.MoveLaws.{moveFault-none, moveFault-small}
+use Rattle.motion.specs.Move.{listedFault, after, afterListed}
+use Rattle.motion.proofs.ListedLaws.{legalListed, listedFault-none, listedFault-small, replayListed-stopped}
 use Rattle.motion.specs.Step.{legalStep}
 use Rattle.motion.specs.Judgement.{misplaced, judged}
-use Rattle.motion.specs.Replay.{Replayed, ended, stopped, replayMoves, stepFault, replaySteps}
+use Rattle.motion.specs.Replay.{Replayed, ended, stopped, replayListed, stepFault, replaySteps}
 use Rattle.motion.proofs.StepDecision.{legalStep?}
 use Rattle.motion.proofs.Test.{cond-either}
-use Rattle.motion.proofs.Lawful.{Stops, stops-some, stepFault-none, stepFault-small, replayMoves-stopped, replaySteps-stopped}
+use Rattle.motion.proofs.Lawful.{Stops, stops-some, stepFault-none, stepFault-small, replaySteps-stopped}
 use Rattle.floor.specs.FloorAnswer.{biConnected?, disordered?, holds, vacanciesOwed, floorAnswer}
 use Rattle.models.specs.Grid.{unknownModel}
 use Rattle.models.specs.ShortOrder.{modelCode, wrongShort}
 use Rattle.models.specs.Expansion.{fullOrder, expanded, expandAnswer}
 use Rattle.models.proofs.ExpansionLaws.{expanded-small}
-use Rattle.plan.specs.Plan.{moveCount, planMoves, wrongPlanLength, planPaddingSet, planAnswer}
+use Rattle.plan.specs.Plan.{moveCount, planListed, wrongPlanLength, planPaddingSet, planAnswer}
+use Rattle.plan.proofs.PlanRecord.{listed-counted}
 use Rattle.planner.specs.Planner.{refusals, PlanMade, turned-down, made}
 use Rattle.planner.proofs.PlannerLaws.{moves-few}
 use Rattle.timetable.specs.Timetable.{stepCount, partsOf, stepsOf, stepMoves, wrongTimetableLength, timetablePaddingSet, timetableAnswer}
@@ -47,6 +48,7 @@ use Rattle.timetable.specs.Timetable.{stepAnswer}
 use Rattle.timetable.proofs.StepLaws.{length-parts}
 use Rattle.timetable.specs.ByteString.{ByteString}
 use Rattle.timetable.proofs.SizeLaws.{count-small, total-small, offset-small, length-small}
+use Rattle.converting.specs.Converter.{convertedOf, converterAnswer}
 use Rattle.shortening.specs.Shortener.{shortenerAnswer}
 use Rattle.shortening.proofs.ShortenerLaws.{moves-small}
 use Rattle.scheduling.specs.Maker.{makerAnswer}
@@ -108,9 +110,11 @@ module _ {X : Type 0} (fault : Arrangement → X → ℕ) (legal : Arrangement �
       pos zero d = absurd (d refl)
       pos (suc n) d = omega arith
 
-moves-stopping : (F : Floor) (A : Arrangement) (ms : List (ℕ × ℕ)) (f j : ℕ) → replayMoves F A ms ≡ stopped f j → Stopping (length ms) f j
-moves-stopping F A ms f j e =
-    stopped-small (moveFault F) (legalMove F) afterMove (moveFault-none F) (moveFault-small F) (replayMoves-stopped F A ms f j .0 e)
+moves-stopping : (F : Floor) (A : Arrangement) (l : List (ℕ × ℕ × ℕ)) (f j : ℕ) → replayListed F A l ≡ stopped f j
+    → Stopping (length l) f j
+moves-stopping F A l f j e =
+    stopped-small (listedFault F) (legalListed F) afterListed (listedFault-none F) (listedFault-small F)
+    (replayListed-stopped F A l f j .0 e)
 
 steps-stopping : (F : Floor) (A : Arrangement) (steps : List (List (ℕ × ℕ))) (f j : ℕ) → replaySteps (legalStep? F) A steps ≡ stopped f j
     → Stopping (length steps) f j
@@ -166,7 +170,7 @@ pub planner-sized : (o : List ℕ) (b : ℕ) → Sized NoCounts (refusals o b)
 unfolding refusals
 planner-sized o b =
     passUp-sized (floorAnswer o) _ (floor-sized o)
-    (λ v e. refuse-sized (ltb b (12 * (positionCount o * (positionCount o * positionCount o)) + 3)) 23 0 _ tt tt (lit< tt)
+    (λ v e. refuse-sized (ltb b (18 * (positionCount o * (positionCount o * positionCount o)) + 3)) 23 0 _ tt tt (lit< tt)
     (λ _. accepts no-counts))
 
 pub made-sized : {o B B′ : List ℕ} {a : Answer} → PlanMade o B a B′ → Sized OneCount a
@@ -181,10 +185,6 @@ count-few : (p : List ℕ) → moveCount p < 2 ^ 22
 unfolding moveCount
 count-few p = field-lt p 0 22
 
-moves-listed : (p : List ℕ) → length (planMoves p) ≡ moveCount p
-unfolding planMoves
-moves-listed p = length-pairs p 24 (moveCount p)
-
 steps-listed : (s : List ℕ) → length (stepsOf s) ≡ stepCount s
 unfolding stepsOf partsOf
 steps-listed s = length-map (partsOf s) stepMoves ∙ length-parts (stepCount s) (drop 3 s)
@@ -195,9 +195,9 @@ plan-sized o p =
     passUp-sized (orderAnswer o) _ (order-sized o)
     (λ v e. refuse-sized (wrongPlanLength p) 30 0 _ tt tt (lit< tt)
     (λ _. refuse-sized (planPaddingSet p) 31 0 _ tt tt (lit< tt)
-    (λ _. judged-sized 33 (goalsOf o) _ (replayMoves (floorOf o) (startsOf o) (planMoves p)) (length (planMoves p)) tt tt (goals-few o)
-    (moves-stopping (floorOf o) (startsOf o) (planMoves p))
-    (omega (arith, moves-listed p, count-few p))
+    (λ _. judged-sized 33 (goalsOf o) _ (replayListed (floorOf o) (startsOf o) (planListed p)) (length (planListed p)) tt tt (goals-few o)
+    (moves-stopping (floorOf o) (startsOf o) (planListed p))
+    (omega (arith, listed-counted p, count-few p))
     (one-count (count-few p)))))
 
 pub timetable-sized : (o s : List ℕ) → ByteString s → Sized StepsMoves (timetableAnswer o s)
@@ -223,6 +223,12 @@ shortener-sized o p n =
     passUp-sized (planAnswer o p) _ (plan-sized o p)
     (λ v e. refuse-sized (ltb n (length p)) 37 0 _ tt tt (lit< tt)
     (λ room. accepts (one-count (moves-small o p n _ (sym (passUp-accepted (planAnswer o p) _ v e ∙ rw room refl))))))
+
+pub converter-sized : (o p : List ℕ) (n : ℕ) → Sized OneCount (converterAnswer o p n)
+unfolding converterAnswer
+converter-sized o p n =
+    passUp-sized (planAnswer o p) _ (plan-sized o p)
+    (λ v e. refuse-sized (ltb n (length (convertedOf o p))) 38 0 _ tt tt (lit< tt) (λ room. accepts (one-count (count-few p))))
 
 pub step-sized : (s : List ℕ) (i : ℕ) → ByteString s → Sized OffsetLength (stepAnswer s i)
 unfolding stepAnswer

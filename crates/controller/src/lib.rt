@@ -2,6 +2,7 @@
 // returns one number; none changes a byte that it was lent to read, and a refusal changes no byte at all. The number is an answer, packed,
 // or for the last two functions a length.
 use answers::Fault;
+use converting::ConverterVerdict;
 use floor::FloorVerdict;
 use models::ExpandVerdict;
 use order::OrderVerdict;
@@ -19,6 +20,7 @@ ghost use Rattle.order.specs.RecordLength.{wholeOrderLength};
 ghost use Rattle.floor.specs.FloorAnswer.{floorAnswer};
 ghost use Rattle.models.specs.Expansion.{expandAnswer, bufferAfter as orderBufferAfter};
 ghost use Rattle.plan.specs.Plan.{planAnswer};
+ghost use Rattle.converting.specs.Converter.{converterAnswer, bufferAfter as convertedBufferAfter};
 ghost use Rattle.planner.specs.Planner.{PlanMade};
 ghost use Rattle.scheduling.specs.Maker.{makerAnswer, bufferAfter};
 ghost use Rattle.shortening.specs.Shortener.{shortenerAnswer, bufferAfter as planBufferAfter};
@@ -83,7 +85,7 @@ pub extern "C" fn wichteab_plan_make(order: &[u8], buffer: &mut [u8]) -> u64
     }
 }
 
-// Judges a plan for an order by 10 to 14 and 30 to 35. Accepted, it gives the plan's moves.
+// Judges a plan for an order by 10 to 14 and 30 to 36. Accepted, it gives the plan's moves.
 #[no_mangle]
 pub extern "C" fn wichteab_plan_check(order: &[u8], plan: &[u8]) -> u64
     ensures { λ r. ⌜ Tells oneCount planMovesOf (planAnswer (now (order .entry)) (now (plan .entry))) r ⌝ }
@@ -94,7 +96,7 @@ pub extern "C" fn wichteab_plan_check(order: &[u8], plan: &[u8]) -> u64
     }
 }
 
-// Takes the moves that cancel out of a plan for an order and writes what is left to the front of the buffer, judged by 10 to 14, 30 to 35
+// Takes the moves that cancel out of a plan for an order and writes what is left to the front of the buffer, judged by 10 to 14, 30 to 36
 // and 37. Accepted, it gives the moves written.
 #[no_mangle]
 pub extern "C" fn wichteab_plan_shorten(order: &[u8], plan: &[u8], buffer: &mut [u8]) -> u64
@@ -105,6 +107,20 @@ pub extern "C" fn wichteab_plan_shorten(order: &[u8], plan: &[u8], buffer: &mut 
     match shortening::shorten(order, plan, buffer) {
         ShortenerVerdict::Accepted(moves) => (moves as u64) * 256,
         ShortenerVerdict::Refused(fault, place) => refusal(fault, place),
+    }
+}
+
+// Writes a plan for an order in the other edition to the front of the buffer, judged by 10 to 14, 30 to 36 and 38. Accepted, it gives the
+// plan's moves.
+#[no_mangle]
+pub extern "C" fn wichteab_plan_convert(order: &[u8], plan: &[u8], buffer: &mut [u8]) -> u64
+    ensures { λ r. ⌜ Tells oneCount planMovesOf
+        (converterAnswer (now (order .entry)) (now (plan .entry)) (length (now (buffer .entry)))) r ⌝ }
+    ensures { λ _. ⌜ now (buffer .exit) ≡ convertedBufferAfter (now (order .entry)) (now (plan .entry)) (now (buffer .entry)) ⌝ }
+{
+    match converting::convert(order, plan, buffer) {
+        ConverterVerdict::Accepted(moves) => (moves as u64) * 256,
+        ConverterVerdict::Refused(fault, place) => refusal(fault, place),
     }
 }
 
@@ -120,7 +136,7 @@ pub extern "C" fn wichteab_timetable_check(order: &[u8], timetable: &[u8]) -> u6
     }
 }
 
-// Makes the timetable of a plan for an order and writes it to the front of the buffer, judged by 10 to 14, 30 to 35 and 44. Accepted, it
+// Makes the timetable of a plan for an order and writes it to the front of the buffer, judged by 10 to 14, 30 to 36 and 44. Accepted, it
 // gives the timetable's steps.
 #[no_mangle]
 pub extern "C" fn wichteab_timetable_make(order: &[u8], plan: &[u8], buffer: &mut [u8]) -> u64

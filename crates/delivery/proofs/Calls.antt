@@ -41,7 +41,7 @@ module _ {o P P′ : List ℕ} where
     pub few-moves : k < 2 ^ 22
     few-moves = moves-few (plan-made e h)
 
-    pub plan-ends : 3 + (6 * (2 * k) + 7) / 8 ≤ length P′
+    pub plan-ends : 3 + (6 * (3 * k) + 7) / 8 ≤ length P′
     unfolding planLength recordLength
     plan-ends = plan-within (plan-made e h)
 

@@ -1,6 +1,7 @@
 -- Demand 3, from what the three calls answer and leave.
 --
 --     planRoom o         how long a plan buffer 23 asks for
+--     planOf o ms        the record of the moves ms for the order o, in the edition that the planner writes
 --     plan-within        a plan just written ends within its buffer
 --     length-within      so does the timetable that is found in a buffer
 --     plan-alone         the plan just written, alone
@@ -10,6 +11,7 @@
 -- Assumes nothing.
 use Prim.Native.Nat.{ℕ, _+_, _*_, _≤_}
 use mathlib.Core.Path.{_≡_, refl, sym, ap, _∙_}
+use mathlib.Core.Bool.{true}
 use mathlib.Core.List.{List, [], _∷_, _++_}
 use native.Mathlib.Omega.{arith}
 use native.Mathlib.Decide.{decLe}
@@ -19,12 +21,12 @@ use lib.ListN.{length, take, drop, length-append}
 use lib.Seq.{take-at}
 use Rattle.answers.specs.Answer.{Answer, accepted, refused}
 use Rattle.answers.proofs.AnswerLaws.{passUp-accepted}
-use Rattle.field.specs.Units.{recordLength}
-use Rattle.field.proofs.UnitLaws.{fitting}
+use Rattle.field.specs.Listed.{moveSize}
 use Rattle.field.specs.Writing.{written}
 use Rattle.field.proofs.WritingLaws.{written-front}
 use Rattle.order.specs.Order.{positionCount, startsOf}
-use Rattle.plan.specs.Plan.{planAnswer, planRecord, planMoves, moveCount, wrongPlanLength}
+use Rattle.plan.specs.Plan.{planAnswer, planRecord, planMoves, moveCount}
+use Rattle.plan.proofs.PlanRecord.{length-record}
 use Rattle.timetable.specs.Timetable.{timetableAnswer, timetableRecord}
 use Rattle.timetable.proofs.TimetableRecord.{record-well-packed}
 use Rattle.timetable.specs.RecordLength.{wholeTimetableLength}
@@ -36,13 +38,16 @@ use Rattle.floor.specs.Plannable.{Plannable}
 use Rattle.floor.proofs.FloorLaws.{plannable-is}
 use Rattle.planner.specs.Moves.{Solves}
 use Rattle.planner.specs.Planner.{refusals, PlanMade, turned-down, made}
-use Rattle.planner.proofs.PlannerLaws.{unrefused, packed, plan-accepted}
+use Rattle.planner.proofs.PlannerLaws.{unrefused, moves-read, count-read, edition-read, plan-accepted}
 use Rattle.delivery.specs.Delivery.{Call, answered, Answers, planLength, planAlone, timetableAlone, Called, unplanned, untimed}
 use Rattle.delivery.specs.Delivery.{checked, TimetableMade, Delivered, Delivers}
 
 -- how long a plan buffer 23 asks for
 abbrev pub planRoom : List ℕ → ℕ
-planRoom o = 12 * (positionCount o * (positionCount o * positionCount o)) + 3
+planRoom o = 18 * (positionCount o * (positionCount o * positionCount o)) + 3
+
+abbrev planOf : List ℕ → List (ℕ × ℕ) → List ℕ
+planOf o ms = planRecord true (startsOf o) ms
 
 never : {number place : ℕ} {v : List ℕ} → accepted v ≡ refused number place → ⊥
 never e = let z : _≡_ {A = ℕ} 0 1 = cc in omega arith
@@ -52,26 +57,23 @@ none-refuses : (o P : List ℕ) → Plannable o → planRoom o ≤ length P → 
 unfolding refusals
 none-refuses o P can room =
     let n = positionCount o in
-    rw (plannable-is o can, le-ltb (length P) (12 * (n * (n * n)) + 3) room) refl
+    rw (plannable-is o can, le-ltb (length P) (18 * (n * (n * n)) + 3) room) refl
 
 -- the plan of moves that solve an order which can be planned
 module _ (o : List ℕ) (can : Plannable o) (ms : List (ℕ × ℕ)) (solves : Solves o (positionCount o) ms) (P : List ℕ) where
-  plan-long : length (planRecord ms) ≡ planLength (length ms)
-  unfolding planLength recordLength wrongPlanLength
-  plan-long =
-      let right = packed o can ms solves in
-      fitting (planRecord ms) (2 * moveCount (planRecord ms)) (right .length-right) .length-is
-      ∙ ap (λ (k : ℕ). recordLength (2 * k)) (right .count-is)
+  plan-long : length (planOf o ms) ≡ planLength (length ms)
+  unfolding planLength moveSize
+  plan-long = length-record true (startsOf o) ms
 
-  written-within : planLength (length ms) ≤ length (written P 0 (planRecord ms))
+  written-within : planLength (length ms) ≤ length (written P 0 (planOf o ms))
   written-within =
-      omega (arith, plan-long, ap length (written-front P (planRecord ms)), length-append (planRecord ms) (drop (length (planRecord ms)) P))
+      omega (arith, plan-long, ap length (written-front P (planOf o ms)), length-append (planOf o ms) (drop (length (planOf o ms)) P))
 
-  plan-alone : planAlone (length ms) (written P 0 (planRecord ms)) ≡ planRecord ms
+  plan-alone : planAlone (length ms) (written P 0 (planOf o ms)) ≡ planOf o ms
   unfolding planAlone
   plan-alone =
-      ap (take (planLength (length ms))) (written-front P (planRecord ms))
-      ∙ take-at (planRecord ms) (drop (length (planRecord ms)) P) (planLength (length ms)) plan-long
+      ap (take (planLength (length ms))) (written-front P (planOf o ms))
+      ∙ take-at (planOf o ms) (drop (length (planOf o ms)) P) (planLength (length ms)) plan-long
 
 pub plan-within : {o P P′ : List ℕ} {k : ℕ} → PlanMade o P (accepted (k ∷ [])) P′ → planLength k ≤ length P′
 plan-within {o} {P} (made ms right solves) = written-within o (unrefused o (length P) right) ms solves P
@@ -125,22 +127,23 @@ module _ (o p : List ℕ) (k : ℕ) (right : planAnswer o p ≡ accepted (k ∷ 
 -- the plan, and what comes of it
 module _ (o P : List ℕ) (can : Plannable o) (room : planRoom o ≤ length P)
     (ms : List (ℕ × ℕ)) (solves : Solves o (positionCount o) ms) where
-  right : planAnswer o (planRecord ms) ≡ accepted (length ms ∷ [])
+  right : planAnswer o (planOf o ms) ≡ accepted (length ms ∷ [])
   right = plan-accepted o can ms solves
 
-  count : moveCount (planRecord ms) ≡ length ms
-  count = packed o can ms solves .count-is
+  count : moveCount (planOf o ms) ≡ length ms
+  count = count-read o can ms solves
 
-  planned : (T T′ : List ℕ) (m c : Call) → (3 * length ms + 3 ≤ length T → TimetableMade o (planRecord ms) (length ms) T m c T′)
-      → Delivered o P T (record { planner = accepted (length ms ∷ []); maker = m; checker = c }) (written P 0 (planRecord ms)) T′
+  planned : (T T′ : List ℕ) (m c : Call) → (3 * length ms + 3 ≤ length T → TimetableMade o (planOf o ms) (length ms) T m c T′)
+      → Delivered o P T (record { planner = accepted (length ms ∷ []); maker = m; checker = c }) (written P 0 (planOf o ms)) T′
   planned T T′ m c then = record {
     moves = length ms;
-    plan = planRecord ms;
+    plan = planOf o ms;
     planned = refl;
     few = solves .few;
     long = plan-long o can ms solves P;
     stands = refl;
-    replayed = rw (packed o can ms solves .moves-are) (solves .replayed);
+    edition-two = edition-read o can ms solves;
+    replayed = rw (moves-read o can ms solves) (solves .replayed);
     accepts = right;
     then = then;
   }
@@ -148,13 +151,13 @@ module _ (o P : List ℕ) (can : Plannable o) (room : planRoom o ≤ length P)
 pub delivered : (o P T : List ℕ) {a : Answers} {P′ T′ : List ℕ} → Called o P T a P′ T′ → Delivers o P T a P′ T′
 delivered o P T (unplanned (turned-down e)) can room = absurd (never (sym (none-refuses o P can room) ∙ e))
 delivered o P T (untimed {T′ = T′} (made ms e solves) refusal left) can room =
-    let p = planRecord ms in
+    let p = planOf o ms in
     let k = length ms in
     let own : makerAnswer o p (length T) ≡ refused _ _ = rw (plan-alone o can ms solves P) at refusal in
     planned o P can room ms solves T T′ _ _
     (λ h. absurd (never (sym (answer o p k (right o P can room ms solves) (count o P can room ms solves) T h) ∙ own)))
 delivered o P T (checked {s = s} {c = c} {T′ = T′} (made ms e solves) a left ec) can room =
-    let p = planRecord ms in
+    let p = planOf o ms in
     let k = length ms in
     let own : makerAnswer o p (length T) ≡ accepted (s ∷ []) = rw (plan-alone o can ms solves P) at a in
     let after : T′ ≡ bufferAfter o p T = rw (plan-alone o can ms solves P) at left in
@@ -170,11 +173,11 @@ pub callable : (o P : List ℕ) → Plannable o → planRoom o ≤ length P → 
       maker = answered (accepted (s ∷ []));
       checker = answered (accepted (s ∷ length ms ∷ []));
     })
-    (written P 0 (planRecord ms)) (bufferAfter o (planRecord ms) T)
+    (written P 0 (planOf o ms)) (bufferAfter o (planOf o ms) T)
 callable o P can room ms solves T enough s e =
-    let p = planRecord ms in
+    let p = planOf o ms in
     let alone = plan-alone o can ms solves P in
-    let steps : greatest (timed (startsOf o) [] (planMoves p)) ≡ s = rw (packed o can ms solves .moves-are) e in
+    let steps : greatest (timed (startsOf o) [] (planMoves p)) ≡ s = rw (moves-read o can ms solves) e in
     let right′ = right o P can room ms solves in
     let count′ = count o P can room ms solves in
     let answer′ : makerAnswer o p (length T) ≡ accepted (s ∷ []) =

@@ -2,13 +2,14 @@
 -- met, and so can what the three calls promise.
 --
 --     order₁, moves₁     the order of "Programs", and the moves of its plan
---     room₁              the plan buffer that 23 asks for it is 771 bytes long
+--     room₁              the plan buffer that 23 asks for it is 1155 bytes long
 --     delivered₁         with such a buffer it is delivered; the timetable buffer is 3 × k + 3 bytes long, of the k just planned
 --     solves₁            the case book's moves solve it
 --     called₁            so the three calls may answer 4 moves, 2 steps, and 2 steps with 4 moves
 -- Assumes nothing.
 use Prim.Native.Nat.{ℕ, _≤_}
 use mathlib.Core.Path.{_≡_, refl}
+use mathlib.Core.Bool.{true}
 use mathlib.Core.List.{List, [], _∷_}
 use native.Mathlib.Omega.{arith}
 use lib.ListN.{length}
@@ -16,7 +17,8 @@ use lib.Dec.{lit≤}
 use Rattle.answers.specs.Answer.{accepted}
 use Rattle.field.specs.Bits.{bits, number, bitsOf, field}
 use Rattle.field.specs.Writing.{written}
-use Rattle.order.specs.Order.{positionCount}
+use Rattle.order.specs.Order.{positionCount, startsOf}
+use Rattle.motion.specs.Replay.{replayMoves}
 use Rattle.plan.specs.Plan.{planRecord}
 use Rattle.plan.proofs.Examples.{plan-open}
 use Rattle.scheduling.proofs.MakerCases.{maker-open}
@@ -34,29 +36,29 @@ order₁ = twoRacks
 abbrev pub moves₁ : List (ℕ × ℕ)
 moves₁ = (0, 1) ∷ (3, 2) ∷ (1, 3) ∷ (2, 0) ∷ []
 
-pub room₁ : (P : List ℕ) → 771 ≤ length P → planRoom order₁ ≤ length P
+pub room₁ : (P : List ℕ) → 1155 ≤ length P → planRoom order₁ ≤ length P
 unfolding positionCount field number bitsOf bits
 room₁ P h = h
 
-pub delivered₁ : (P T : List ℕ) {a : Answers} {P′ T′ : List ℕ} → 771 ≤ length P → Called order₁ P T a P′ T′ → Delivered order₁ P T a P′ T′
+pub delivered₁ : (P T : List ℕ) {a : Answers} {P′ T′ : List ℕ} → 1155 ≤ length P → Called order₁ P T a P′ T′ → Delivered order₁ P T a P′ T′
 delivered₁ P T h c = delivered order₁ P T c plannable-met (room₁ P h)
 
 -- and so is the ring of three positions with one rack
-pub delivered₂ : (P T : List ℕ) {a : Answers} {P′ T′ : List ℕ} → 327 ≤ length P → Called threeInRing P T a P′ T′
+pub delivered₂ : (P T : List ℕ) {a : Answers} {P′ T′ : List ℕ} → 489 ≤ length P → Called threeInRing P T a P′ T′
     → Delivered threeInRing P T a P′ T′
 delivered₂ P T h c = delivered threeInRing P T c ring-met (unfold positionCount field number bitsOf bits in h)
 
 pub solves₁ : Solves order₁ (positionCount order₁) moves₁
-unfolding plan-open
+unfolding plan-open replayMoves
 solves₁ = record {
   few = lit≤ tt;
   replayed = refl;
   still = λ e. let z : _≡_ {A = ℕ} 0 3 = cc e in absurd (omega arith);
 }
 
-pub called₁ : (P T : List ℕ) → 771 ≤ length P → 15 ≤ length T
+pub called₁ : (P T : List ℕ) → 1155 ≤ length P → 15 ≤ length T
     → Called order₁ P T
     (record { planner = accepted (4 ∷ []); maker = answered (accepted (2 ∷ [])); checker = answered (accepted (2 ∷ 4 ∷ [])) })
-    (written P 0 (planRecord moves₁)) (bufferAfter order₁ (planRecord moves₁) T)
+    (written P 0 (planRecord true (startsOf order₁) moves₁)) (bufferAfter order₁ (planRecord true (startsOf order₁) moves₁) T)
 unfolding maker-open
 called₁ P T h g = callable order₁ P plannable-met (room₁ P h) moves₁ solves₁ T g 2 refl

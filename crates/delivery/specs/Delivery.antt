@@ -4,7 +4,7 @@
 --
 --     Call                      what came of a call: its answer, or that it was not reached
 --     Answers                   what came of the three calls, side by side
---     planLength k              the length in bytes of a plan of k moves
+--     planLength k              the length in bytes of a plan of k moves, in edition two
 --     planAlone k P             the plan of k moves at the front of the buffer P, alone
 --     timetableAlone T          the timetable at the front of the buffer T, alone
 --     Called o P T a P′ T′      on the order o and the buffers P and T the three calls may answer a and leave P′ and T′ behind
@@ -16,6 +16,7 @@
 -- Assumes nothing.
 use Prim.Native.Nat.{ℕ, _+_, _*_, _≤_}
 use mathlib.Core.Path.{_≡_}
+use mathlib.Core.Bool.{true}
 use mathlib.Core.List.{List, [], _∷_}
 use lib.ListN.{length, take}
 use Rattle.answers.specs.Answer.{Answer, accepted, refused}
@@ -23,7 +24,7 @@ use Rattle.field.specs.Units.{recordLength}
 use Rattle.field.specs.Writing.{written}
 use Rattle.order.specs.Order.{positionCount, floorOf, startsOf, goalsOf}
 use Rattle.motion.specs.Replay.{ended, replayMoves}
-use Rattle.plan.specs.Plan.{planMoves, planAnswer}
+use Rattle.plan.specs.Plan.{named, planMoves, planAnswer}
 use Rattle.timetable.specs.Timetable.{timetableRecord, timetableAnswer}
 use Rattle.timetable.specs.RecordLength.{wholeTimetableLength}
 use Rattle.timetable.specs.Checking.{answerOfCheck}
@@ -45,9 +46,9 @@ pub record Answers : Type 0 where
   pub maker : Call
   pub checker : Call
 
--- "Plan: move count k in 22 bits, two spare zero bits, k moves, pad."
+-- "Plan: move count k in 22 bits, two spare … bits, k moves, pad." Request (h): "The planner writes edition two", with 18 bits to a move.
 unfoldable pub planLength : ℕ → ℕ
-planLength k = recordLength (2 * k)
+planLength k = recordLength (3 * k)
 
 unfoldable pub planAlone : ℕ → List ℕ → List ℕ
 planAlone k P = take (planLength k) P
@@ -93,16 +94,18 @@ pub record Delivered (o P T : List ℕ) (a : Answers) (P′ T′ : List ℕ) : T
   pub few : moves ≤ 8 * (positionCount o * (positionCount o * positionCount o))
   pub long : length plan ≡ planLength moves
   pub stands : P′ ≡ written P 0 plan
+  pub edition-two : named plan ≡ true
   pub replayed : replayMoves (floorOf o) (startsOf o) (planMoves plan) ≡ ended (goalsOf o)
   pub accepts : planAnswer o plan ≡ accepted (moves ∷ [])
   pub then : 3 * moves + 3 ≤ length T → TimetableMade o plan moves T (a .maker) (a .checker) T′
 
 -- "For every well-formed order on a bi-connected floor of n positions, n from 4 to 64, that is not a single ring and has at least two
--- vacant positions, given a plan buffer of at least 12 × n × n × n + 3 bytes, whatever it held before". Request (d): "The never-fails
--- result takes in these rings", n from 3 on: `Plannable` is the sum of the two kinds.
+-- vacant positions, given a plan buffer of at least" 18 × n × n × n + 3 "bytes, whatever it held before". Request (h): "the plan buffer
+-- named in demand 3 is this one". Request (d): "The never-fails result takes in these rings", n from 3 on: `Plannable` is the sum of the
+-- two kinds.
 abbrev pub Delivers : List ℕ → List ℕ → List ℕ → Answers → List ℕ → List ℕ → Type 0
 Delivers o P T a P′ T′ =
-    let n = positionCount o in Plannable o → 12 * (n * (n * n)) + 3 ≤ length P → Delivered o P T a P′ T′
+    let n = positionCount o in Plannable o → 18 * (n * (n * n)) + 3 ≤ length P → Delivered o P T a P′ T′
 
 abbrev pub callOfMaker : MakerCall → Call
 callOfMaker NotReached = notReached

@@ -41,7 +41,7 @@ pub fn deliver(order: &[u8], plan: &mut [u8], timetable: &mut [u8]) -> Delivery
             check: CheckCall::NotReached,
         };
     };
-    let plan_end = 3 + (6 * (2 * moves) + 7) / 8;
+    let plan_end = 3 + (6 * (3 * moves) + 7) / 8;
     let made = scheduling::make(order, &plan[..plan_end], timetable);
     let MakerVerdict::Accepted(steps) = made else {
         return Delivery {

@@ -1,4 +1,5 @@
 pub mod Sextets
+pub mod Triples
 pub mod BitLaws
 pub mod FrontLaws
 pub mod HeadLaws
@@ -7,3 +8,4 @@ pub mod RecordLaws
 pub mod UnitLaws
 pub mod WholeBytes
 pub mod WritingLaws
+pub mod ListedLaws

@@ -11,7 +11,8 @@
 --     put-0, -1, -2, -3   a position written at each of its four places
 --     put-pair-is         a pair is written as its two positions
 --     put-behind          a position written behind packed ones packs one more, and what stands behind the record stays
---     putPositions, put-all    positions written one after another at the front are their packed bytes, and the rest stays
+--     put-behind-all      positions written one after another behind packed ones
+--     put-all             positions written one after another at the front are their packed bytes, and the rest stays
 -- Assumes nothing.
 use Prim.Native.Nat.{ℕ, zero, suc, _+_, _-_, _*_, _/_, _%_, _^_, _≤_, _<_}
 use mathlib.Core.Path.{_≡_, refl, sym, ap, ap₂, subst, _∙_}
@@ -32,7 +33,7 @@ use Rattle.field.proofs.RecordLaws.{toBytes-from, positionBits-are, len
 use Rattle.field.proofs.UnitLaws.{pad-after-head}
 use Rattle.field.specs.Writing.{written}
 use Rattle.field.proofs.WritingLaws.{written-front}
-use Rattle.field.specs.Packing.{packPositions, pack, putPosition, putPair}
+use Rattle.field.specs.Packing.{packPositions, pack, putPosition, putPair, putPositions}
 
 -- the bits of two numbers, the second below 2 ^ w, written one after the other
 pub bits-append : (v w x y : ℕ) → y < 2 ^ w → bits (v + w) (x * 2 ^ w + y) ≡ bits v x ++ bits w y
@@ -295,11 +296,6 @@ put-behind (a ∷ b ∷ c ∷ d ∷ ms) rest p h =
 size-grows : (q n : ℕ) → size q ≤ size (q + n)
 size-grows q n = omega arith
 
--- the positions ps written one after another, the first of them after q positions
-unfoldable pub putPositions : List ℕ → ℕ → List ℕ → List ℕ
-putPositions l q [] = l
-putPositions l q (p ∷ ps) = putPositions (putPosition l q p) (q + 1) ps
-
 put-more : (ps ms rest : List ℕ) (q : ℕ) → q ≡ length ms → size (q + length ps) - size q ≤ length rest
     → putPositions (packPositions ms ++ rest) q ps ≡ packPositions (ms ++ ps) ++ drop (size (q + length ps) - size q) rest
 unfolding putPositions
@@ -326,3 +322,19 @@ unfolding packPositions
 put-all s ps h =
     let whole : (6 * (0 + length ps) + 7) / 8 - 0 ≡ length (packPositions ps) = omega (arith, length-packed ps) in
     put-more ps [] s 0 refl (omega arith) ∙ rw whole refl ∙ sym (written-front s (packPositions ps))
+
+-- the same behind the packed positions ms
+pub put-behind-all : (ms ps s : List ℕ) (q : ℕ) → q ≡ length ms → size (length (ms ++ ps)) ≤ length s
+    → putPositions (written s 0 (packPositions ms)) q ps ≡ written s 0 (packPositions (ms ++ ps))
+put-behind-all ms ps s q e h =
+    let both : length (ms ++ ps) ≡ q + length ps = length-append ms ps ∙ ap (λ (n : ℕ). n + length ps) (sym e) in
+    let old : length (packPositions ms) ≡ size q = length-packed ms ∙ ap size (sym e) in
+    let new : length (packPositions (ms ++ ps)) ≡ size (q + length ps) = length-packed (ms ++ ps) ∙ ap size both in
+    let low = size-grows q (length ps) in
+    let room : size (q + length ps) ≤ length s = subst (λ (n : ℕ). size n ≤ length s) both h in
+    let gap = size (q + length ps) - size q in
+    let left : length (drop (size q) s) ≡ length s - size q = length-drop (size q) s in
+    let on : size q + gap ≡ size (q + length ps) = omega arith in
+    rw (written-front s (packPositions ms), old)
+    (put-more ps ms (drop (size q) s) q e (omega arith)
+    ∙ rw (drop-drop gap (size q) s, on, ← new) (sym (written-front s (packPositions (ms ++ ps)))))

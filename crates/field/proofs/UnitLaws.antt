@@ -3,7 +3,8 @@
 --     or-left, or-right                       both tests of a disjunction fail where it fails
 --     misfits-short, misfits-not, fits        the length
 --     Fitting s q, fitting                    what the length's test leaves
---     unclean-spare, unclean-pad, clean       the spare and pad bits
+--     pad-is-clear, pad-read, pad-test        the pad bits
+--     unclean-spare, unclean-is, clean        the spare and pad bits
 --     Clean s q, cleanly                      what that test leaves
 --     pad-of-tail                             the pad, read from the tail, the part from the fourth byte on
 --     tail-units, tail-room                   the positions have room in the tail; they and their pad take all of it
@@ -11,7 +12,7 @@
 -- Assumes nothing.
 use Prim.Native.Nat.{ℕ, _+_, _-_, _*_, _/_, _%_, _≤_, _<_}
 use native.Mathlib.Nat.{mul-add-mod-self-left}
-use mathlib.Core.Path.{_≡_, refl, sym, ap}
+use mathlib.Core.Path.{_≡_, refl, sym, ap, _∙_}
 use mathlib.Core.Bool.{Bool, true, false, not, _||_, or-true}
 use mathlib.Core.List.{List}
 use native.Mathlib.Omega.{arith}
@@ -21,7 +22,7 @@ use lib.Dec.{ltb, eqb}
 use Rattle.field.specs.Bits.{field, pad}
 use Rattle.field.proofs.BitLaws.{field-drop}
 use Rattle.field.proofs.RecordLaws.{up-to-byte, rest-is}
-use Rattle.field.specs.Units.{recordLength, misfits, unclean}
+use Rattle.field.specs.Units.{recordLength, misfits, padSet, unclean}
 
 -- both tests of a disjunction fail where it fails
 pub or-left : (a b : Bool) → (a || b) ≡ false → a ≡ false
@@ -31,6 +32,10 @@ or-left false b e = refl
 pub or-right : (a b : Bool) → (a || b) ≡ false → b ≡ false
 or-right true b e = absurd (let z : _≡_ {A = ℕ} 0 1 = cc in omega arith)
 or-right false b e = e
+
+not-not : (b : Bool) → b ≡ not (not b)
+not-not true = refl
+not-not false = refl
 
 pub record Fitting (s : List ℕ) (q : ℕ) : Type 0 where
   pub head-there : 3 ≤ length s
@@ -63,13 +68,26 @@ module _ (s : List ℕ) (q : ℕ) where
   unfolding unclean
   unclean-spare d = simp (ne-eqb (field s 22 2) 0 d)
 
-  pub unclean-pad : (field s (24 + 6 * q) (pad (6 * q)) ≡ 0 → ⊥) → unclean s q ≡ true
+  pub pad-is-clear : field s (24 + 6 * q) (pad (6 * q)) ≡ 0 → padSet s q ≡ false
+  unfolding padSet
+  pad-is-clear b = simp (eq-eqb (field s (24 + 6 * q) (pad (6 * q))) 0 b)
+
+  pub pad-read : padSet s q ≡ false → field s (24 + 6 * q) (pad (6 * q)) ≡ 0
+  unfolding padSet
+  pad-read e = eqb-true (field s (24 + 6 * q) (pad (6 * q))) 0 (not-false (eqb (field s (24 + 6 * q) (pad (6 * q))) 0) e)
+
+  -- the pad's test, where the pad reads x
+  pub pad-test : (x : ℕ) → x ≡ field s (24 + 6 * q) (pad (6 * q)) → eqb x 0 ≡ not (padSet s q)
+  unfolding padSet
+  pad-test x e = rw e (not-not (eqb (field s (24 + 6 * q) (pad (6 * q))) 0))
+
+  -- where no spare bit is set, the pad decides
+  pub unclean-is : field s 22 2 ≡ 0 → unclean s q ≡ padSet s q
   unfolding unclean
-  unclean-pad d = simp (ne-eqb (field s (24 + 6 * q) (pad (6 * q))) 0 d, or-true)
+  unclean-is a = simp (eq-eqb (field s 22 2) 0 a)
 
   pub clean : field s 22 2 ≡ 0 → field s (24 + 6 * q) (pad (6 * q)) ≡ 0 → unclean s q ≡ false
-  unfolding unclean
-  clean a b = simp (eq-eqb (field s 22 2) 0 a, eq-eqb (field s (24 + 6 * q) (pad (6 * q))) 0 b)
+  clean a b = unclean-is a ∙ pad-is-clear b
 
   -- the pad, read from the tail
   pub pad-of-tail : field (take (length s - 3) (drop 3 s)) (6 * q) (pad (6 * q)) ≡ field s (24 + 6 * q) (pad (6 * q))
@@ -90,10 +108,9 @@ pub cleanly : (s : List ℕ) (q : ℕ) → unclean s q ≡ false → Clean s q
 unfolding unclean
 cleanly s q e =
     let spare = eqb (field s 22 2) 0 in
-    let padding = eqb (field s (24 + 6 * q) (pad (6 * q))) 0 in
     record {
-      spare-clear = eqb-true (field s 22 2) 0 (not-false spare (or-left (not spare) (not padding) e));
-      pad-clear = eqb-true (field s (24 + 6 * q) (pad (6 * q))) 0 (not-false padding (or-right (not spare) (not padding) e));
+      spare-clear = eqb-true (field s 22 2) 0 (not-false spare (or-left (not spare) (padSet s q) e));
+      pad-clear = pad-read s q (or-right (not spare) (padSet s q) e);
     }
 
 -- a head of three bytes changes nothing of the pad

@@ -8,6 +8,7 @@
 --     field s i w       the field of w bits at bit i of s, bits counted from 0
 --     PositionAt s i p  the position at bit i of s is p, which six bits keep below 64
 --     PairAt s i a b    the pair of positions at bit i of s is a and b
+--     TripleAt s i a b c    the three positions at bit i of s are a, b and c
 --     positions s i k   the k positions at bit i of s, one after another
 --     pairs s i k       the k pairs of positions at bit i of s: an edge or a move is such a pair
 --     positionBits l    the positions l as bits
@@ -46,6 +47,14 @@ pub record PairAt (s : List ℕ) (i a b : ℕ) : Type 0 where
   pub second-is : b ≡ field s (i + 6) 6
   pub first-below : a < 64
   pub second-below : b < 64
+
+pub record TripleAt (s : List ℕ) (i a b c : ℕ) : Type 0 where
+  pub first-is : a ≡ field s i 6
+  pub second-is : b ≡ field s (i + 6) 6
+  pub third-is : c ≡ field s (i + 12) 6
+  pub first-below : a < 64
+  pub second-below : b < 64
+  pub third-below : c < 64
 
 unfoldable pub positions : List ℕ → ℕ → ℕ → List ℕ
 positions s i zero = []

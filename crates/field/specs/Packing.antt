@@ -4,6 +4,7 @@
 --     packPositions l     the positions l, packed into bytes
 --     pack l              the pairs l, packed into bytes
 --     putPosition l q p   the byte string l with the position p written after its first q positions, and the pad behind it
+--     putPositions l q ps the same with the positions ps, one after another
 --     putPair l j a b     the byte string l with the pair a, b written after its first j pairs, and the pad behind it
 -- Assumes nothing.
 use Prim.Native.Nat.{ℕ, _+_, _*_, _/_, _%_}
@@ -32,6 +33,10 @@ putPosition l q p =
     (cond (eqb (q % 4) 1) (set (set l at (getD l at 0 / 4 * 4 + p / 16)) (at + 1) (p % 16 * 16))
     (cond (eqb (q % 4) 2) (set (set l (at + 1) (getD l (at + 1) 0 / 16 * 16 + p / 4)) (at + 2) (p % 4 * 64))
     (set l (at + 2) (getD l (at + 2) 0 / 64 * 64 + p))))
+
+unfoldable pub putPositions : List ℕ → ℕ → List ℕ → List ℕ
+putPositions l q [] = l
+putPositions l q (p ∷ ps) = putPositions (putPosition l q p) (q + 1) ps
 
 -- behind an even number of pairs the pair begins a byte; behind an odd one it ends the byte that the pair before it began
 unfoldable pub putPair : List ℕ → ℕ → ℕ → ℕ → List ℕ

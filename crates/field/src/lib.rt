@@ -1,12 +1,14 @@
 // Bit fields of byte strings, most significant bit first: the fields that the records are made of (document 01, "Records").
 // specs/Bits.antt says what a field is; proofs/BitLaws.antt reduces any field to bytes.
 ghost use mathlib.Core.Path.{_≡_};
-ghost use mathlib.Core.Bool.{not, false};
+ghost use mathlib.Core.Bool.{not, true, false};
+ghost use mathlib.Core.List.{[], _∷_};
 ghost use Prim.Native.Nat.{_+_, _*_, _/_, _%_, _^_, _≤_, _<_};
 ghost use lib.ListN.{length};
-ghost use Rattle.field.specs.Bits.{field, pad, PositionAt, PairAt};
-ghost use Rattle.field.specs.Packing.{putPosition, putPair};
-ghost use Rattle.field.specs.Units.{misfits, unclean};
+ghost use Rattle.field.specs.Bits.{field, pad, PositionAt, PairAt, TripleAt};
+ghost use Rattle.field.specs.Packing.{putPosition, putPositions, putPair};
+ghost use Rattle.field.specs.Units.{misfits, padSet, unclean};
+ghost use Rattle.field.specs.Listed.{moveSize, units, RackFits, ListedAt};
 ghost use Rattle.field.specs.Writing.{written};
 ghost use Rattle.field.specs.Head.{headBytes};
 
@@ -60,6 +62,51 @@ pub fn pair_at(s: &[u8], j: usize) -> Pair
     Pair {
         first: x / 64,
         second: x % 64,
+    }
+}
+
+// The three positions that stand j such triples after the first byte, as one number, first * 4096 + second * 64 + third. Four triples take
+// nine bytes, and each stands in three of them. These are read in one way, so that reading triples in no order has no branch to guess.
+pub fn triple_number(s: &[u8], j: usize) -> usize
+    requires { ⌜ 18 * j + 18 ≤ 8 * length (now s) ⌝ }
+    ensures { λ r. ⌜ TripleAt (now (s .entry)) (18 * j) (r / 4096) (r / 64 % 64) (r % 64) ⌝ }
+{
+    let at = 2 * j + j / 4;
+    let x = wide(s[at]) * 65536 + wide(s[at + 1]) * 256 + wide(s[at + 2]);
+    (x >> (6 - j % 4 * 2)) % 262144
+}
+
+// A move as a plan lists it: its two positions as one number, left * 64 + entered, and the rack that it names, 0 where it names none.
+pub struct Listed {
+    pub step: usize,
+    pub rack: usize,
+}
+
+// The move that stands j moves after the first byte, in the edition whose moves name their racks or in the other.
+pub fn listed_at(s: &[u8], named: bool, j: usize) -> Listed
+    requires { ⌜ 6 * (moveSize named * (j + 1)) ≤ 8 * length (now s) ⌝ }
+    ensures { λ r. ⌜ ListedAt named (now (s .entry)) (6 * (moveSize named * j)) (r .step / 64) (r .step % 64) (r .rack) ⌝ }
+{
+    if named {
+        let x = triple_number(s, j);
+        return Listed {
+            step: x / 64,
+            rack: x % 64 + 1,
+        };
+    }
+    let step = pair_number(s, j);
+    Listed { step, rack: 0 }
+}
+
+// The two positions of that move.
+pub fn move_at(s: &[u8], named: bool, j: usize) -> Pair
+    requires { ⌜ 6 * (moveSize named * (j + 1)) ≤ 8 * length (now s) ⌝ }
+    ensures { λ r. ⌜ PairAt (now (s .entry)) (6 * (moveSize named * j)) (r .first) (r .second) ⌝ }
+{
+    let listed = listed_at(s, named, j);
+    Pair {
+        first: listed.step / 64,
+        second: listed.step % 64,
     }
 }
 
@@ -132,6 +179,14 @@ pub fn units_fit(s: &[u8], q: usize) -> bool
     true
 }
 
+// Whether no pad bit of a record of q positions is set.
+pub fn pad_clear(s: &[u8], q: usize) -> bool
+    requires { ⌜ misfits (now s) q ≡ false ⌝ }
+    ensures { λ r. ⌜ r ≡ not (padSet (now (s .entry)) q) ⌝ }
+{
+    pad_after(&s[3..], q) == 0
+}
+
 // Whether no spare or pad bit of a record of q positions is set.
 pub fn units_clean(s: &[u8], q: usize) -> bool
     requires { ⌜ misfits (now s) q ≡ false ⌝ }
@@ -140,10 +195,7 @@ pub fn units_clean(s: &[u8], q: usize) -> bool
     if spare_at_head(s) != 0 {
         return false;
     }
-    if pad_after(&s[3..], q) != 0 {
-        return false;
-    }
-    true
+    pad_clear(s, q)
 }
 
 // Writes the position p after the first q positions of a byte string, and the pad behind it.
@@ -190,12 +242,36 @@ pub fn put_pair(s: &mut [u8], j: usize, a: usize, b: usize)
     s[at + 2] = (a % 4 * 64 + b) as u8;
 }
 
-// Writes the head of a record of `count` moves or steps.
-pub fn put_head(s: &mut [u8], count: usize)
-    requires { ⌜ (3 ≤ length (now s)) × (count < 2 ^ 22) ⌝ }
-    ensures { λ _. ⌜ now (s .exit) ≡ written (now (s .entry)) 0 (headBytes count) ⌝ }
+// Writes the positions a, b and c after the first j such triples of a byte string, and the pad behind them.
+fn put_triple(s: &mut [u8], j: usize, a: usize, b: usize, c: usize)
+    requires { ⌜ (a < 64) × (b < 64) × (c < 64) × ((18 * (j + 1) + 7) / 8 ≤ length (now s)) ⌝ }
+    ensures { λ _. ⌜ now (s .exit) ≡ putPositions (now (s .entry)) (3 * j) (a ∷ b ∷ c ∷ []) ⌝ }
+{
+    put_position(s, 3 * j, a);
+    put_position(s, 3 * j + 1, b);
+    put_position(s, 3 * j + 2, c);
+}
+
+// Writes a move after the first j moves of a byte string, and the pad behind it, in the edition whose moves name their racks or in the
+// other.
+pub fn put_listed(s: &mut [u8], named: bool, j: usize, a: usize, b: usize, rack: usize)
+    requires { ⌜ (a < 64) × (b < 64) × (named ≡ true → RackFits true rack) ⌝ }
+    requires { ⌜ (6 * (moveSize named * (j + 1)) + 7) / 8 ≤ length (now s) ⌝ }
+    ensures { λ _. ⌜ now (s .exit) ≡ putPositions (now (s .entry)) (moveSize named * j) (units named (a, b, rack)) ⌝ }
+{
+    if named {
+        put_triple(s, j, a, b, rack - 1);
+        return;
+    }
+    put_pair(s, j, a, b);
+}
+
+// Writes the head of a record of `count` moves or steps, with its two spare bits.
+pub fn put_head(s: &mut [u8], count: usize, spare: usize)
+    requires { ⌜ (3 ≤ length (now s)) × (count < 2 ^ 22) × (spare < 4) ⌝ }
+    ensures { λ _. ⌜ now (s .exit) ≡ written (now (s .entry)) 0 (headBytes count spare) ⌝ }
 {
     s[0] = (count / 16384) as u8;
     s[1] = (count / 64 % 256) as u8;
-    s[2] = (count % 64 * 4) as u8;
+    s[2] = (count % 64 * 4 + spare) as u8;
 }

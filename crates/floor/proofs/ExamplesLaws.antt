@@ -14,7 +14,7 @@ use mathlib.Core.Logic.{⊎-elim}
 use native.Mathlib.Omega.{arith}
 use Rattle.answers.specs.Answer.{accepted, refused}
 use Rattle.field.specs.Bits.{bitsOf, bits, number, field, pairs, positions, pad}
-use Rattle.field.specs.Units.{recordLength, misfits, unclean}
+use Rattle.field.specs.Units.{recordLength, misfits, padSet, unclean}
 use Rattle.order.specs.Floor.{some, isPair, joined}
 use Rattle.order.specs.Order.{positionCount, edgeCount, rackCount, unitCount, floorOf, startsOf, goalsOf, orderOf, wrongLength}
 use Rattle.order.specs.Order.{wrongPositions, paddingSet, badEdge, precedes, ascending, wrongEdges, repeats, wrongPlaces, wrongRacks}
@@ -54,7 +54,7 @@ pub floors-judged :
     × (floorAnswer mirrored ≡ refused 24 0)
 unfolding floorAnswer biConnected? ring? disordered? roundPlace sameOrder? rack? inTurn? placeIn roundOf follow onward firstFrom stands
     joined some isPair orderAnswer wrongLength misfits recordLength unitCount wrongPositions
-    paddingSet unclean pad wrongEdges badEdge precedes ascending wrongRacks wrongPlaces repeats orderOf floorOf startsOf goalsOf counts
+    paddingSet padSet unclean pad wrongEdges badEdge precedes ascending wrongRacks wrongPlaces repeats orderOf floorOf startsOf goalsOf counts
     positionCount edgeCount rackCount field number bitsOf bits pairs positions
 floors-judged = (refl, refl, refl, refl, refl, refl, refl)
 

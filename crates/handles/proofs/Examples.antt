@@ -27,6 +27,7 @@ use Rattle.breakdown.proofs.Examples.{inRow, starts, lefts, rights, floorF-brea
 use Rattle.shunting.specs.Went.{Move, Went}
 use Rattle.shunting.specs.Went.Went.{stay, real}
 use Rattle.shunting.proofs.WentLaws.{same-refl}
+use Rattle.shunting.proofs.JourneyLaws.{space-room}
 use Rattle.shunting.specs.declared.State.{State}
 use Rattle.shunting.specs.Cleared.{Vacancy}
 use Rattle.shunting.specs.Journey.{row, Room, Space}
@@ -42,16 +43,16 @@ abbrev pub log : List ℕ
 log = replicate 8256 0
 
 abbrev pub tail : List ℕ
-tail = replicate 768 0
+tail = replicate 1152 0
 
 abbrev pub state : List ℕ → State
 state h = record { racks = h; real = 2; written = 0; logged = 0 }
 
 pub space : (h : List ℕ) → length h ≡ 64 → (c : ℕ) → c ≤ 512 → Space (state h) tail c
-space h long c few = let t = length-replicate {A = ℕ} 768 0 in record { racks = long; room = omega arith }
+space h long c few = let t = length-replicate {A = ℕ} 1152 0 in record { racks = long; few-racks = omega arith; room = omega arith }
 
 pub room : (h : List ℕ) → length h ≡ 64 → (c : ℕ) → c ≤ 512 → Room (state h) log tail c
-room h long c few = let s = space h long c few in record { racks = s .racks; log = length-replicate {A = ℕ} 8256 0; room = s .room }
+room h long c few = space-room (length-replicate {A = ℕ} 8256 0) (space h long c few)
 
 pub four-long : (w x y z : ℕ) → length (w ∷ x ∷ y ∷ z ∷ replicate 60 0) ≡ 64
 four-long w x y z = let h = length-replicate {A = ℕ} 60 0 in omega arith
@@ -102,8 +103,8 @@ step-aside = record { edge = refl; held = λ e. omega arith; vacant = refl; ente
 pub aside-table : Table 4 (row aside)
 aside-table = table-went (floorF-rows .inside) stepped start-table
   where
-    stepped : Went (Edge floorF) 2 (row start) ((0, 1) ∷ []) ((0, 1) ∷ []) (row aside)
-    stepped = real step-aside (lit≤ tt) (stay (same-refl (row aside)))
+    stepped : Went (Edge floorF) 2 (row start) ((0, 1) ∷ []) ((0, 1, 1) ∷ []) (row aside)
+    stepped = real step-aside refl (lit≤ tt) (stay (same-refl (row aside)))
 
 pub carry-met :
     Rows 4 floorF

@@ -1,6 +1,5 @@
 -- From what crates/shunting answers for an order's rows and racks to what is shown of a position cleared.
 --
---     held-racks            a table that says where the racks stand has the rack of each position
 --     way-along, distance-along, no-way-along    ways, the distance and none, by the same edges and with the same racks
 --     told-is, told-none    what is told of a distance, and where no vacancy has a way
 --     number-short, number-refused, number-told  the answer: in too short a buffer, of a refused order, and else
@@ -15,10 +14,10 @@ use Prim.Native.Nat.{ℕ, suc, _+_, _-_, _≤_, _<_}
 use mathlib.Core.Path.{_≡_, refl, sym, ap, subst, _∙_}
 use mathlib.Core.Bool.{true, false, false≢true}
 use mathlib.Core.List.{List, [], _∷_, _++_}
-use mathlib.Core.Logic.{_≢_, inl, inr, ⊎-elim, by-cases}
+use mathlib.Core.Logic.{inl, inr, by-cases}
 use native.Mathlib.Decide.{decLt}
 use native.Mathlib.Omega.{arith}
-use borrow.Author.Tests.{lt-ltb, le-ltb, ne-eqb}
+use borrow.Author.Tests.{lt-ltb, le-ltb}
 use lib.Dec.{T}
 use lib.ListN.{length, getD, drop, replicate, length-append, length-drop, length-replicate, List·getD-append, List·getD-eq-default}
 use lib.Seq.{getD-append-add, getD-drop, ext-getD}
@@ -28,8 +27,7 @@ use Rattle.field.proofs.WritingLaws.{written-front}
 use Rattle.order.specs.Floor.{joined}
 use Rattle.order.specs.Order.{floorOf, startsOf, orderAnswer}
 use Rattle.order.specs.Tables.{racksAt, decodedRows, decodedStarts}
-use Rattle.motion.specs.Arrangement.{Arrangement, rackFrom, rackAt}
-use Rattle.motion.proofs.ArrangementLaws.{vacant-racks, occupied-or-vacant, rackAt-finds}
+use Rattle.motion.specs.Arrangement.{Arrangement, rackAt}
 use Rattle.motion.specs.Sound.{Sound}
 use Rattle.motion.proofs.Lawful.{replayMoves-ended}
 use Rattle.tables.specs.Accepted.{OrderGave}
@@ -49,7 +47,7 @@ use Rattle.shunting.proofs.DistanceLaws.{at-most-inside, way-same, distance-sam
 use Rattle.shunting.specs.Cleared.{RoomToClear, Outcome}
 use Rattle.shunting.specs.Cleared.Outcome.{by-nearest, no-way}
 use Rattle.shunting.proofs.ClearLaws.{clear-room}
-use Rattle.solving.proofs.Held.{HeldBy, went-led}
+use Rattle.solving.proofs.Held.{HeldBy, held-racks, went-led}
 use Rattle.planner.proofs.OrderTables.{held-by}
 use Rattle.planner.proofs.MovesLaws.{start-holds}
 use Rattle.inspection.specs.Inspection.{upTo, Copied}
@@ -57,20 +55,6 @@ use Rattle.inspection.specs.NearestDecision.{Found}
 use Rattle.inspection.specs.Clear.{Loose, away, told, clearNumber, ClearLeft}
 use Rattle.inspection.specs.Clear.ClearLeft.{cleared}
 use Rattle.inspection.proofs.CopyLaws.{upTo-used}
-
-rackFrom-none : (r : ℕ) (A : Arrangement) (p : ℕ) → ((i : ℕ) → i < length A → getD A i 0 ≢ p) → rackFrom r A p ≡ 0
-unfolding rackFrom
-rackFrom-none r [] p out = refl
-rackFrom-none r (q ∷ A) p out =
-    rw (ne-eqb q p (out 0 (omega arith))) (rackFrom-none (suc r) A p (λ i l. out (suc i) (omega arith)))
-
-pub held-racks : {A : Arrangement} {f : ℕ → ℕ} → HeldBy A f → (p : ℕ) → f p ≡ rackAt A p
-unfolding rackAt
-held-racks {A} {f} h p =
-    ⊎-elim
-    (λ t. let x = rackAt-finds A p t in ap f (sym (x .2)) ∙ h .racks (x .0) (x .1) ∙ sym (x .3))
-    (λ t. let out = vacant-racks A p .0 t in h .others p out ∙ sym (rackFrom-none 1 A p out))
-    (occupied-or-vacant A p)
 
 module _ {E D : ℕ → ℕ → Type 0} (more : (a b : ℕ) → E a b → D a b) {h k : ℕ → ℕ} (same : Same h k) {P : ℕ → Type 0} {p : ℕ} where
   pub way-along : {d : ℕ} → WayFrom E P h p d → WayFrom D P k p d
@@ -188,12 +172,18 @@ module _ {o : List ℕ} {n e m : ℕ} {g h : List ℕ} (decoded : Decoded o n e 
   abbrev begun : State
   begun = record { racks = h; real = m; written = 0; logged = 0 }
 
-  pub room-right : (held p : ℕ) → RoomToClear (Edge g) (Unheld n held) p begun (replicate 8256 0) (replicate 96 0)
+  pub room-right : (held p : ℕ) → RoomToClear (Edge g) (Unheld n held) p begun (replicate 8256 0) (replicate 144 0)
   room-right held p =
       let small = rows-right .small in
-      let t = length-replicate {A = ℕ} 96 0 in
+      let t = length-replicate {A = ℕ} 144 0 in
       clear-room (at-most-inside n (λ q x. x .inside))
-      (record { racks = holds .size; log = length-replicate {A = ℕ} 8256 0; logged = omega arith; room = omega arith })
+      (record {
+        racks = holds .size;
+        log = length-replicate {A = ℕ} 8256 0;
+        logged = omega arith;
+        few-racks = gave .few-racks;
+        room = omega arith;
+      })
 
   module _ (held p : ℕ) where
     to-loose : (q : ℕ) → Unheld n held q → Loose o held q

@@ -125,7 +125,7 @@ pub extern "C" fn wichteab_inspect_clear(
         logged: 0,
     };
     let mut log = [0u16; shunting::LOG];
-    let mut tail = [0u8; 96];
+    let mut tail = [0u8; 144];
     let clearing = shunting::clear(&rows, counts.positions, held, p, state, &mut log, &mut tail);
     if !clearing.found {
         return 0;

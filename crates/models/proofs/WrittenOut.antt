@@ -11,9 +11,9 @@
 use Prim.Native.Nat.{ℕ, _+_, _-_, _*_, _/_, _≤_, _<_}
 use mathlib.Core.Path.{_≡_, refl, sym, ap, ap₂, subst, _∙_}
 use mathlib.Core.Bool.{false}
-use mathlib.Core.List.{List, [], _∷_, _++_, append-assoc, append-nil}
+use mathlib.Core.List.{List, [], _∷_, _++_, append-assoc}
 use native.Mathlib.Omega.{arith}
-use lib.ListN.{length, take, drop, length-append, length-drop, drop-of-length-le}
+use lib.ListN.{length, take, drop, length-append, length-drop}
 use lib.Seq.{take-add, drop-drop}
 use Rattle.field.specs.Bits.{bits, bitsOf, pairs, positions, pairBits, positionBits}
 use Rattle.field.specs.Bytes.{BelowPairs, none₂, more₂}
@@ -22,7 +22,8 @@ use Rattle.field.specs.Writing.{written}
 use Rattle.field.proofs.BitLaws.{field-lt}
 use Rattle.field.proofs.RecordLaws.{bits-pairs, bits-positions, pairs-drop, pairs-lt, length-pairs, rest-is}
 use Rattle.field.proofs.PackingLaws.{length-pack}
-use Rattle.field.proofs.HeadLaws.{front-written}
+use Rattle.field.proofs.HeadLaws.{record-written}
+use Rattle.field.proofs.WritingLaws.{written-front}
 use Rattle.models.specs.Grid.{rowsOf, columnsOf, unknownModel, gridEdges, grid, modelFloor}
 use Rattle.models.specs.ShortOrder.{modelCode, shortRacks, shortStarts, shortGoals, wrongShort}
 use Rattle.models.specs.Expansion.{fullOrder, expanded}
@@ -130,25 +131,14 @@ module _ (s : List ℕ) where
           pub edges-written : e ≡ length (gridEdges r c)
           edges-written = let n = w .next-is in let l = length-units in omega arith
 
-          behind : take 3 B ++ (t ++ drop (length B - 3) (drop 3 B)) ≡ written B 3 (pack units)
-          unfolding written
-          behind =
-              let nothing : drop (length B - 3) (drop 3 B) ≡ [] =
-              drop-of-length-le (drop 3 B) {i = length B - 3} (rw (length-drop 3 B) (omega arith)) in
-              let after : t ≡ pack units ++ drop (3 + length (pack units)) B =
-              w .bytes-are
-              ∙ put-front (part 3 B) units units-room
-              ∙ ap (λ (x : List ℕ). pack units ++ drop (length (pack units)) x) (rest-is 3 B)
-              ∙ ap (λ (x : List ℕ). pack units ++ x) (drop-drop (length (pack units)) 3 B) in
-              rw (nothing, append-nil t) (ap (λ (x : List ℕ). take 3 B ++ x) after)
-
           pub written-out : (x : List ℕ) → x ≡ written (take 3 B ++ (t ++ drop (length B - 3) (drop 3 B))) 0 (orderHead (r * c) e m)
               → x ≡ written B 0 (expanded s)
           unfolding orderHead
           written-out x is =
               is
-              ∙ ap₂ (λ (b : List ℕ) (k : ℕ). written b 0 (orderHead (r * c) k m)) behind edges-written
-              ∙ front-written B (orderHead (r * c) (length (gridEdges r c)) m) (pack units) refl record-room
+              ∙ ap (λ (k : ℕ). written (take 3 B ++ (t ++ drop (length B - 3) (drop 3 B))) 0 (orderHead (r * c) k m)) edges-written
+              ∙ record-written B (orderHead (r * c) (length (gridEdges r c)) m) (pack units) t refl record-room
+              (w .bytes-are ∙ put-front (part 3 B) units units-room ∙ sym (written-front (part 3 B) (pack units)))
               ∙ ap (written B 0) (sym expanded-is)
 
 -- the writer's own names: x and b are the head's two bytes, and the size is the model's

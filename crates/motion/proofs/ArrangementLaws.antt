@@ -6,6 +6,7 @@
 --     occupied-vacant   no position is both
 --     occupied-or-vacant   each is one of the two
 --     rackAt-finds      the rack that stands at an occupied position
+--     rackAt-none       and none at a vacant one
 -- Assumes nothing.
 use Prim.Native.Nat.{ℕ, zero, suc, _+_, _-_, _<_}
 use mathlib.Core.List.{[], _∷_}
@@ -76,3 +77,12 @@ pub rackAt-finds : (A : Arrangement) (p : ℕ) → T (occupied A p)
     → (r : ℕ) × (r < length A) × (getD A r 0 ≡ p) × (rackAt A p ≡ suc r)
 unfolding rackAt
 rackAt-finds A p o = let w = rackFrom-finds 1 A p o in (w .0, w .1, w .2, omega (arith, w .3))
+
+rackFrom-none : (k : ℕ) (A : Arrangement) (p : ℕ) → ((i : ℕ) → i < length A → getD A i 0 ≢ p) → rackFrom k A p ≡ 0
+unfolding rackFrom
+rackFrom-none k [] p h = refl
+rackFrom-none k (q ∷ A) p h = rw (ne-eqb q p (h 0 (omega arith))) (rackFrom-none (suc k) A p (λ i b. h (suc i) (omega arith)))
+
+pub rackAt-none : (A : Arrangement) (p : ℕ) → T (vacant A p) → rackAt A p ≡ 0
+unfolding rackAt
+rackAt-none A p v = rackFrom-none 1 A p (vacant-racks A p .0 v)

@@ -8,6 +8,7 @@ pub mod JudgementLaws
 pub mod Lawful
 pub mod LegalStepLaws
 pub mod ListLaws
+pub mod ListedLaws
 pub mod MoveLaws
 pub mod PebbleLaws
 pub mod Racks

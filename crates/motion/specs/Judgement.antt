@@ -2,7 +2,7 @@
 -- not at its goal. "33 and 43 are judged only when every move or step was legal."
 --
 --     misplaced r A G          the lowest rack that does not stand at its goal, where A and G begin with rack r; 0 where each does
---     judged l G counts x      the answer for a replay that ended as x: the fault of the first move or step that is not legal, number
+--     judged l G counts x      the answer for a replay that ended as x: the fault of the first move or step that has one, number
 --                              l with the lowest rack not at its goal in G, else accepted with the counts
 -- Assumes nothing.
 use Prim.Native.Nat.{ℕ, suc}

@@ -34,7 +34,8 @@ use Rattle.scheduling.proofs.Made.{plan-scheduled, steps-made}
 use Rattle.optimality.specs.Routes.{changes, route, racksAmong, visitors}
 use Rattle.optimality.proofs.Course.{changed, changed-same, course, course-same, course-still, course-settled, trace-course}
 use Rattle.optimality.proofs.Course.{racks-append, racks-come, racks-go}
-use Rattle.optimality.proofs.Occupants.{rack-is, rack-none, rack-not, others-same, left-rack, entered-rack, left-vacant, left-empty}
+use Rattle.motion.proofs.ArrangementLaws.{rackAt-none}
+use Rattle.optimality.proofs.Occupants.{rack-is, rack-not, others-same, left-rack, entered-rack, left-vacant, left-empty}
 use Rattle.optimality.proofs.Occupants.{entered-empty}
 use Rattle.optimality.proofs.Told.{toldRoute, toldVisits, Turn, timedAs, turn-of, turn-others}
 use Rattle.optimality.proofs.Told.{Read, read-route, read-visits, route-place}
@@ -149,7 +150,7 @@ module _ {F : Floor} {A B : Arrangement} {l : List Timed} {t : Timed} (s : Sched
             rw e
             (settled-grows A (λ C. rackAt C (t .move .1)) racksAmong racks-append w N fits
             (λ i c.
-            rack-none (arranged A l i) (t .move .1) (s .vacated i (t .move .1) legal-free (omega (arith, free-in-time))) ∙ sym empty)
+            rackAt-none (arranged A l i) (t .move .1) (s .vacated i (t .move .1) legal-free (omega (arith, free-in-time))) ∙ sym empty)
             (λ i c. rack-is (F .positions) (arranged A (t ∷ l) i) (t .move .1) (w .index) (more .sound i) (rw (more .racks i)
             (rw (move-length B (t .move)) (w .is))) (arrives i c ∙ moved-rack B (t .move) (w .index) (w .is) (w .at)) ∙ sym here)
             (λ i c.
@@ -172,7 +173,7 @@ module _ {F : Floor} {A B : Arrangement} {l : List Timed} {t : Timed} (s : Sched
             (λ i c. found i (omega arith) ∙ sym here)
             (λ i c.
             let free = left-vacant F B (t .move) (w .legal) (w .sound) in
-            rack-none (arranged A (t ∷ l) i) (t .move .0)
+            rackAt-none (arranged A (t ∷ l) i) (t .move .0)
             (more .vacated i (t .move .0) free (omega (arith, ofLeaving-same t l (t .move .0) refl)))
             ∙ sym empty)
             (λ i c.

@@ -1,7 +1,6 @@
 -- Which rack stands at a position, on a sound arrangement and after a legal move.
 --
 --     rack-is            the rack that stands at p is the one that is found there
---     rack-none          at a vacant position none is found
 --     rack-place         rack q + 1 is found at p exactly if it stands there
 --     rack-not           where it does not stand it is not found
 --     others-same        at a position that a move neither leaves nor enters it changes nothing
@@ -18,23 +17,14 @@ use lib.Dec.{T, eqb}
 use lib.ListN.{length, getD}
 use borrow.Author.Tests.{eq-eqb, ne-eqb}
 use Rattle.order.specs.Floor.{Floor}
-use Rattle.motion.specs.Arrangement.{Arrangement, vacant, rackFrom, rackAt}
-use Rattle.motion.proofs.ArrangementLaws.{occupied-rack, vacant-racks, occupied-or-vacant, rackAt-finds}
+use Rattle.motion.specs.Arrangement.{Arrangement, vacant, rackAt}
+use Rattle.motion.proofs.ArrangementLaws.{occupied-rack, occupied-or-vacant, rackAt-finds, rackAt-none}
 use Rattle.motion.specs.Move.{legalMove, afterMove}
 use Rattle.motion.proofs.MoveLaws.{legal-parts, move-length, moved-rack, moved-other, turned, turned-legal}
 use Rattle.motion.proofs.Untouched.{vacant-move}
 use Rattle.motion.specs.Sound.{Sound}
 use Rattle.motion.proofs.SoundLaws.{move-sound}
 use Rattle.motion.proofs.Test.{equal?}
-
-rackFrom-none : (k : ℕ) (A : Arrangement) (p : ℕ) → ((i : ℕ) → i < length A → getD A i 0 ≢ p) → rackFrom k A p ≡ 0
-unfolding rackFrom
-rackFrom-none k [] p h = refl
-rackFrom-none k (q ∷ A) p h = rw (ne-eqb q p (h 0 (omega arith))) (rackFrom-none (suc k) A p (λ i b. h (suc i) (omega arith)))
-
-pub rack-none : (A : Arrangement) (p : ℕ) → T (vacant A p) → rackAt A p ≡ 0
-unfolding rackAt
-rack-none A p v = rackFrom-none 1 A p (vacant-racks A p .0 v)
 
 pub rack-is : (n : ℕ) (A : Arrangement) (p r : ℕ) → Sound n A → r < length A → getD A r 0 ≡ p → rackAt A p ≡ suc r
 rack-is n A p r s h e =
@@ -45,7 +35,7 @@ pub rack-not : (A : Arrangement) (p q : ℕ) → getD A q 0 ≢ p → rackAt A p
 rack-not A p q e f =
     ⊎-elim
     (λ o. let w = rackAt-finds A p o in e (ap (λ (i : ℕ). getD A i 0) (omega (arith, w .3)) ∙ w .2))
-    (λ v. omega (arith, rack-none A p v))
+    (λ v. omega (arith, rackAt-none A p v))
     (occupied-or-vacant A p)
 
 pub rack-place : (n : ℕ) (A : Arrangement) (p q : ℕ) → Sound n A → q < length A → eqb (rackAt A p) (suc q) ≡ eqb (getD A q 0) p
@@ -63,19 +53,19 @@ others-same n A m s p a b =
     let w = rackAt-finds A p o in
     let there : getD (afterMove A m) (w .0) 0 ≡ p = moved-other A m (w .0) (w .1) (λ e. a (sym (w .2) ∙ e)) ∙ w .2 in
     rack-is n (afterMove A m) p (w .0) s (rw move-length (w .1)) there ∙ sym (w .3))
-    (λ v. rack-none (afterMove A m) p (vacant-move A m p v (λ e. b (sym e))) ∙ sym (rack-none A p v))
+    (λ v. rackAt-none (afterMove A m) p (vacant-move A m p v (λ e. b (sym e))) ∙ sym (rackAt-none A p v))
     (occupied-or-vacant A p)
 
 module _ (F : Floor) (A : Arrangement) (m : ℕ × ℕ) (legal : T (legalMove F A m)) (sound : Sound (F .positions) A) where
   pub entered-empty : rackAt A (m .1) ≡ 0
-  entered-empty = rack-none A (m .1) (legal-parts F A m .0 legal .2)
+  entered-empty = rackAt-none A (m .1) (legal-parts F A m .0 legal .2)
 
   pub left-vacant : T (vacant (afterMove A m) (m .0))
   unfolding turned
   left-vacant = legal-parts F (afterMove A m) (turned m) .0 (turned-legal F A m legal) .2
 
   pub left-empty : rackAt (afterMove A m) (m .0) ≡ 0
-  left-empty = rack-none (afterMove A m) (m .0) left-vacant
+  left-empty = rackAt-none (afterMove A m) (m .0) left-vacant
 
   module _ (r : ℕ) (is : r < length A) (at : getD A r 0 ≡ m .0) where
     pub left-rack : rackAt A (m .0) ≡ suc r

@@ -40,7 +40,8 @@ use Rattle.scheduling.specs.Making.{timed, greatest, madeSteps}
 use Rattle.scheduling.specs.Maker.{madeOf, makerAnswer}
 use Rattle.scheduling.proofs.Timing.{history, history-greatest}
 use Rattle.scheduling.proofs.Made.{made}
-use Rattle.scheduling.proofs.MakerLaws.{plan-gave, MakerGave, maker-gave, made-of, made-packable, timetabled}
+use Rattle.plan.proofs.Accepted.{plan-gave}
+use Rattle.scheduling.proofs.MakerLaws.{MakerGave, maker-gave, made-of, made-packable, timetabled}
 use Rattle.optimality.specs.Routes.{racksAmong, visitors, Keeps, LegalInTurn, no-more, one-more}
 use Rattle.optimality.specs.Shortest.{Shortest, KeepsRecord, ShortestRecord}
 use Rattle.optimality.proofs.Course.{calls, trace-course}

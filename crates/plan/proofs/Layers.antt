@@ -1,6 +1,6 @@
 -- The plan checker's layers: the order reader, the record reader, and the judgement on tables.
 --
---     judgement o p     32 to 35 or acceptance, on arrangements
+--     judgement o p     32 to 36 or acceptance, on arrangements
 --     plan-is           the table of document 01 as these layers
 --     RecordGave, record-gave  what an accepted record tells
 --     plan-room         the moves have room in the plan's tail
@@ -15,23 +15,25 @@ use native.Mathlib.Omega.{arith}
 use lib.ListN.{length, take, drop}
 use Rattle.answers.specs.Answer.{Answer, accepted, refused, refuse, passUp}
 use Rattle.answers.proofs.AnswerLaws.{refuse-not, refuse-else}
-use Rattle.field.specs.Bits.{field, pairs}
+use Rattle.field.specs.Bits.{field}
+use Rattle.field.specs.Listed.{moveSize, listedMoves, ListedFit}
+use Rattle.field.proofs.ListedLaws.{listed-drop, listed-fit}
 use Rattle.field.proofs.BitLaws.{field-lt}
 use Rattle.field.proofs.UnitLaws.{Fitting, fitting, tail-units}
-use Rattle.field.proofs.RecordLaws.{rest-is, pairs-drop, pairs-lt}
+use Rattle.field.proofs.RecordLaws.{rest-is}
 use Rattle.order.specs.Order.{floorOf, startsOf, goalsOf, orderAnswer}
 use Rattle.order.proofs.TailLaws.{tail-edges, tail-starts, tail-goals}
-use Rattle.motion.specs.Replay.{replayMoves}
+use Rattle.motion.specs.Replay.{replayListed}
 use Rattle.motion.specs.Judgement.{judged}
 use Rattle.tables.specs.Accepted.{OrderGave}
 use Rattle.tables.proofs.Layers.{order-refused, record-refused, all-accepted}
 use Rattle.tables.proofs.MovesOnLaws.{matrixOf, tableOf, moves-judged}
-use Rattle.plan.specs.Plan.{moveCount, planMoves, wrongPlanLength, planPaddingSet, planAnswer}
+use Rattle.plan.specs.Plan.{named, moveCount, planListed, planUnits, wrongPlanLength, planPaddingSet, planAnswer}
 use Rattle.plan.specs.Readers.{recordAnswer, tableAnswer}
 
--- 32 to 35 and acceptance
+-- 32 to 36 and acceptance
 abbrev pub judgement : List ℕ → List ℕ → Answer
-judgement o p = judged 33 (goalsOf o) (moveCount p ∷ []) (replayMoves (floorOf o) (startsOf o) (planMoves p))
+judgement o p = judged 33 (goalsOf o) (moveCount p ∷ []) (replayListed (floorOf o) (startsOf o) (planListed p))
 
 pub plan-is : (o p : List ℕ) → planAnswer o p ≡ passUp (orderAnswer o) (passUp (recordAnswer p) (judgement o p))
 unfolding planAnswer recordAnswer
@@ -47,7 +49,7 @@ plan-is o p = chain (wrongPlanLength p) (planPaddingSet p)
 pub record RecordGave (p : List ℕ) (k : ℕ) : Type 0 where
   pub length-right : wrongPlanLength p ≡ false
   pub padding-clear : planPaddingSet p ≡ false
-  pub fit : Fitting p (2 * moveCount p)
+  pub fit : Fitting p (planUnits p)
   pub count-is : k ≡ moveCount p
   pub count-below : k < 2 ^ 22
 
@@ -63,40 +65,43 @@ record-gave p k a =
     record {
       length-right = l;
       padding-clear = refuse-not (planPaddingSet p) 31 0 (accepted (field p 0 22 ∷ [])) (k ∷ []) e₁;
-      fit = fitting p (2 * field p 0 22) l;
+      fit = fitting p (planUnits p) l;
       count-is = count;
       count-below = omega (arith, field-lt p 0 22);
     }
 
 module _ (o : List ℕ) (n e m : ℕ) (gave : OrderGave o n e m) (p : List ℕ) (k : ℕ) (record-is : RecordGave p k) where
-  pub plan-room : 12 * k ≤ 8 * length (take (length p - 3) (drop 3 p))
-  plan-room = omega (arith, tail-units p (2 * moveCount p) (record-is .fit), record-is .count-is)
+  pub plan-room : (e : Bool) → e ≡ named p → 6 * (moveSize e * k) ≤ 8 * length (take (length p - 3) (drop 3 p))
+  unfolding planUnits
+  plan-room e is = rw (is, record-is .count-is) (tail-units p (planUnits p) (record-is .fit))
 
-  moves-are : pairs (take (length p - 3) (drop 3 p)) 0 k ≡ planMoves p
-  unfolding planMoves
-  moves-are = rw (rest-is 3 p, ← pairs-drop p 3 0 k, record-is .count-is) refl
+  moves-are : (e : Bool) → e ≡ named p → listedMoves e (take (length p - 3) (drop 3 p)) 0 k ≡ planListed p
+  unfolding planListed
+  moves-are e is = rw (rest-is 3 p, ← listed-drop e p 3 0 k, record-is .count-is, is) refl
 
   -- the order and the plan behind their heads
   abbrev rest : List ℕ → List ℕ
   rest l = take (length l - 3) (drop 3 l)
 
-  pub judgement-is : tableAnswer (rest o) e m (rest p) k ≡ judgement o p
-  unfolding tableAnswer planMoves
-  judgement-is =
-      let w = gave .placed-well in
-      let edges = tail-edges o e m (gave .edges-are) (gave .racks-are) in
-      let starts = tail-starts o e m (gave .edges-are) (gave .racks-are) in
-      let goals = tail-goals o e m (gave .edges-are) (gave .racks-are) in
-      rw (edges, starts, goals, moves-are, record-is .count-is)
-      (unfold matrixOf tableOf in
-      moves-judged (floorOf o) (w .few-positions) (w .edges-below) (w .edges-right) (startsOf o) (w .starts-sound)
-      (pairs-lt p 24 (moveCount p)) 33 (goalsOf o) (moveCount p ∷ []) (w .goals-length ∙ sym (w .starts-length)))
+  module _ (named-is : Bool) (edition : named-is ≡ named p) where
+    pub judgement-is : tableAnswer (rest o) e m (rest p) named-is k ≡ judgement o p
+    unfolding tableAnswer
+    judgement-is =
+        let w = gave .placed-well in
+        let edges = tail-edges o e m (gave .edges-are) (gave .racks-are) in
+        let starts = tail-starts o e m (gave .edges-are) (gave .racks-are) in
+        let goals = tail-goals o e m (gave .edges-are) (gave .racks-are) in
+        let fits : ListedFit (named p) (planListed p) = unfold planListed in listed-fit (named p) p 24 (moveCount p) in
+        rw (edges, starts, goals, moves-are named-is edition, record-is .count-is)
+        (unfold matrixOf tableOf in
+        moves-judged (floorOf o) (w .few-positions) (w .edges-below) (w .edges-right) (startsOf o) (w .starts-sound)
+        fits 33 (goalsOf o) (moveCount p ∷ []) (w .goals-length ∙ sym (w .starts-length)))
 
-  pub answer-is : accepted (n ∷ e ∷ m ∷ []) ≡ orderAnswer o → accepted (k ∷ []) ≡ recordAnswer p
-      → tableAnswer (rest o) e m (rest p) k ≡ planAnswer o p
-  answer-is a b =
-      judgement-is
-      ∙ all-accepted (planAnswer o p) (orderAnswer o) (recordAnswer p) (judgement o p) (plan-is o p) (n ∷ e ∷ m ∷ []) a (k ∷ []) b
+    pub answer-is : accepted (n ∷ e ∷ m ∷ []) ≡ orderAnswer o → accepted (k ∷ []) ≡ recordAnswer p
+        → tableAnswer (rest o) e m (rest p) named-is k ≡ planAnswer o p
+    answer-is a b =
+        judgement-is
+        ∙ all-accepted (planAnswer o p) (orderAnswer o) (recordAnswer p) (judgement o p) (plan-is o p) (n ∷ e ∷ m ∷ []) a (k ∷ []) b
 
 -- a refusal below is the answer above
 pub order-turned-down : (o p : List ℕ) (below r : Answer) (number place : ℕ) → below ≡ orderAnswer o → below ≡ refused number place

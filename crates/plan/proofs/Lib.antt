@@ -1,4 +1,6 @@
+pub mod Listing
 pub mod Record
+pub mod MoveTests
 pub mod Turns
 pub mod Judging
 pub mod Layers
@@ -9,3 +11,5 @@ pub mod SizeLaws
 pub mod Replayed
 pub mod SolutionsLaws
 pub mod Stopped
+pub mod Accepted
+pub mod EditionOne

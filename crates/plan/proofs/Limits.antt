@@ -2,11 +2,12 @@
 -- at all is a solution when each start is its goal."
 --
 --     LeadingPlan o p v, accepted-leads    a plan is accepted exactly if 10 to 14, 30 and 31 pass, and its moves, each legal at its turn,
---                                          lead from the starts to the goals
+--                                          lead from the starts to the goals and name the racks that replay tells, if any
 --     EmptyPlan o p v    p lists no move, v counts none, and each start is its goal
 --     full-floor         on a full floor a plan is accepted exactly if it is empty and each start is its goal
 --     no-racks           so it is where there is no rack
---     no-moves, nothing  and of a plan without moves on any floor: 00 00 00 is accepted exactly if each start is its goal
+--     no-moves, nothing, nothing-named    and of a plan without moves on any floor: 00 00 00, and 00 00 01 in the other edition, is
+--                                          accepted exactly if each start is its goal
 -- Assumes nothing.
 use Prim.Native.Nat.{ℕ}
 use mathlib.Core.Bool.{false}
@@ -17,15 +18,17 @@ use native.Mathlib.Omega.{arith}
 use lib.ListN.{length}
 use Rattle.answers.specs.Answer.{accepted}
 use Rattle.field.specs.Bits.{bits, number, bitsOf, field, pad}
-use Rattle.field.specs.Units.{recordLength, misfits, unclean}
+use Rattle.field.specs.Units.{recordLength, misfits, padSet}
+use Rattle.field.specs.Listed.{moveSize, movesOf}
 use Rattle.order.specs.Order.{rackCount, floorOf, startsOf, goalsOf, WellFormed}
 use Rattle.motion.specs.Arrangement.{Arrangement}
+use Rattle.motion.specs.Replay.{listed}
 use Rattle.motion.proofs.Lawful.{Leads, still, lawful-none, replayMoves-ended}
 use Rattle.motion.proofs.PebbleLaws.{pebble-replay}
 use Rattle.motion.proofs.SoundLaws.{full-leads, no-racks-leads}
 use Rattle.tables.proofs.AcceptedLaws.{well-placed}
-use Rattle.plan.specs.Plan.{moveCount, planMoves, wrongPlanLength, planPaddingSet, planAnswer}
-use Rattle.plan.proofs.PlanRecord.{moves-counted}
+use Rattle.plan.specs.Plan.{named, moveCount, planListed, planMoves, planUnits, wrongPlanLength, planPaddingSet, planAnswer}
+use Rattle.plan.proofs.PlanRecord.{listed-counted, moves-counted}
 use Rattle.plan.proofs.Replayed.{plan-replayed}
 
 module _ (o p v : List ℕ) where
@@ -35,6 +38,7 @@ module _ (o p v : List ℕ) where
     pub padding-clear : planPaddingSet p ≡ false
     pub counted : moveCount p ∷ [] ≡ v
     pub leads : Leads (floorOf o) (startsOf o) (planMoves p) (goalsOf o)
+    pub racks-told : planListed p ≡ listed (named p) (startsOf o) (planMoves p)
 
   pub record EmptyPlan : Type 0 where
     pub length-right : wrongPlanLength p ≡ false
@@ -55,6 +59,7 @@ module _ (o p v : List ℕ) where
           padding-clear = t .padding-clear;
           counted = t .counted;
           leads = replayMoves-ended (floorOf o) (startsOf o) (planMoves p) (goalsOf o) .0 (solved .1 (rw moves-counted (t .solution)));
+          racks-told = t .racks-told;
         }),
     (λ t.
         let solved =
@@ -67,15 +72,20 @@ module _ (o p v : List ℕ) where
           counted = t .counted;
           solution = rw moves-counted at
               (solved .0 (replayMoves-ended (floorOf o) (startsOf o) (planMoves p) (goalsOf o) .1 (t .leads)));
+          racks-told = t .racks-told;
         })),
   )
 
-  moves-none : moveCount p ≡ 0 → planMoves p ≡ []
-  moves-none e = by (planMoves p) (moves-counted p ∙ e)
+  listed-none : moveCount p ≡ 0 → planListed p ≡ []
+  listed-none e = by (planListed p) (listed-counted p ∙ e)
     where
-      by : (ms : List (ℕ × ℕ)) → length ms ≡ 0 → ms ≡ []
+      by : (l : List (ℕ × ℕ × ℕ)) → length l ≡ 0 → l ≡ []
       by [] h = refl
-      by (m ∷ ms) h = absurd (omega arith)
+      by (w ∷ l) h = absurd (omega arith)
+
+  moves-none : moveCount p ≡ 0 → planMoves p ≡ []
+  unfolding planMoves movesOf
+  moves-none e = rw (listed-none e) refl
 
   -- where only the empty list can lead from the starts to the goals
   still-plans : WellFormed o → (Leads (floorOf o) (startsOf o) (planMoves p) (goalsOf o) → planMoves p ≡ [])
@@ -101,6 +111,7 @@ module _ (o p v : List ℕ) where
           padding-clear = t .padding-clear;
           counted = ap (λ (k : ℕ). k ∷ []) (t .empty) ∙ t .none-counted;
           leads = rw (moves-none (t .empty)) here;
+          racks-told = rw (listed-none (t .empty), moves-none (t .empty)) (unfold listed in refl);
         })),
   )
 
@@ -123,16 +134,26 @@ module _ (o p v : List ℕ) where
   pub no-moves : WellFormed o → moveCount p ≡ 0 → (planAnswer o p ≡ accepted v) ↔ EmptyPlan
   no-moves w empty = still-plans w (λ l. moves-none empty)
 
--- the plan without moves
+-- the plan without moves, in both editions
 nothing-empty : (o : List ℕ) → startsOf o ≡ goalsOf o → EmptyPlan o (0x00 ∷ 0x00 ∷ 0x00 ∷ []) (0 ∷ [])
-unfolding wrongPlanLength planPaddingSet moveCount misfits recordLength unclean pad field number bitsOf bits
+unfolding wrongPlanLength planPaddingSet planUnits moveSize named moveCount misfits recordLength padSet pad field number bitsOf bits
 nothing-empty o e = record { length-right = refl; padding-clear = refl; empty = refl; none-counted = refl; settled = e }
 
-nothing-counted : moveCount (0x00 ∷ 0x00 ∷ 0x00 ∷ []) ≡ 0
-unfolding moveCount field number bitsOf bits
-nothing-counted = refl
+named-empty : (o : List ℕ) → startsOf o ≡ goalsOf o → EmptyPlan o (0x00 ∷ 0x00 ∷ 0x01 ∷ []) (0 ∷ [])
+unfolding wrongPlanLength planPaddingSet planUnits moveSize named moveCount misfits recordLength padSet pad field number bitsOf bits
+named-empty o e = record { length-right = refl; padding-clear = refl; empty = refl; none-counted = refl; settled = e }
+
+-- either of them, by its third byte
+nothing-by : (x : ℕ) → moveCount (0x00 ∷ 0x00 ∷ x ∷ []) ≡ 0
+    → ((o : List ℕ) → startsOf o ≡ goalsOf o → EmptyPlan o (0x00 ∷ 0x00 ∷ x ∷ []) (0 ∷ [])) → (o : List ℕ) → WellFormed o
+    → (planAnswer o (0x00 ∷ 0x00 ∷ x ∷ []) ≡ accepted (0 ∷ [])) ↔ (startsOf o ≡ goalsOf o)
+nothing-by x counted empty o w =
+    let by = no-moves o (0x00 ∷ 0x00 ∷ x ∷ []) (0 ∷ []) w counted in
+    (λ a. by .0 a .settled, λ e. by .1 (empty o e))
 
 pub nothing : (o : List ℕ) → WellFormed o → (planAnswer o (0x00 ∷ 0x00 ∷ 0x00 ∷ []) ≡ accepted (0 ∷ [])) ↔ (startsOf o ≡ goalsOf o)
-nothing o w =
-    let by = no-moves o (0x00 ∷ 0x00 ∷ 0x00 ∷ []) (0 ∷ []) w nothing-counted in
-    (λ a. by .0 a .settled, λ e. by .1 (nothing-empty o e))
+nothing = nothing-by 0x00 (unfold moveCount field number bitsOf bits in refl) nothing-empty
+
+pub nothing-named : (o : List ℕ) → WellFormed o
+    → (planAnswer o (0x00 ∷ 0x00 ∷ 0x01 ∷ []) ≡ accepted (0 ∷ [])) ↔ (startsOf o ≡ goalsOf o)
+nothing-named = nothing-by 0x01 (unfold moveCount field number bitsOf bits in refl) named-empty

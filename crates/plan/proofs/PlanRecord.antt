@@ -1,142 +1,211 @@
--- Writing and reading a plan record are inverse (document 01, "Records").
+-- Writing and reading a plan record are inverse in each edition (document 01, "Records"; request (h)).
 --
 --     moves-counted         a byte string lists as many moves as its count says
 --     length-planBits       how many bits the moves take
---     length-record         how many bytes the record takes
---     Written ms, written   of fewer than 2^22 moves of positions below 64: the record is bytes, 30 and 31 pass it, its count is how many
---                           moves there are, and reading it gives them back
+--     length-bytes, length-record    how many bytes the record takes
+--     Written named l, written   of fewer than 2^22 listed moves that fit an edition's fields: the record is bytes, is of this edition, 30
+--                           and 31 pass it, its count is how many moves there are, and reading it gives them back
 --     record-parts          the record is its head, and behind it the moves, packed
---     record-read           a byte string that 30 and 31 pass is the record of the moves that it lists
+--     record-read           a byte string that 30 and 31 pass is the record of the moves as it lists them
 -- Assumes nothing.
-use Prim.Native.Nat.{ℕ, _+_, _*_, _^_, _<_}
+use Prim.Native.Nat.{ℕ, zero, suc, _+_, _*_, _^_, _≤_, _<_}
 use mathlib.Core.Path.{_≡_, refl, sym, ap, ap₂, _∙_}
-use mathlib.Core.Bool.{false}
+use mathlib.Core.Bool.{Bool, true, false}
 use mathlib.Core.List.{List, [], _++_, append-assoc, append-nil}
 use native.Mathlib.Omega.{arith}
+use borrow.Author.Tests.{le-ltb, ltb-false}
+use lib.Dec.{ltb, eqb}
 use lib.ListN.{length, replicate, length-append}
 use lib.Seq.{take-all}
 use lib.Pow.{pow-pos}
-use Rattle.field.specs.Bits.{bits, bitsOf, field, pairBits, pad, padded}
+use Rattle.field.specs.Bits.{bits, bitsOf, field, positions, positionBits, pad, padded}
 use Rattle.field.proofs.BitLaws.{Bits, below-append, bits-are, bits-field, length-bits, length-bitsOf, field-at}
-use Rattle.field.specs.Bytes.{Bytes, BelowPairs}
-use Rattle.field.proofs.RecordLaws.{length-pairs, length-pairBits, pairBits-are, bits-pairs, pairs-at, bits-zero, zeros-at, join}
+use Rattle.field.specs.Bytes.{Bytes}
+use Rattle.field.specs.Listed.{moveSize, movesOf, allUnits, ListedFit}
+use Rattle.field.proofs.ListedLaws.{length-listed, length-movesOf, length-units, units-below, units-listed, listed-from}
+use Rattle.field.proofs.RecordLaws.{length-positionBits, positionBits-are, bits-positions, positions-at, bits-zero, zeros-at, join}
 use Rattle.field.proofs.RecordLaws.{padded-by, up-to-byte, length-toBytes, toBytes-are, bitsOf-toBytes, toBytes-from}
 use Rattle.field.proofs.HeadLaws.{headBits, headBits-are, length-headBits, head-bytes}
 use Rattle.field.specs.Head.{headBytes}
 use Rattle.field.proofs.WholeBytes.{toBytes-append}
-use Rattle.field.specs.Packing.{pack}
-use Rattle.field.proofs.PackingLaws.{pack-is}
-use Rattle.field.specs.Units.{recordLength}
-use Rattle.field.proofs.UnitLaws.{Fitting, fitting, fits, Clean, cleanly, clean, pad-after-head}
-use Rattle.plan.specs.Plan.{planBits, planRecord, moveCount, planMoves, wrongPlanLength, planPaddingSet}
+use Rattle.field.specs.Packing.{packPositions}
+use Rattle.field.proofs.PackingLaws.{packed-is}
+use Rattle.field.specs.Units.{recordLength, padSet}
+use Rattle.field.proofs.UnitLaws.{Fitting, fitting, fits, or-left, or-right, pad-is-clear, pad-read, pad-after-head}
+use Rattle.motion.specs.Arrangement.{Arrangement}
+use Rattle.motion.specs.Replay.{listed}
+use Rattle.plan.specs.Plan.{spareBits, planBits, planBytes, planRecord}
+use Rattle.plan.specs.Plan.{named, moveCount, planListed, planMoves, planUnits, wrongPlanLength, planPaddingSet}
+use Rattle.plan.proofs.Listing.{length-listing}
+
+pub listed-counted : (p : List ℕ) → length (planListed p) ≡ moveCount p
+unfolding planListed
+listed-counted p = length-listed (named p) p 24 (moveCount p)
 
 pub moves-counted : (p : List ℕ) → length (planMoves p) ≡ moveCount p
 unfolding planMoves
-moves-counted p = length-pairs p 24 (moveCount p)
+moves-counted p = length-movesOf (planListed p) ∙ listed-counted p
 
-pub length-planBits : (ms : List (ℕ × ℕ)) → length (planBits ms) ≡ 24 + 12 * length ms
-unfolding planBits
-length-planBits ms = simp (length-append, length-bits, length-pairBits)
+spare-below : (e : Bool) → spareBits e ≤ 1
+unfolding spareBits
+spare-below false = omega arith
+spare-below true = omega arith
 
-pub length-record : (ms : List (ℕ × ℕ)) → length (planRecord ms) ≡ recordLength (2 * length ms)
-unfolding planRecord recordLength
-length-record ms = length-toBytes (planBits ms) ∙ rw (length-planBits ms) (omega arith)
+spare-told : (e : Bool) → eqb (spareBits e) 1 ≡ e
+unfolding spareBits
+spare-told false = refl
+spare-told true = refl
 
-planBits-are : (ms : List (ℕ × ℕ)) → Bits (planBits ms)
-unfolding planBits
-planBits-are ms = below-append (below-append (bits-are 22 (length ms)) (bits-are 2 0)) (pairBits-are ms)
+-- the spare bits x that 31 passes are those of the edition that they tell
+spare-of : (x : ℕ) → x ≤ 1 → spareBits (eqb x 1) ≡ x
+unfolding spareBits
+spare-of zero h = refl
+spare-of (suc zero) h = refl
+spare-of (suc (suc x)) h = absurd (omega arith)
 
-planBits-padded : (ms : List (ℕ × ℕ)) → padded (planBits ms) ≡ planBits ms ++ replicate (pad (12 * length ms)) 0
-unfolding padded
-planBits-padded ms = padded-by (planBits ms) (pad (12 * length ms)) (ap pad (length-planBits ms) ∙ pad-after-head (12 * length ms))
-
--- a move is two positions
-twelve : (k : ℕ) → 6 * (2 * k) ≡ 12 * k
-twelve k = omega arith
-
-pub record Written (ms : List (ℕ × ℕ)) : Type 0 where
-  pub are-bytes : Bytes (planRecord ms)
-  pub length-right : wrongPlanLength (planRecord ms) ≡ false
-  pub padding-clear : planPaddingSet (planRecord ms) ≡ false
-  pub count-is : moveCount (planRecord ms) ≡ length ms
-  pub moves-are : planMoves (planRecord ms) ≡ ms
-
-module _ (ms : List (ℕ × ℕ)) (few : length ms < 2 ^ 22) (small : BelowPairs 64 ms) where
-  -- the record's bits, parted before the count, the spare bits, the moves and the pad
-  at-count : bitsOf (planRecord ms) ≡ bits 22 (length ms) ++ (bits 2 0 ++ (pairBits ms ++ replicate (pad (12 * length ms)) 0))
-  unfolding planRecord planBits
-  at-count = bitsOf-toBytes (planBits-are ms) ∙ planBits-padded ms ∙ simp append-assoc
-
-  at-moves : bitsOf (planRecord ms) ≡ (bits 22 (length ms) ++ bits 2 0) ++ (pairBits ms ++ replicate (pad (12 * length ms)) 0)
-  at-moves = at-count ∙ sym (append-assoc (bits 22 (length ms)) (bits 2 0) (pairBits ms ++ replicate (pad (12 * length ms)) 0))
-
-  at-pad : bitsOf (planRecord ms) ≡ planBits ms ++ (bits (pad (12 * length ms)) 0 ++ [])
+module _ (e : Bool) (l : List (ℕ × ℕ × ℕ)) where
+  pub length-planBits : length (planBits e l) ≡ 24 + 6 * (moveSize e * length l)
   unfolding planBits
-  at-pad =
-      at-moves
-      ∙ sym (append-assoc (bits 22 (length ms) ++ bits 2 0) (pairBits ms) (replicate (pad (12 * length ms)) 0))
-      ∙ rw (append-nil (bits (pad (12 * length ms)) 0), bits-zero (pad (12 * length ms))) refl
+  length-planBits = simp (length-append, length-bits, length-positionBits, length-units)
 
-  count : field (planRecord ms) 0 22 ≡ length ms
-  count = field-at (planRecord ms) [] (bits 2 0 ++ (pairBits ms ++ replicate (pad (12 * length ms)) 0)) 0 22 (length ms) at-count refl few
+  pub length-bytes : length (planBytes e l) ≡ recordLength (moveSize e * length l)
+  unfolding planBytes recordLength
+  length-bytes = length-toBytes (planBits e l) ∙ rw length-planBits (omega arith)
 
-  spare : field (planRecord ms) 22 2 ≡ 0
-  spare =
-      field-at (planRecord ms) (bits 22 (length ms)) (pairBits ms ++ replicate (pad (12 * length ms)) 0) 22 2 0 at-count
-      (length-bits 22 (length ms)) (omega arith)
+  planBits-are : Bits (planBits e l)
+  unfolding planBits
+  planBits-are = below-append (below-append (bits-are 22 (length l)) (bits-are 2 (spareBits e))) (positionBits-are (allUnits e l))
 
-  padding : field (planRecord ms) (24 + 12 * length ms) (pad (12 * length ms)) ≡ 0
-  padding =
-      field-at (planRecord ms) (planBits ms) [] (24 + 12 * length ms) (pad (12 * length ms)) 0 at-pad (length-planBits ms)
-      (pow-pos (pad (12 * length ms)))
+  planBits-padded : padded (planBits e l) ≡ planBits e l ++ replicate (pad (6 * (moveSize e * length l))) 0
+  unfolding padded
+  planBits-padded =
+      padded-by (planBits e l) (pad (6 * (moveSize e * length l)))
+      (ap pad length-planBits ∙ pad-after-head (6 * (moveSize e * length l)))
 
-  head-length : length (bits 22 (length ms) ++ bits 2 0) ≡ 24
-  head-length = length-append (bits 22 (length ms)) (bits 2 0) ∙ ap₂ _+_ (length-bits 22 (length ms)) (length-bits 2 0)
+  pub record Written : Type 0 where
+    pub are-bytes : Bytes (planBytes e l)
+    pub edition-is : named (planBytes e l) ≡ e
+    pub length-right : wrongPlanLength (planBytes e l) ≡ false
+    pub padding-clear : planPaddingSet (planBytes e l) ≡ false
+    pub count-is : moveCount (planBytes e l) ≡ length l
+    pub listed-are : planListed (planBytes e l) ≡ l
 
-  pub record-parts : planRecord ms ≡ headBytes (length ms) ++ pack ms
-  unfolding planRecord planBits headBits
-  record-parts =
-      toBytes-append 3 (headBits-are (length ms)) (length-headBits (length ms)) (pairBits-are ms)
-      ∙ ap₂ _++_ (head-bytes (length ms) few) (sym (pack-is small))
+  module _ (few : length l < 2 ^ 22) (small : ListedFit e l) where
+    zeros : List ℕ
+    zeros = replicate (pad (6 * (moveSize e * length l))) 0
 
-  pub written : Written ms
-  unfolding moveCount planMoves wrongPlanLength planPaddingSet recordLength
-  written =
-      let length-is = length-record ms in
-      record {
-        are-bytes = unfold planRecord in toBytes-are (planBits-are ms);
-        length-right = rw count (fits (planRecord ms) (2 * length ms) (rw length-is (omega arith)) length-is);
-        padding-clear = rw count (clean (planRecord ms) (2 * length ms) spare (rw (twelve (length ms)) padding));
-        count-is = count;
-        moves-are = rw count
-            (pairs-at (planRecord ms) (bits 22 (length ms) ++ bits 2 0) ms (replicate (pad (12 * length ms)) 0) 24 at-moves head-length
-            small);
-      }
+    -- the record's bits, parted before the count, the spare bits, the moves and the pad
+    at-count : bitsOf (planBytes e l) ≡ bits 22 (length l) ++ (bits 2 (spareBits e) ++ (positionBits (allUnits e l) ++ zeros))
+    unfolding planBytes planBits zeros
+    at-count = bitsOf-toBytes planBits-are ∙ planBits-padded ∙ simp append-assoc
+
+    at-moves : bitsOf (planBytes e l) ≡ (bits 22 (length l) ++ bits 2 (spareBits e)) ++ (positionBits (allUnits e l) ++ zeros)
+    at-moves = at-count ∙ sym (append-assoc (bits 22 (length l)) (bits 2 (spareBits e)) (positionBits (allUnits e l) ++ zeros))
+
+    at-pad : bitsOf (planBytes e l) ≡ planBits e l ++ (bits (pad (6 * (moveSize e * length l))) 0 ++ [])
+    unfolding planBits zeros
+    at-pad =
+        let width = pad (6 * (moveSize e * length l)) in
+        at-moves
+        ∙ sym (append-assoc (bits 22 (length l) ++ bits 2 (spareBits e)) (positionBits (allUnits e l)) (replicate width 0))
+        ∙ rw (append-nil (bits width 0), bits-zero width) refl
+
+    count : field (planBytes e l) 0 22 ≡ length l
+    count =
+        field-at (planBytes e l) [] (bits 2 (spareBits e) ++ (positionBits (allUnits e l) ++ zeros)) 0 22 (length l) at-count refl few
+
+    spare : field (planBytes e l) 22 2 ≡ spareBits e
+    spare =
+        field-at (planBytes e l) (bits 22 (length l)) (positionBits (allUnits e l) ++ zeros) 22 2 (spareBits e) at-count
+        (length-bits 22 (length l)) (omega (arith, spare-below e))
+
+    padding : field (planBytes e l) (24 + 6 * (moveSize e * length l)) (pad (6 * (moveSize e * length l))) ≡ 0
+    padding =
+        let q = 6 * (moveSize e * length l) in
+        field-at (planBytes e l) (planBits e l) [] (24 + q) (pad q) 0 at-pad length-planBits (pow-pos (pad q))
+
+    head-length : length (bits 22 (length l) ++ bits 2 (spareBits e)) ≡ 24
+    head-length =
+        length-append (bits 22 (length l)) (bits 2 (spareBits e))
+        ∙ ap₂ _+_ (length-bits 22 (length l)) (length-bits 2 (spareBits e))
+
+    pub record-parts : planBytes e l ≡ headBytes (length l) (spareBits e) ++ packPositions (allUnits e l)
+    unfolding planBytes planBits headBits
+    record-parts =
+        toBytes-append 3 (headBits-are (length l) (spareBits e)) (length-headBits (length l) (spareBits e))
+        (positionBits-are (allUnits e l))
+        ∙ ap₂ _++_ (head-bytes (length l) (spareBits e) few (omega (arith, spare-below e))) (sym (packed-is (units-below e small)))
+
+    edition : named (planBytes e l) ≡ e
+    unfolding named
+    edition = rw spare (spare-told e)
+
+    units-are : planUnits (planBytes e l) ≡ moveSize e * length l
+    unfolding planUnits moveCount
+    units-are = rw (edition, count) refl
+
+    pub written : Written
+    unfolding moveCount wrongPlanLength planPaddingSet
+    written = record {
+      are-bytes = unfold planBytes in toBytes-are planBits-are;
+      edition-is = edition;
+      length-right = rw units-are
+          (fits (planBytes e l) (moveSize e * length l) (rw length-bytes (unfold recordLength in omega arith))
+          (length-bytes ∙ (unfold recordLength in refl)));
+      padding-clear = rw (units-are, spare, le-ltb 1 (spareBits e) (spare-below e))
+          (pad-is-clear (planBytes e l) (moveSize e * length l) padding);
+      count-is = count;
+      listed-are = unfold planListed moveCount in rw (edition, count)
+          (listed-from e (planBytes e l) 24 small
+          (rw (← length-units e l)
+          (positions-at (planBytes e l) (bits 22 (length l) ++ bits 2 (spareBits e)) (allUnits e l) zeros 24 at-moves head-length
+          (units-below e small))));
+    }
+
+pub length-record : (e : Bool) (A : Arrangement) (ms : List (ℕ × ℕ)) → length (planRecord e A ms) ≡ recordLength (moveSize e * length ms)
+unfolding planRecord
+length-record e A ms = length-bytes e (listed e A ms) ∙ ap (λ (k : ℕ). recordLength (moveSize e * k)) (length-listing e A ms)
 
 module _ (p : List ℕ) (b : Bytes p) (l : wrongPlanLength p ≡ false) (c : planPaddingSet p ≡ false) where
-  room : 24 + 12 * moveCount p + pad (12 * moveCount p) ≡ 8 * length p
+  room : 24 + 6 * planUnits p + pad (6 * planUnits p) ≡ 8 * length p
   unfolding wrongPlanLength
-  room = let f : Fitting p (2 * moveCount p) = fitting p (2 * moveCount p) l in omega (arith, up-to-byte (12 * moveCount p))
+  room = let f : Fitting p (planUnits p) = fitting p (planUnits p) l in omega (arith, up-to-byte (6 * planUnits p))
 
-  clear : Clean p (2 * moveCount p)
+  spare-low : field p 22 2 ≤ 1
   unfolding planPaddingSet
-  clear = cleanly p (2 * moveCount p) c
+  spare-low = ltb-false 1 (field p 22 2) (or-left (ltb 1 (field p 22 2)) (padSet p (planUnits p)) c)
 
-  read-bits : bits 22 (moveCount p) ++ bits 2 0 ++ pairBits (planMoves p) ++ replicate (pad (12 * moveCount p)) 0 ≡ bitsOf p
-  unfolding planMoves moveCount
+  pub spare-is : spareBits (named p) ≡ field p 22 2
+  unfolding named
+  spare-is = spare-of (field p 22 2) spare-low
+
+  pad-clear : field p (24 + 6 * planUnits p) (pad (6 * planUnits p)) ≡ 0
+  unfolding planPaddingSet
+  pad-clear = pad-read p (planUnits p) (or-right (ltb 1 (field p 22 2)) (padSet p (planUnits p)) c)
+
+  units-are-read : allUnits (named p) (planListed p) ≡ positions p 24 (planUnits p)
+  unfolding planListed planUnits
+  units-are-read = units-listed (named p) p 24 (moveCount p)
+
+  read-bits : bits 22 (moveCount p) ++ bits 2 (spareBits (named p)) ++ positionBits (allUnits (named p) (planListed p))
+      ++ replicate (pad (6 * planUnits p)) 0
+      ≡ bitsOf p
+  unfolding moveCount
   read-bits =
-      let k = field p 0 22 in
-      let all : 24 + 12 * k + pad (12 * k) ≡ 8 * length p = room in
-      join p (24 + 12 * k) (pad (12 * k))
-      (join p 24 (12 * k)
-      (join p 22 2 (bits-field p 0 22 (omega arith)) (ap (bits 2) (sym (clear .spare-clear)) ∙ bits-field p 22 2 (omega arith)))
-      (bits-pairs p 24 k (omega arith)))
-      (zeros-at p (24 + 12 * k) (pad (12 * k)) (omega arith) (rw (twelve k) at (clear .pad-clear)))
-      ∙ take-all (24 + 12 * k + pad (12 * k)) (bitsOf p) (rw length-bitsOf (omega arith))
+      let q = 6 * planUnits p in
+      let all : 24 + q + pad q ≡ 8 * length p = room in
+      join p (24 + q) (pad q)
+      (join p 24 q
+      (join p 22 2 (bits-field p 0 22 (omega arith)) (ap (bits 2) spare-is ∙ bits-field p 22 2 (omega arith)))
+      (ap positionBits units-are-read ∙ bits-positions p 24 (planUnits p) (omega arith)))
+      (zeros-at p (24 + q) (pad q) (omega arith) pad-clear)
+      ∙ take-all (24 + q + pad q) (bitsOf p) (rw length-bitsOf (omega arith))
 
-  pub record-read : planRecord (planMoves p) ≡ p
-  unfolding planRecord
-  record-read = sym (toBytes-from b (planBits-are (planMoves p)) (sym all))
+  pub record-read : planBytes (named p) (planListed p) ≡ p
+  unfolding planBytes
+  record-read = sym (toBytes-from b (planBits-are (named p) (planListed p)) (sym all))
     where
-      all : padded (planBits (planMoves p)) ≡ bitsOf p
-      all = planBits-padded (planMoves p) ∙ (unfold planBits in rw (moves-counted p) read-bits)
+      all : padded (planBits (named p) (planListed p)) ≡ bitsOf p
+      all =
+          planBits-padded (named p) (planListed p)
+          ∙ (unfold planBits in rw (listed-counted p) (unfold planUnits in read-bits))

@@ -1,35 +1,36 @@
--- The record reader's answer, from the facts that its tests leave.
+-- The record reader's answer, from the facts that its tests leave: k is the count, and q how many fields the moves have.
 --
---     short, wrong-length, padding, sound     the answer at each return
---     count-fits, fitted                      what its calls ask
+--     short, wrong-length, wrong-spare, padding, sound     the answer at each return
+--     fitted                                               what its calls ask
 -- Assumes nothing.
-use Prim.Native.Nat.{ℕ, _*_, _^_, _<_}
+use Prim.Native.Nat.{ℕ, _*_, _≤_, _<_}
 use mathlib.Core.Path.{_≡_, refl, sym, ap, _∙_}
-use mathlib.Core.Bool.{Bool, true, false, not}
+use mathlib.Core.Bool.{Bool, true, false, not, or-true}
 use mathlib.Core.List.{List, [], _∷_}
-use borrow.Author.Tests.{not-true, not-false}
+use borrow.Author.Tests.{not-true, not-false, lt-ltb, le-ltb}
 use native.Mathlib.Omega.{arith}
 use lib.ListN.{length}
 use Rattle.answers.specs.Answer.{accepted, refused}
 use Rattle.field.specs.Bits.{field}
-use Rattle.field.proofs.BitLaws.{field-lt}
-use Rattle.field.specs.Units.{misfits, unclean}
+use Rattle.field.specs.Listed.{moveSize}
+use Rattle.field.specs.Units.{misfits, padSet}
 use Rattle.field.proofs.UnitLaws.{misfits-short}
-use Rattle.plan.specs.Plan.{moveCount, wrongPlanLength, planPaddingSet}
+use Rattle.plan.specs.Plan.{named, moveCount, planUnits, wrongPlanLength, planPaddingSet}
 use Rattle.plan.specs.Readers.{recordAnswer}
 
 pub short : (p : List ℕ) → length p < 3 → refused 30 0 ≡ recordAnswer p
 unfolding recordAnswer wrongPlanLength
-short p h = simp (misfits-short p (2 * moveCount p) h)
+short p h = simp (misfits-short p (planUnits p) h)
 
-module _ (p : List ℕ) (k : ℕ) (count : k ≡ field p 0 22) where
-  pub count-fits : 2 * k < 2 ^ 32
-  count-fits = omega (arith, field-lt p 0 22)
+module _ (p : List ℕ) (k : ℕ) (count : k ≡ field p 0 22) (e : Bool) (edition : e ≡ named p) (q : ℕ) (units : q ≡ moveSize e * k) where
+  units-are : q ≡ planUnits p
+  unfolding planUnits moveCount
+  units-are = units ∙ rw (edition, count) refl
 
-  module _ (f : Bool) (t : f ≡ not (misfits p (2 * k))) where
+  module _ (f : Bool) (t : f ≡ not (misfits p q)) where
     length-test : f ≡ not (wrongPlanLength p)
-    unfolding wrongPlanLength moveCount
-    length-test = t ∙ ap (λ (u : ℕ). not (misfits p (2 * u))) count
+    unfolding wrongPlanLength
+    length-test = t ∙ ap (λ (u : ℕ). not (misfits p u)) units-are
 
     pub wrong-length : f ≡ false → refused 30 0 ≡ recordAnswer p
     unfolding recordAnswer
@@ -39,18 +40,28 @@ module _ (p : List ℕ) (k : ℕ) (count : k ≡ field p 0 22) where
       right-length : wrongPlanLength p ≡ false
       right-length = not-true (wrongPlanLength p) (sym length-test ∙ o)
 
-      pub fitted : misfits p (2 * k) ≡ false
-      fitted = not-true (misfits p (2 * k)) (sym t ∙ o)
+      pub fitted : misfits p q ≡ false
+      fitted = not-true (misfits p q) (sym t ∙ o)
 
-      module _ (g : Bool) (u : g ≡ not (unclean p (2 * k))) where
-        clean-test : g ≡ not (planPaddingSet p)
-        unfolding planPaddingSet moveCount
-        clean-test = u ∙ ap (λ (n : ℕ). not (unclean p (2 * n))) count
+      module _ (x : ℕ) (spare : x ≡ field p 22 2) where
+        pub wrong-spare : 1 < x → refused 31 0 ≡ recordAnswer p
+        unfolding recordAnswer planPaddingSet
+        wrong-spare h = simp (right-length, lt-ltb 1 (field p 22 2) (rw (← spare) h))
 
-        pub padding : g ≡ false → refused 31 0 ≡ recordAnswer p
-        unfolding recordAnswer
-        padding z = simp (right-length, not-false (planPaddingSet p) (sym clean-test ∙ z))
+        module _ (low : x ≤ 1) (g : Bool) (u : g ≡ not (padSet p q)) where
+          padding-is : planPaddingSet p ≡ not g
+          unfolding planPaddingSet
+          padding-is =
+              rw (le-ltb 1 (field p 22 2) (rw (← spare) low), u, ← units-are) (sym (not-not (padSet p q)))
+            where
+              not-not : (b : Bool) → not (not b) ≡ b
+              not-not true = refl
+              not-not false = refl
 
-        pub sound : g ≡ true → accepted (k ∷ []) ≡ recordAnswer p
-        unfolding recordAnswer moveCount
-        sound z = simp (right-length, not-true (planPaddingSet p) (sym clean-test ∙ z)) (ap (λ (n : ℕ). accepted (n ∷ [])) count)
+          pub padding : g ≡ false → refused 31 0 ≡ recordAnswer p
+          unfolding recordAnswer
+          padding z = simp (right-length, padding-is, z)
+
+          pub sound : g ≡ true → accepted (k ∷ []) ≡ recordAnswer p
+          unfolding recordAnswer moveCount
+          sound z = simp (right-length, padding-is, z) (ap (λ (n : ℕ). accepted (n ∷ [])) count)

@@ -2,18 +2,21 @@
 --
 --     moves-small    the moves of an accepted plan are fewer than 2 ^ 22
 --     most-moves     8 × n × n × n moves are at most 2,097,152 where n is at most 64: the count field holds them
---     most-bytes     a plan of so many moves takes 12 × n × n × n + 3 bytes, just what 23 asks for
+--     most-bytes     a plan of so many moves that name their racks takes 18 × n × n × n + 3 bytes, just what 23 asks for
 --     record-full, record-fits    so its record has that length, and that of fewer moves no more
 -- Assumes nothing.
 use Prim.Native.Nat.{ℕ, _+_, _*_, _^_, _≤_, _<_}
 use mathlib.Core.Path.{_≡_, sym, ap, _∙_, subst}
+use mathlib.Core.Bool.{true}
 use mathlib.Core.List.{List, [], _∷_, head-eq-of-cons-eq}
 use native.Mathlib.Nat.{mul-le-mul-right}
 use native.Mathlib.Omega.{arith}
 use lib.ListN.{length}
 use Rattle.answers.specs.Answer.{accepted}
 use Rattle.field.proofs.BitLaws.{field-lt}
+use Rattle.field.specs.Listed.{moveSize}
 use Rattle.field.specs.Units.{recordLength}
+use Rattle.motion.specs.Arrangement.{Arrangement}
 use Rattle.plan.specs.Plan.{planRecord, moveCount, planAnswer}
 use Rattle.plan.proofs.PlanRecord.{length-record}
 use Rattle.plan.proofs.Replayed.{ReplayedPlan, plan-replayed}
@@ -31,14 +34,18 @@ module _ (n : ℕ) where
       let cube : n * (n * n) ≤ 64 * (n * n) = mul-le-mul-right (n * n) few in
       (omega arith, omega arith)
 
-  pub most-bytes : recordLength (2 * (8 * (n * (n * n)))) ≡ 12 * (n * (n * n)) + 3
+  pub most-bytes : recordLength (3 * (8 * (n * (n * n)))) ≡ 18 * (n * (n * n)) + 3
   unfolding recordLength
   most-bytes = omega arith
 
-  module _ (ms : List (ℕ × ℕ)) where
-    pub record-full : length ms ≡ 8 * (n * (n * n)) → length (planRecord ms) ≡ 12 * (n * (n * n)) + 3
-    record-full e = length-record ms ∙ ap (λ (k : ℕ). recordLength (2 * k)) e ∙ most-bytes
+  module _ (A : Arrangement) (ms : List (ℕ × ℕ)) where
+    length-named : length (planRecord true A ms) ≡ recordLength (3 * length ms)
+    unfolding moveSize
+    length-named = length-record true A ms
 
-    pub record-fits : length ms ≤ 8 * (n * (n * n)) → length (planRecord ms) ≤ 12 * (n * (n * n)) + 3
+    pub record-full : length ms ≡ 8 * (n * (n * n)) → length (planRecord true A ms) ≡ 18 * (n * (n * n)) + 3
+    record-full e = length-named ∙ ap (λ (k : ℕ). recordLength (3 * k)) e ∙ most-bytes
+
+    pub record-fits : length ms ≤ 8 * (n * (n * n)) → length (planRecord true A ms) ≤ 18 * (n * (n * n)) + 3
     unfolding recordLength
-    record-fits few = omega (arith, length-record ms)
+    record-fits few = omega (arith, length-named)

@@ -1,7 +1,8 @@
 -- Laws of what specs/Solutions.antt defines.
 --
 --     replay-moves         the moves of an accepted plan are those between the arrangements of its replay
---     plan-solutions       demand 2 for plans: a byte string is accepted exactly if it is the record of a solution's moves
+--     plan-solutions       demand 2 for plans: a byte string is accepted exactly if it is the record of a solution's moves in
+--                          one of the editions
 -- Assumes nothing.
 use Prim.Native.Nat.{ℕ}
 use mathlib.Core.List.{List, [], _∷_}
@@ -13,13 +14,13 @@ use Rattle.field.proofs.BitLaws.{field-lt}
 use Rattle.order.specs.Order.{rackCount, floorOf, startsOf, goalsOf, WellFormed}
 use Rattle.motion.specs.Arrangement.{Arrangement}
 use Rattle.motion.specs.Move.{afterMove}
-use Rattle.motion.specs.Replay.{ended, replayMoves, trace}
+use Rattle.motion.specs.Replay.{ended, replayMoves, listed, trace}
 use Rattle.motion.specs.StepSolutions.{movesBetween}
 use Rattle.motion.proofs.Lawful.{replayMoves-ended}
 use Rattle.motion.proofs.PebbleLaws.{pebble-replay}
 use Rattle.motion.proofs.BetweenLaws.{moves-between}
 use Rattle.tables.proofs.AcceptedLaws.{well-placed}
-use Rattle.plan.specs.Plan.{planRecord, moveCount, planMoves, planAnswer}
+use Rattle.plan.specs.Plan.{planBytes, planRecord, named, moveCount, planMoves, planAnswer}
 use Rattle.plan.specs.Solutions.{AcceptedPlan}
 use Rattle.plan.proofs.PlanRecord.{moves-counted, record-read}
 use Rattle.plan.proofs.Replayed.{ReplayedPlan, arrangements, the-moves, accepted-record, plan-replayed}
@@ -40,19 +41,23 @@ solution-of o p v bytes t =
       few = field-lt p 0 22;
       arrangements = arrangements o p;
       solution = t .solution;
+      edition = named p;
       is = sym (record-read p bytes (t .length-right) (t .padding-clear))
-          ∙ ap planRecord (sym (replay-moves o (planMoves p) w (solved .1 (rw moves-counted (t .solution)))));
+          ∙ (unfold planRecord in
+          ap (planBytes (named p))
+          (t .racks-told
+          ∙ ap (listed (named p) (startsOf o)) (sym (replay-moves o (planMoves p) w (solved .1 (rw moves-counted (t .solution)))))));
       counted = sym (t .counted);
     }
 
 accepted-from : (o p v : List ℕ) → AcceptedPlan o p v → planAnswer o p ≡ accepted v
 accepted-from o p v t =
     let w = t .order-right in
-    let of = the-moves o w (t .moves) (t .arrangements) (t .few) (t .solution) in
-    let listed : movesBetween (t .arrangements) ≡ of .moves =
+    let of = the-moves (t .edition) o w (t .moves) (t .arrangements) (t .few) (t .solution) in
+    let moves-are : movesBetween (t .arrangements) ≡ of .moves =
     ap movesBetween (sym (of .traced)) ∙ replay-moves o (of .moves) w (of .accepted) in
-    ap (planAnswer o) (t .is ∙ ap planRecord listed)
-    ∙ accepted-record o w (t .moves) (t .arrangements) (t .few) (t .solution)
+    ap (planAnswer o) (t .is ∙ ap (planRecord (t .edition) (startsOf o)) moves-are)
+    ∙ accepted-record (t .edition) o w (t .moves) (t .arrangements) (t .few) (t .solution)
     ∙ ap accepted (sym (t .counted))
 
 pub plan-solutions : (o p v : List ℕ) → Bytes p → (planAnswer o p ≡ accepted v) ↔ AcceptedPlan o p v

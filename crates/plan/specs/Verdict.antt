@@ -1,7 +1,7 @@
 -- The plan checker's verdicts as document 01's numbers and answers.
 --
 --     answerOf v    the number and place of a refusal, the count of moves of an accepted plan
---     faultOf v     the number of a move that is not legal, 0 where it is
+--     faultOf v     the number of a move that is not legal or names another rack, 0 for none
 -- Assumes nothing.
 use Prim.Native.Nat.{ℕ}
 use mathlib.Core.List.{[], _∷_}

@@ -1,19 +1,21 @@
-// The plan checker: a plan is judged for an order by 10 to 14 and 30 to 35. specs/Plan.antt says what a plan record is and what each
-// number means; `check` is the entry point.
+// The plan checker: a plan of either edition is judged for an order by 10 to 14 and 30 to 36. specs/Plan.antt says what a plan record is
+// and what each number means; `check` is the entry point.
 use answers::Fault;
 use order::OrderVerdict;
 use tables::Replay;
 ghost use mathlib.Core.Path.{_≡_};
+ghost use mathlib.Core.Bool.{cond};
 ghost use mathlib.Core.List.{[], _∷_};
 ghost use Prim.Native.Nat.{_+_, _*_, _^_, _≤_, _<_};
 ghost use lib.ListN.{length};
 ghost use Rattle.answers.specs.Answer.{accepted, PassedUp};
-ghost use Rattle.field.specs.Bits.{pairs};
+ghost use Rattle.field.specs.Listed.{moveSize, listedMoves};
+ghost use Rattle.motion.specs.Move.{misnamed};
 ghost use Rattle.order.specs.Verdict.{answerOf as orderAnswerOf};
-ghost use Rattle.tables.specs.Tables.{entriesFault};
+ghost use Rattle.tables.specs.Tables.{listedEntries};
 ghost use Rattle.tables.specs.MovesOn.{replayOn};
 ghost use Rattle.tables.specs.Ending.{endOf};
-ghost use Rattle.plan.specs.Plan.{planAnswer};
+ghost use Rattle.plan.specs.Plan.{spareBits, named, planAnswer};
 ghost use Rattle.plan.specs.Readers.{recordAnswer, tableAnswer};
 ghost use Rattle.plan.specs.Verdict.{answerOf, faultOf};
 
@@ -33,6 +35,35 @@ fn passed_up(order: OrderVerdict) -> PlanVerdict
     }
 }
 
+// Do a plan's moves name their racks? The spare bits tell the edition.
+pub fn names_racks(plan: &[u8]) -> bool
+    requires { ⌜ 3 ≤ length (now plan) ⌝ }
+    ensures { λ r. ⌜ r ≡ named (now (plan .entry)) ⌝ }
+{
+    field::spare_at_head(plan) == 1
+}
+
+// How many fields of 6 bits k moves have: three each where they name their racks, else two.
+pub fn units(named: bool, k: usize) -> usize
+    requires { ⌜ k < 2 ^ 22 ⌝ }
+    ensures { λ r. ⌜ (r ≡ moveSize named * k) × (r < 2 ^ 32) ⌝ }
+{
+    if named {
+        return 3 * k;
+    }
+    2 * k
+}
+
+// The spare bits of the edition whose moves name their racks, or of the other.
+pub fn spare_bits(named: bool) -> usize
+    ensures { λ r. ⌜ (r ≡ spareBits named) × (r < 4) ⌝ }
+{
+    if named {
+        return 1;
+    }
+    0
+}
+
 // 30 and 31.
 fn read_record(plan: &[u8]) -> PlanVerdict
     ensures { λ r. ⌜ answerOf r ≡ recordAnswer (now (plan .entry)) ⌝ }
@@ -41,26 +72,41 @@ fn read_record(plan: &[u8]) -> PlanVerdict
         return PlanVerdict::Refused(Fault::PlanLength, 0);
     }
     let k = field::count_at_head(plan);
-    if !field::units_fit(plan, 2 * k) {
+    let q = units(names_racks(plan), k);
+    if !field::units_fit(plan, q) {
         return PlanVerdict::Refused(Fault::PlanLength, 0);
     }
-    if !field::units_clean(plan, 2 * k) {
+    if field::spare_at_head(plan) > 1 {
+        return PlanVerdict::Refused(Fault::PlanPadding, 0);
+    }
+    if !field::pad_clear(plan, q) {
         return PlanVerdict::Refused(Fault::PlanPadding, 0);
     }
     PlanVerdict::Accepted(k)
 }
 
-// The verdict on a move at its turn: specs/Verdict.antt gives it document 01's number, or 0.
+// The verdict on a move at its turn, with the rack that it names: specs/Verdict.antt gives it document 01's number, or 0.
 pub enum MoveVerdict {
     Legal,
     Illegal(Fault),
 }
 
-// A move's fault, 32, 34 or 35 in this order, from what the tables have: the entry of the matrix for its two positions, the rack at the
-// position left and the rack at the position entered. Positions of n or more have no edge.
-fn move_fault(edge: u8, left: u8, entered: u8) -> MoveVerdict
-    ensures { λ r. ⌜ faultOf r ≡ entriesFault edge left entered ⌝ }
+// Does a move name another rack than the one that stands there?
+fn misnames(rack: usize, there: u8) -> bool
+    ensures { λ r. ⌜ misnamed rack there ≡ cond r 36 0 ⌝ }
 {
+    if rack == 0 {
+        return false;
+    }
+    rack != field::wide(there)
+}
+
+// A move's fault, 32, 34, 35 or 36 in this order, from what the tables have: the entry of the matrix for its two positions, the rack at
+// the position left and the rack at the position entered; and from the rack that it names. Positions of n or more have no edge.
+fn move_fault(edge: u8, left: u8, entered: u8, rack: usize) -> MoveVerdict
+    ensures { λ r. ⌜ faultOf r ≡ listedEntries edge left entered rack ⌝ }
+{
+    let another = misnames(rack, left);
     if edge == 0 {
         return MoveVerdict::Illegal(Fault::PlanMove);
     }
@@ -70,22 +116,27 @@ fn move_fault(edge: u8, left: u8, entered: u8) -> MoveVerdict
     if entered != 0 {
         return MoveVerdict::Illegal(Fault::PlanOccupied);
     }
+    if another {
+        return MoveVerdict::Illegal(Fault::PlanRack);
+    }
     MoveVerdict::Legal
 }
 
-// Replays the k moves of a plan's tail on the table of racks: to the first that is not legal.
-fn replay(tail: &[u8], k: usize, matrix: &[u8; 4096], racks: &mut [u8; 64]) -> Replay
+// Replays the k moves of a plan's tail on the table of racks: to the first that is not legal, or names another rack.
+fn replay(tail: &[u8], named: bool, k: usize, matrix: &[u8; 4096], racks: &mut [u8; 64]) -> Replay
     requires { ⌜ k < 2 ^ 22 ⌝ }
-    requires { ⌜ 12 * k ≤ 8 * length (now tail) ⌝ }
-    ensures { λ r. ⌜ endOf r (now (racks .exit)) ≡ replayOn (now (matrix .entry)) (now (racks .entry)) (pairs (now (tail .entry)) 0 k) ⌝ }
+    requires { ⌜ 6 * (moveSize named * k) ≤ 8 * length (now tail) ⌝ }
+    ensures { λ r. ⌜ endOf r (now (racks .exit))
+        ≡ replayOn (now (matrix .entry)) (now (racks .entry)) (listedMoves named (now (tail .entry)) 0 k) ⌝ }
 {
     let mut j = 0;
     while j < k {
-        let step = field::pair_number(tail, j);
+        let listed = field::listed_at(tail, named, j);
+        let step = listed.step;
         let a = step / 64;
         let b = step % 64;
         let rack = racks[a];
-        let verdict = move_fault(matrix[step], rack, racks[b]);
+        let verdict = move_fault(matrix[step], rack, racks[b], listed.rack);
         if let MoveVerdict::Illegal(fault) = verdict {
             return Replay::Stopped(fault, (j + 1) as u32);
         }
@@ -97,16 +148,16 @@ fn replay(tail: &[u8], k: usize, matrix: &[u8; 4096], racks: &mut [u8; 64]) -> R
 }
 
 // The replay's fault, then 33, by tables: a matrix of the floor's edges, and the rack at each position.
-fn judge(order: &[u8], e: usize, m: usize, plan: &[u8], k: usize) -> PlanVerdict
+fn judge(order: &[u8], e: usize, m: usize, plan: &[u8], named: bool, k: usize) -> PlanVerdict
     requires { ⌜ (e < 256) × (m ≤ 64) × (12 * (e + m) ≤ 8 * length (now order)) ⌝ }
-    requires { ⌜ (k < 2 ^ 22) × (12 * k ≤ 8 * length (now plan)) ⌝ }
-    ensures { λ r. ⌜ answerOf r ≡ tableAnswer (now (order .entry)) e m (now (plan .entry)) k ⌝ }
+    requires { ⌜ (k < 2 ^ 22) × (6 * (moveSize named * k) ≤ 8 * length (now plan)) ⌝ }
+    ensures { λ r. ⌜ answerOf r ≡ tableAnswer (now (order .entry)) e m (now (plan .entry)) named k ⌝ }
 {
     let mut matrix = [0u8; 4096];
     order::mark_edges(order, e, &mut matrix);
     let mut racks = [0u8; 64];
     order::place_racks(order, 2 * e, m, &mut racks);
-    let replayed = replay(plan, k, &matrix, &mut racks);
+    let replayed = replay(plan, named, k, &matrix, &mut racks);
     if let Replay::Stopped(fault, place) = replayed {
         return PlanVerdict::Refused(fault, place);
     }
@@ -117,7 +168,7 @@ fn judge(order: &[u8], e: usize, m: usize, plan: &[u8], k: usize) -> PlanVerdict
     PlanVerdict::Accepted(k)
 }
 
-// 10 to 14 and 30 to 35: the verdict on any byte string as a plan for any byte string as an order.
+// 10 to 14 and 30 to 36: the verdict on any byte string as a plan for any byte string as an order.
 pub fn check(order: &[u8], plan: &[u8]) -> PlanVerdict
     ensures { λ r. ⌜ answerOf r ≡ planAnswer (now (order .entry)) (now (plan .entry)) ⌝ }
 {
@@ -131,5 +182,6 @@ pub fn check(order: &[u8], plan: &[u8]) -> PlanVerdict
     };
     let e = counts.edges;
     let m = counts.racks;
-    judge(&order[3..], e, m, &plan[3..], k)
+    let named = names_racks(plan);
+    judge(&order[3..], e, m, &plan[3..], named, k)
 }

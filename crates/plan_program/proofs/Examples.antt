@@ -1,11 +1,11 @@
 -- What the plan program writes for the case book's orders, whatever stood in the lent bytes, by computation.
 --
---     allOfEighteen      18 positions, every two of them joined, and no racks
+--     allOfSixteen      16 positions, every two of them joined, and no racks
 --     large              it can be planned, though not in 65,536 bytes
 --     refusals-met       the planner's refusals of these orders, with 65,536 bytes
 --     floor-line         the line of 23, byte for byte
---     lines-met          no input; F with three racks; the path of four; three positions in a ring; the 18 positions: a line each
---     moves₁, plan₁      the plan of "Programs", and its record
+--     lines-met          no input; F with three racks; the path of four; three positions in a ring; the 16 positions: a line each
+--     moves₁, plan₁      the plan of "Programs", and its record in edition two
 --     plan-met           the order of "Programs": that record may be written
 --     lent-met           what is asked of the lent bytes can be met
 -- Assumes nothing.
@@ -20,7 +20,8 @@ use Rattle.answers.specs.Ascii.{ascii}
 use Rattle.answers.specs.Answer.{accepted, refused}
 use Rattle.answers.specs.Family.{familyWord, within}
 use Rattle.field.specs.Bits.{bits, number, bitsOf, field, pairs, positions, pairBits, positionBits, pad, padded, bytes, toBytes}
-use Rattle.field.specs.Units.{recordLength, misfits, unclean}
+use Rattle.field.specs.Units.{recordLength, misfits, padSet, unclean}
+use Rattle.field.specs.Listed.{units, allUnits}
 use Rattle.field.specs.Writing.{written}
 use Rattle.order.specs.Floor.{some, isPair, joined}
 use Rattle.order.specs.Order.{orderBits, orderRecord, positionCount, edgeCount, rackCount, unitCount, floorOf, startsOf, goalsOf, orderOf}
@@ -28,9 +29,11 @@ use Rattle.order.specs.Order.{wrongLength, wrongPositions, paddingSet, badEdge,
 use Rattle.order.specs.Order.{wrongPlaces, wrongRacks, counts, orderAnswer}
 use Rattle.order.specs.EdgeSets.{listed, isEdge, floorFrom}
 use Rattle.plan.proofs.Examples.{plan-open}
-use Rattle.plan.specs.Plan.{planBits, planRecord}
+use Rattle.plan.specs.Plan.{spareBits, planBits, planBytes, planRecord}
 use Rattle.writers.specs.Lines.{digits, decimal, refusalLine}
-use Rattle.motion.specs.Arrangement.{stands}
+use Rattle.motion.specs.Arrangement.{stands, rackFrom, rackAt}
+use Rattle.motion.specs.Move.{goesTo, after, afterMove}
+use Rattle.motion.specs.Replay.{replayMoves, listed as listedFrom}
 use Rattle.sets.specs.First.{firstFrom}
 use Rattle.ring.specs.Circle.{placeIn, roundOf, follow, onward}
 use Rattle.floor.specs.FloorAnswer.{biConnected?, ring?, roundPlace, disordered?, floorAnswer}
@@ -44,29 +47,29 @@ use Rattle.planner.specs.Planner.{refusals, made}
 use Rattle.plan_program.specs.Printed.{Printed}
 use Rattle.plan_program.proofs.PrintedLaws.{made-printed, line-printed}
 
-unfoldable pub allOfEighteen : List ℕ
-allOfEighteen = orderRecord (record { floor = floorFrom 18 (λ a b. true); starts = []; goals = [] })
+unfoldable pub allOfSixteen : List ℕ
+allOfSixteen = orderRecord (record { floor = floorFrom 16 (λ a b. true); starts = []; goals = [] })
 
 -- the hypotheses of `printed-large` hold of something
-pub large : Plannable allOfEighteen × (18 ≤ positionCount allOfEighteen)
-unfolding allOfEighteen orderRecord orderBits floorFrom listed isEdge bits pairBits positionBits toBytes padded pad bytes floorAnswer
+pub large : Plannable allOfSixteen × (16 ≤ positionCount allOfSixteen)
+unfolding allOfSixteen orderRecord orderBits floorFrom listed isEdge bits pairBits positionBits toBytes padded pad bytes floorAnswer
     biConnected? ring? disordered? roundPlace sameOrder? rack? inTurn? placeIn roundOf follow onward firstFrom stands joined some isPair
-    orderAnswer wrongLength misfits recordLength unitCount wrongPositions paddingSet unclean
+    orderAnswer wrongLength misfits recordLength unitCount wrongPositions paddingSet padSet unclean
     wrongEdges badEdge precedes ascending wrongRacks wrongPlaces repeats orderOf floorOf startsOf goalsOf counts positionCount
     edgeCount rackCount field number bitsOf pairs positions
-large = (plannable allOfEighteen [] refl, lit≤ tt)
+large = (plannable allOfSixteen [] refl, lit≤ tt)
 
 pub refusals-met :
     (refusals [] 65536 ≡ refused 10 0)
     × (refusals threeRacks 65536 ≡ refused 20 0)
     × (refusals pathOfFour 65536 ≡ refused 21 0)
     × (refusals mirrored 65536 ≡ refused 24 0)
-    × (refusals allOfEighteen 65536 ≡ refused 23 0)
+    × (refusals allOfSixteen 65536 ≡ refused 23 0)
     × (refusals twoRacks 65536 ≡ accepted [])
-unfolding refusals allOfEighteen orderRecord orderBits floorFrom listed isEdge bits pairBits positionBits toBytes padded pad bytes
+unfolding refusals allOfSixteen orderRecord orderBits floorFrom listed isEdge bits pairBits positionBits toBytes padded pad bytes
     floorAnswer biConnected? ring? disordered? roundPlace sameOrder? rack? inTurn? placeIn roundOf follow onward firstFrom stands joined
     some isPair orderAnswer wrongLength misfits recordLength unitCount wrongPositions paddingSet
-    unclean wrongEdges badEdge precedes ascending wrongRacks wrongPlaces repeats orderOf floorOf startsOf goalsOf counts positionCount
+    padSet unclean wrongEdges badEdge precedes ascending wrongRacks wrongPlaces repeats orderOf floorOf startsOf goalsOf counts positionCount
     edgeCount rackCount field number bitsOf pairs positions
 refusals-met = (refl, refl, refl, refl, refl, refl)
 
@@ -80,14 +83,15 @@ abbrev moves₁ : List (ℕ × ℕ)
 moves₁ = (0, 1) ∷ (3, 2) ∷ (2, 0) ∷ (1, 3) ∷ []
 
 abbrev pub plan₁ : List ℕ
-plan₁ = 0x00 ∷ 0x00 ∷ 0x10 ∷ 0x00 ∷ 0x10 ∷ 0xC2 ∷ 0x08 ∷ 0x00 ∷ 0x43 ∷ []
+plan₁ = 0x00 ∷ 0x00 ∷ 0x11 ∷ 0x00 ∷ 0x10 ∷ 0x03 ∷ 0x08 ∷ 0x10 ∷ 0x80 ∷ 0x04 ∷ 0x10 ∷ 0xC0 ∷ []
 
-record₁ : planRecord moves₁ ≡ plan₁
-unfolding planRecord planBits bits pairBits toBytes padded pad bytes number
+record₁ : planRecord true (startsOf twoRacks) moves₁ ≡ plan₁
+unfolding planRecord planBytes planBits spareBits listedFrom rackAt rackFrom afterMove after goesTo allUnits units positionBits bits
+    toBytes padded pad bytes number startsOf positionCount edgeCount rackCount field bitsOf positions
 record₁ = refl
 
 solves₁ : Solves twoRacks (positionCount twoRacks) moves₁
-unfolding plan-open
+unfolding plan-open replayMoves
 solves₁ = record {
   few = lit≤ tt;
   replayed = refl;
@@ -103,7 +107,7 @@ module _ (B : List ℕ) (lent : length B ≡ 65536) where
       × Printed threeRacks B (written B 0 (refusalLine 20 0)) (length (refusalLine 20 0))
       × Printed pathOfFour B (written B 0 (refusalLine 21 0)) (length (refusalLine 21 0))
       × Printed mirrored B (written B 0 (refusalLine 24 0)) (length (refusalLine 24 0))
-      × Printed allOfEighteen B (written B 0 (refusalLine 23 0)) (length (refusalLine 23 0))
+      × Printed allOfSixteen B (written B 0 (refusalLine 23 0)) (length (refusalLine 23 0))
   lines-met = (
     line-printed lent (refusals-met .0),
     line-printed lent (refusals-met .1),
@@ -112,7 +116,7 @@ module _ (B : List ℕ) (lent : length B ≡ 65536) where
     line-printed lent (refusals-met .4),
   )
 
-  pub plan-met : Printed twoRacks B (written B 0 plan₁) 9
+  pub plan-met : Printed twoRacks B (written B 0 plan₁) 12
   plan-met =
-      subst (λ (p : List ℕ). Printed twoRacks B (written B 0 p) 9) record₁
+      subst (λ (p : List ℕ). Printed twoRacks B (written B 0 p) 12) record₁
       (made-printed lent (made moves₁ (ap (refusals twoRacks) lent ∙ refusals-met .5) solves₁) refl)

@@ -8,7 +8,7 @@ pub fn plan_program(input: &[u8], out: &mut [u8; 65536]) -> usize
     ensures { λ r. ⌜ Printed (now (input .entry)) (now (out .entry)) (now (out .exit)) r ⌝ }
 {
     match planner::make(input, out) {
-        PlannerVerdict::Planned(moves) => 3 + (12 * moves + 7) / 8,
+        PlannerVerdict::Planned(moves) => 3 + (18 * moves + 7) / 8,
         PlannerVerdict::Refused(fault, place) => {
             writers::put_refusal(answers::number(fault), place, out, 0)
         }

@@ -6,27 +6,29 @@
 --     mirrored-no-plan    an order on a ring that no moves fulfil
 --     plan                the case book's plan
 --     solves-met          its moves solve the order
---     moves-met           and stand packed behind the head
---     made-met            in a buffer of 771 bytes the planner may make that plan
---     turned-down-met     in one of 770 bytes it answers 23, and changes no byte
+--     moves-met           and stand packed behind the head, with the racks 1, 2, 2 and 1
+--     made-met            in a buffer of 1155 bytes the planner may make that plan
+--     turned-down-met     in one of 1154 bytes it answers 23, and changes no byte
 -- Assumes nothing.
 use Prim.Native.Nat.{ℕ, _*_, _≤_}
 use mathlib.Core.Path.{_≡_, refl, sym, ap}
-use mathlib.Core.List.{List, [], _∷_, _++_}
+use mathlib.Core.Bool.{true}
+use mathlib.Core.List.{List, [], _∷_}
 use native.Mathlib.Omega.{arith}
 use lib.Dec.{lit≤, ltb}
-use lib.ListN.{getD, length, drop, replicate, length-replicate}
+use lib.ListN.{getD, length, replicate, length-replicate}
 use Rattle.answers.specs.Answer.{Answer, accepted, refused, refuse, passUp}
 use Rattle.field.specs.Bits.{bitsOf, bits, number, field, pairs, positions}
-use Rattle.field.specs.Packing.{pack}
+use Rattle.field.specs.Packing.{packPositions}
+use Rattle.field.specs.Listed.{allUnits}
 use Rattle.field.specs.Writing.{written}
 use Rattle.order.specs.Floor.{some, isPair, joined}
 use Rattle.order.specs.Order.{positionCount, edgeCount, rackCount, floorOf, startsOf, goalsOf, counts}
 use Rattle.order.specs.Tables.{decodedRows, decodedStarts, decodedGoals}
 use Rattle.order.proofs.OrderLaws.{accepted-is}
-use Rattle.motion.specs.Arrangement.{occupied, vacant}
+use Rattle.motion.specs.Arrangement.{occupied, vacant, rackFrom, rackAt}
 use Rattle.motion.specs.Move.{onFloor, faultBy, moveFault, goesTo, after, afterMove}
-use Rattle.motion.specs.Replay.{replayFrom, replayMoves}
+use Rattle.motion.specs.Replay.{replayFrom, replayMoves, listed}
 use Rattle.tables.specs.Accepted.{OrderGave}
 use Rattle.tables.proofs.AcceptedLaws.{order-gave}
 use Rattle.plan.specs.Plan.{planRecord}
@@ -44,13 +46,13 @@ order-read =
     (unfold counts positionCount edgeCount rackCount field number bitsOf bits in sym (accepted-is twoRacks (plannable-met .right)))
 
 pub plan-moves-met : SomeTables 4 5 2 (decodedRows twoRacks) (decodedStarts twoRacks) (decodedGoals twoRacks)
-    × (12 * (4 * (4 * 4)) ≤ length (replicate {A = ℕ} 768 0))
+    × (18 * (4 * (4 * 4)) ≤ length (replicate {A = ℕ} 1152 0))
 plan-moves-met = (
   record {
     order = twoRacks;
     tables = record { gave = order-read; can = plannable-met; rows-are = refl; starts-are = refl; goals-are = refl };
   },
-  (let n = length-replicate {A = ℕ} 768 0 in omega arith),
+  (let n = length-replicate {A = ℕ} 1152 0 in omega arith),
 )
 
 ring-read : OrderGave threeInRing 3 3 1
@@ -93,16 +95,20 @@ solves-met = record { few = lit≤ tt; replayed = refl; still = λ e. absurd (ap
     apart : _≡_ {A = ℕ} 0 3 → ⊥
     apart e = omega arith
 
-pub moves-met : Moves twoRacks 4 (replicate 768 0) (pack plan ++ drop (length (pack plan)) (replicate 768 0)) 4
+-- each move with its rack, and these packed
+pub moves-met : Moves twoRacks 4 (replicate 1152 0)
+    (written (replicate 1152 0) 0 (packPositions (allUnits true ((0, 1, 1) ∷ (3, 2, 2) ∷ (2, 0, 2) ∷ (1, 3, 1) ∷ [])))) 4
+unfolding listed rackAt rackFrom afterMove after goesTo startsOf positionCount edgeCount rackCount field number bitsOf bits pairs positions
 moves-met = record { moves = plan; count = refl; solves = solves-met; packed = record { is = refl } }
 
 -- only 23 is left to be judged
-judged : (b : ℕ) → refusals twoRacks b ≡ refuse (ltb b 771) 23 0 (accepted [])
+judged : (b : ℕ) → refusals twoRacks b ≡ refuse (ltb b 1155) 23 0 (accepted [])
 unfolding refusals positionCount field number bitsOf bits
-judged b = ap (λ (a : Answer). passUp a (refuse (ltb b 771) 23 0 (accepted []))) (floors-judged .2)
+judged b = ap (λ (a : Answer). passUp a (refuse (ltb b 1155) 23 0 (accepted []))) (floors-judged .2)
 
-pub made-met : PlanMade twoRacks (replicate 771 0) (accepted (4 ∷ [])) (written (replicate 771 0) 0 (planRecord plan))
-made-met = made plan (judged (length (replicate {A = ℕ} 771 0))) (unfold positionCount field number bitsOf bits in solves-met)
+pub made-met : PlanMade twoRacks (replicate 1155 0) (accepted (4 ∷ [])) (written (replicate 1155 0) 0
+    (planRecord true (startsOf twoRacks) plan))
+made-met = made plan (judged (length (replicate {A = ℕ} 1155 0))) (unfold positionCount field number bitsOf bits in solves-met)
 
-pub turned-down-met : PlanMade twoRacks (replicate 770 0) (refused 23 0) (replicate 770 0)
-turned-down-met = turned-down {number = 23} {place = 0} (judged (length (replicate {A = ℕ} 770 0)))
+pub turned-down-met : PlanMade twoRacks (replicate 1154 0) (refused 23 0) (replicate 1154 0)
+turned-down-met = turned-down {number = 23} {place = 0} (judged (length (replicate {A = ℕ} 1154 0)))

@@ -15,11 +15,13 @@ use mathlib.Core.Logic.{_≢_, ⊎-elim}
 use native.Mathlib.Omega.{arith}
 use lib.Dec.{T}
 use lib.ListN.{length}
+use Rattle.field.specs.Listed.{movesOf}
+use Rattle.field.proofs.ListedLaws.{length-movesOf}
 use Rattle.order.specs.Floor.{Floor, joined}
 use Rattle.order.specs.Order.{positionCount, rackCount, floorOf, startsOf, goalsOf}
 use Rattle.order.specs.Tables.{racksAt, decodedRows, decodedStarts, decodedGoals}
 use Rattle.order.proofs.TablesLaws.{decoded-starts, decoded-goals}
-use Rattle.motion.specs.Replay.{ended, replayMoves, replayFrom}
+use Rattle.motion.specs.Replay.{ended, replayMoves, replayFrom, listed}
 use Rattle.motion.specs.Sound.{Sound}
 use Rattle.tables.proofs.TablesLaws.{Holds}
 use Rattle.tables.proofs.TableLaws.{placed-holds}
@@ -29,7 +31,7 @@ use Rattle.breakdown.specs.Answer.{Answer}
 use Rattle.shunting.specs.declared.State.{State}
 use Rattle.shunting.specs.Went.{Same}
 use Rattle.shunting.proofs.WentLaws.{same-refl}
-use Rattle.shunting.specs.Journey.{row, Trip}
+use Rattle.shunting.specs.Journey.{row, Packed, Trip}
 use Rattle.shunting.proofs.JourneyLaws.{packed-nothing, trip-packed, went-written}
 use Rattle.solving.specs.Placed.{Placed, Filled}
 use Rattle.solving.proofs.Planned.{trip-planned}
@@ -137,29 +139,35 @@ module _ (o : List ℕ) (n e m : ℕ) (gave : OrderGave o n e m) where
 
       pub planned : (h k start goal t : List ℕ) {t′ : List ℕ} {s : State} → Holds (startsOf o) h → Holds (goalsOf o) k
           → (((p : ℕ) → p < 64 → row h p ≡ row k p) → ⊥)
-          → Filled m (row h) (row start) → Filled m (row k) (row goal) → 12 * (n * (n * n)) ≤ length t
+          → Filled m (row h) (row start) → Filled m (row k) (row goal) → 18 * (n * (n * n)) ≤ length t
           → {c : ℕ} → c ≤ 8 * (n * (n * n)) → Trip g c (begun start) t s t′ → Same (row (s .racks)) (row goal)
           → Moves o n t t′ (s .written)
-      planned h k start goal t a b differ fa fb room most trip ends =
+      planned h k start goal t {t′} a b differ fa fb room most trip ends =
           let well = gave .placed-well in
+          let made =
+          trip-planned (floorOf o) joins n (begun start) (startsOf o) (goalsOf o) (row h) (row k) (row start) (row goal)
+          (well .starts-length ∙ sym (well .goals-length)) (held-by a) (held-by b) (start-placed h a) (goal-placed k b) fa fb trip
+          (same-refl (row start)) ends in
+          let long = length-movesOf (trip .written) in
+          let x = went-written (trip .went) in
+          let y = trip .few in
           record {
-            moves = trip .written;
+            moves = movesOf (trip .written);
             count = (let e = trip .counted in omega arith);
             solves = record {
-              few = (let x = went-written (trip .went) in let y = trip .few in omega arith);
-              replayed =
-                  trip-planned (floorOf o) joins n (begun start) (startsOf o) (goalsOf o) (row h) (row k) (row start) (row goal)
-                  (well .starts-length ∙ sym (well .goals-length)) (held-by a) (held-by b) (start-placed h a) (goal-placed k b) fa fb trip
-                  (same-refl (row start)) ends;
+              few = omega arith;
+              replayed = made .replayed;
               still = λ e. absurd (differ (same-tables e));
             };
-            packed = trip-packed trip t [] refl (let x = went-written (trip .went) in let y = trip .few in omega arith) (packed-nothing t);
+            packed =
+                subst (λ (l : List (ℕ × ℕ × ℕ)). Packed t l t′) (made .racks) (trip-packed trip t [] refl (omega arith) (packed-nothing t));
           }
         where
           same-tables : startsOf o ≡ goalsOf o → (p : ℕ) → p < 64 → row h p ≡ row k p
           same-tables e p l = held-agree (subst (λ (A : List ℕ). Holds A h) e a) b p
 
   pub none-needed : (h k t : List ℕ) → Holds (startsOf o) h → Holds (goalsOf o) k → ((p : ℕ) → p < 64 → row h p ≡ row k p) → Moves o n t t 0
+  unfolding listed
   none-needed h k t a b same =
       let well = gave .placed-well in
       let alike =

@@ -31,9 +31,9 @@ module _ {E : ℕ → ℕ → Type 0} (n p : ℕ) (inside : (a b : ℕ) → E a 
   apart : {a b : ℕ} → E a b → (p ≢ a) × (p ≢ b)
   apart {a} {b} e = let l = inside a b e in (λ s. omega (arith, l .0), λ s. omega (arith, l .1))
 
-  pub went-outside : {m : ℕ} {h k : ℕ → ℕ} {ms ws : List (ℕ × ℕ)} → Went E m h ms ws k → k p ≡ h p
+  pub went-outside : {m : ℕ} {h k : ℕ → ℕ} {ms : List (ℕ × ℕ)} {ws : List (ℕ × ℕ × ℕ)} → Went E m h ms ws k → k p ≡ h p
   went-outside (stay s) = sym (s p)
-  went-outside (real x l w) = went-outside w ∙ x .others p (apart (x .edge) .0) (apart (x .edge) .1)
+  went-outside (real x e l w) = went-outside w ∙ x .others p (apart (x .edge) .0) (apart (x .edge) .1)
   went-outside (stand-in x l w) = went-outside w ∙ x .others p (apart (x .edge) .0) (apart (x .edge) .1)
 
 module _ {n m : ℕ} {g : List ℕ} {at : ℕ → ℕ} (rows : Rows n g) (three : 3 ≤ n) (c : Circle n (Edge g) at) where
@@ -55,6 +55,6 @@ module _ (n : ℕ) (three : 3 ≤ n) where
   pub round-few : roundMoves n ≤ 8 * (n * (n * n))
   round-few = omega (arith, square)
 
-  pub round-room : (s : State) (t : List ℕ) → length (s .racks) ≡ 64 → s .written ≡ 0 → 12 * (n * (n * n)) ≤ length t → Space s t
-      (roundMoves n)
-  round-room s t long none room = let q = square in record { racks = long; room = omega arith }
+  pub round-room : (s : State) (t : List ℕ) → length (s .racks) ≡ 64 → s .real ≤ 64 → s .written ≡ 0 → 18 * (n * (n * n)) ≤ length t
+      → Space s t (roundMoves n)
+  round-room s t long few none room = let q = square in record { racks = long; few-racks = few; room = omega arith }

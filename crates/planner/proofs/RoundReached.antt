@@ -84,8 +84,9 @@ listed-at f i (suc k) (suc j) l = listed-at f (suc i) k j (omega arith) ∙ ap f
 
 record Drove (E : ℕ → ℕ → Type 0) (n m : ℕ) (at d₀ h₀ h : ℕ → ℕ) : Type 0 where
   moves : List (ℕ × ℕ)
+  written : List (ℕ × ℕ × ℕ)
   end : ℕ → ℕ
-  went : Went E m h moves moves end
+  went : Went E m h moves written end
   driven : Driven n at d₀ h₀ end
   on : OnCircle n m at end
 
@@ -95,6 +96,7 @@ module _ {E : ℕ → ℕ → Type 0} {n m : ℕ} {at : ℕ → ℕ} (c : Circle
     stopped none =
         record {
           moves = [];
+          written = [];
           end = h;
           went = stay (same-refl h);
           driven = underway-last n at d₀ h₀ (row l) h way (stuck can none);
@@ -135,9 +137,10 @@ module _ {E : ℕ → ℕ → Type 0} {n m : ℕ} {at : ℕ → ℕ} (c : Circle
           (underway-next can c x lx r passed less same way) in
           record {
             moves = (at x, at (next n x)) ∷ rest .moves;
+            written = (at x, at (next n x), h (at x)) ∷ rest .written;
             end = rest .end;
             went = real (carry-move (at x) (at (next n x)) h apart (circle-next (can .three) c x lx) held (r .vacant))
-                (can .on .rack x lx held .most) (rest .went);
+                refl (can .on .rack x lx held .most) (rest .went);
             driven = rest .driven;
             on = rest .on;
           }
@@ -157,8 +160,9 @@ module _ {E : ℕ → ℕ → Type 0} {n m : ℕ} {at : ℕ → ℕ} (c : Circle
 
 pub record Reached (E : ℕ → ℕ → Type 0) (n m : ℕ) (at h goal : ℕ → ℕ) : Type 0 where
   pub moves : List (ℕ × ℕ)
+  pub written : List (ℕ × ℕ × ℕ)
   pub end : ℕ → ℕ
-  pub went : Went E m h moves moves end
+  pub went : Went E m h moves written end
   pub there : (i : ℕ) → i < n → end (at i) ≡ goal (at i)
 
 module _ {E : ℕ → ℕ → Type 0} {n m : ℕ} {at h goal p g : ℕ → ℕ} (three : 3 ≤ n) (few : n ≤ 64) (less : m < n) (c : Circle n E at)
@@ -235,6 +239,7 @@ module _ {E : ℕ → ℕ → Type 0} {n m : ℕ} {at h goal p g : ℕ → ℕ} 
     reached-some =
         record {
           moves = first-half .moves ++ second-half .moves;
+          written = first-half .written ++ second-half .written;
           end = second-half .end;
           went = went-append (first-half .went) (second-half .went);
           there = settled three few less on aim start end same lb lt low near (needs-none b p t g) (needs-each b p t g) (first-half .on)
@@ -244,7 +249,7 @@ module _ {E : ℕ → ℕ → Type 0} {n m : ℕ} {at h goal p g : ℕ → ℕ} 
   -- without racks there is nothing to move
   reached-none : m ≡ 0 → Reached E n m at h goal
   reached-none none =
-      record { moves = []; end = h; went = stay (same-refl h); there = λ i l. vacant h on i l ∙ sym (vacant goal aim i l) }
+      record { moves = []; written = []; end = h; went = stay (same-refl h); there = λ i l. vacant h on i l ∙ sym (vacant goal aim i l) }
     where
       vacant : (f : ℕ → ℕ) → OnCircle n m at f → (i : ℕ) → i < n → f (at i) ≡ 0
       vacant f v i l =

@@ -7,20 +7,22 @@
 --     SomeTables n e m g h k  some order has these tables
 --     Differ h k            the tables h and k differ
 --     MovesMade n e m g h k t t′ w    w such moves of every order with these tables
---     Moves o n t t′ k      k such moves are packed at the front of the bytes t′, and behind them stands what stood there in t
+--     Moves o n t t′ k      k such moves are packed at the front of the bytes t′, each with the rack that replay has at the position left,
+--                           and behind them stands what stood there in t
 -- Assumes nothing.
 use Prim.Native.Nat.{ℕ, _*_, _≤_, _<_}
 use mathlib.Core.Path.{_≡_}
+use mathlib.Core.Bool.{true}
 use mathlib.Core.List.{List, []}
 use lib.ListN.{length}
 use Rattle.order.specs.Order.{floorOf, startsOf, goalsOf}
 use Rattle.order.specs.Tables.{decodedRows, decodedStarts, decodedGoals}
-use Rattle.motion.specs.Replay.{ended, replayMoves}
+use Rattle.motion.specs.Replay.{ended, replayMoves, listed}
 use Rattle.tables.specs.Accepted.{OrderGave}
 use Rattle.floor.specs.Plannable.{Plannable}
 use Rattle.shunting.specs.Journey.{row, Packed}
 
--- "If each start is its goal, the plan has no moves." The buffer that 23 asks for, 12 × n × n × n + 3 bytes, holds 8 × n × n × n moves.
+-- "If each start is its goal, the plan has no moves." The buffer that 23 asks for, 18 × n × n × n + 3 bytes, holds 8 × n × n × n moves.
 pub record Solves (o : List ℕ) (n : ℕ) (ms : List (ℕ × ℕ)) : Type 0 where
   pub few : length ms ≤ 8 * (n * (n * n))
   pub replayed : replayMoves (floorOf o) (startsOf o) ms ≡ ended (goalsOf o)
@@ -44,7 +46,7 @@ pub record Moves (o : List ℕ) (n : ℕ) (t t′ : List ℕ) (k : ℕ) : Type 0
   pub moves : List (ℕ × ℕ)
   pub count : k ≡ length moves
   pub solves : Solves o n moves
-  pub packed : Packed t moves t′
+  pub packed : Packed t (listed true (startsOf o) moves) t′
 
 -- whichever order has the tables
 pub record MovesMade (n e m : ℕ) (g h k t t′ : List ℕ) (w : ℕ) : Type 0 where

@@ -49,7 +49,7 @@ fn broken_down(
     requires { ⌜ SomeTables n e m (now rows) starts goals ⌝ }
     requires { ⌜ Differ starts goals ⌝ }
     requires { ⌜ e ≢ n ⌝ }
-    requires { ⌜ 12 * (n * (n * n)) ≤ length (now tail) ⌝ }
+    requires { ⌜ 18 * (n * (n * n)) ≤ length (now tail) ⌝ }
     ensures { λ r. ⌜ MovesMade n e m (now (rows .entry)) starts goals (now (tail .entry)) (now (tail .exit)) r ⌝ }
 {
     let mut start = starts;
@@ -80,7 +80,7 @@ fn round(
     requires { ⌜ SomeTables n e m (now rows) starts goals ⌝ }
     requires { ⌜ Differ starts goals ⌝ }
     requires { ⌜ e ≡ n ⌝ }
-    requires { ⌜ 12 * (n * (n * n)) ≤ length (now tail) ⌝ }
+    requires { ⌜ 18 * (n * (n * n)) ≤ length (now tail) ⌝ }
     ensures { λ r. ⌜ MovesMade n e m (now (rows .entry)) starts goals (now (tail .entry)) (now (tail .exit)) r ⌝ }
 {
     let circle = ring::circle(rows, n);
@@ -109,7 +109,7 @@ fn plan_moves(
     tail: &mut [u8],
 ) -> usize
     requires { ⌜ SomeTables n e m (now rows) starts goals ⌝ }
-    requires { ⌜ 12 * (n * (n * n)) ≤ length (now tail) ⌝ }
+    requires { ⌜ 18 * (n * (n * n)) ≤ length (now tail) ⌝ }
     ensures { λ r. ⌜ MovesMade n e m (now (rows .entry)) starts goals (now (tail .entry)) (now (tail .exit)) r ⌝ }
 {
     let start = starts;
@@ -133,7 +133,8 @@ fn passed_up(floor: FloorVerdict) -> PlannerVerdict
     }
 }
 
-// 10 to 14, 20, 21, 24 and 23, or a plan: its record at the front of the buffer, and how many moves it has.
+// 10 to 14, 20, 21, 24 and 23, or a plan: its record at the front of the buffer, in edition two, which has the spare bits 01, and how many
+// moves it has.
 pub fn make(order: &[u8], buffer: &mut [u8]) -> PlannerVerdict
     ensures { λ r. ⌜ PlanMade (now (order .entry)) (now (buffer .entry)) (answerOf r) (now (buffer .exit)) ⌝ }
 {
@@ -147,10 +148,10 @@ pub fn make(order: &[u8], buffer: &mut [u8]) -> PlannerVerdict
     let n = counts.positions;
     let e = counts.edges;
     let m = counts.racks;
-    if buffer.len() < 12 * (n * (n * n)) + 3 {
+    if buffer.len() < 18 * (n * (n * n)) + 3 {
         return PlannerVerdict::Refused(Fault::PlanBuffer, 0);
     }
     let k = plan_moves(n, e, m, &rows, starts, goals, &mut buffer[3..]);
-    field::put_head(buffer, k);
+    field::put_head(buffer, k, 1);
     PlannerVerdict::Planned(k)
 }

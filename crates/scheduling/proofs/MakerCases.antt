@@ -18,12 +18,13 @@ use mathlib.Core.List.{List, [], _∷_}
 use lib.Dec.{lit≤}
 use Rattle.answers.specs.Answer.{accepted, refused}
 use Rattle.field.specs.Bits.{pairBits, pad, padded, bytes, toBytes}
+use Rattle.field.specs.Listed.{movesOf}
 use Rattle.field.specs.Writing.{written}
 use Rattle.motion.specs.Arrangement.{rackFrom, rackAt}
 use Rattle.motion.specs.StepOf.{insert, sort}
 use Rattle.motion.proofs.Inhabited.{floorF, starts, plan, plan-leads, starts-sound}
 use Rattle.plan.proofs.Examples.{plan-open}
-use Rattle.plan.specs.Plan.{planAnswer}
+use Rattle.plan.specs.Plan.{planMoves, planAnswer}
 use Rattle.timetable.specs.Timetable.{stepBits, allStepBits, timetableBits, timetableRecord}
 use Rattle.scheduling.specs.Making.{ofRack, ofLeaving, stepFor, timed, greatest, inStep, movesIn, stepsFrom, madeSteps}
 use Rattle.scheduling.specs.Windows.{allSteps}
@@ -38,6 +39,10 @@ order₁ = 0x08 ∷ 0x0A ∷ 0x08 ∷ 0x00 ∷ 0x10 ∷ 0x02 ∷ 0x04 ∷ 0x20 �
 abbrev pub plan₁ : List ℕ
 plan₁ = 0x00 ∷ 0x00 ∷ 0x10 ∷ 0x00 ∷ 0x10 ∷ 0xC2 ∷ 0x08 ∷ 0x00 ∷ 0x43 ∷ []
 
+-- the same with the racks named
+abbrev pub plan₁-named : List ℕ
+plan₁-named = 0x00 ∷ 0x00 ∷ 0x11 ∷ 0x00 ∷ 0x10 ∷ 0x03 ∷ 0x08 ∷ 0x10 ∷ 0x80 ∷ 0x04 ∷ 0x10 ∷ 0xC0 ∷ []
+
 abbrev pub order₂ : List ℕ
 order₂ = 0x08 ∷ 0x0A ∷ 0x08 ∷ 0x00 ∷ 0x10 ∷ 0x02 ∷ 0x04 ∷ 0x20 ∷ 0x43 ∷ 0x08 ∷ 0x30 ∷ 0x01 ∷ 0x04 ∷ 0x30 ∷ []
 
@@ -46,14 +51,20 @@ abbrev pub plan₂ : List ℕ
 plan₂ = 0x00 ∷ 0x00 ∷ 0x08 ∷ 0x04 ∷ 0x30 ∷ 0x01 ∷ []
 
 unfoldable pub maker-open : List ℕ → List ℕ → List ℕ → List ℕ
-unfolding plan-open bufferAfter makerAnswer madeOf madeSteps timed stepFor rackAt rackFrom ofRack ofLeaving greatest stepsFrom movesIn
-    inStep sort insert timetableRecord timetableBits allStepBits stepBits pairBits padded pad toBytes bytes
+unfolding plan-open planMoves movesOf bufferAfter makerAnswer madeOf madeSteps timed stepFor rackAt rackFrom ofRack ofLeaving
+    greatest stepsFrom movesIn inStep sort insert timetableRecord timetableBits allStepBits stepBits pairBits padded pad toBytes
+    bytes
 maker-open o p buffer = bufferAfter o p buffer
 
 -- "Its timetable is 00 00 08 02 00 10 C2 02 04 30 80."
 pub made-1 : timetableRecord (madeOf order₁ plan₁) ≡ 0x00 ∷ 0x00 ∷ 0x08 ∷ 0x02 ∷ 0x00 ∷ 0x10 ∷ 0xC2 ∷ 0x02 ∷ 0x04 ∷ 0x30 ∷ 0x80 ∷ []
 unfolding maker-open
 made-1 = refl
+
+-- and so it is where the plan names the racks
+pub made-1-named : timetableRecord (madeOf order₁ plan₁-named) ≡ timetableRecord (madeOf order₁ plan₁)
+unfolding maker-open
+made-1-named = refl
 
 -- "moves 1>3 then 0>1 make one step"
 pub made-2 : timetableRecord (madeOf order₂ plan₂) ≡ 0x00 ∷ 0x00 ∷ 0x04 ∷ 0x02 ∷ 0x00 ∷ 0x10 ∷ 0x43 ∷ []

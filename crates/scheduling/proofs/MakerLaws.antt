@@ -1,7 +1,6 @@
 -- The theorem of the timetable maker, on records: for every plan that the plan checker accepts, the record that the maker writes is short
 -- enough for its buffer, and the timetable checker accepts it.
 --
---     PlanGave o p v, plan-gave      what acceptance of the plan p for the order o tells
 --     steps-packable                 steps that lead anywhere have room in the record's fields
 --     made-of                        the made steps of an accepted plan lead from the starts to the goals
 --     made-packable                  so have the made steps
@@ -36,14 +35,12 @@ use Rattle.motion.proofs.Lawful.{Leads, LeadsSteps, still, _then_, replayMoves-
 use Rattle.motion.specs.StepTests.{OnFloor}
 use Rattle.motion.proofs.LegalStepLaws.{legalStep-iff}
 use Rattle.motion.proofs.StepLimits.{step-size}
-use Rattle.motion.proofs.PebbleLaws.{pebble-replay}
 use Rattle.motion.specs.Judgement.{judged}
 use Rattle.motion.proofs.JudgementLaws.{judged-accepted}
 use Rattle.tables.specs.Accepted.{WellPlaced}
-use Rattle.tables.proofs.AcceptedLaws.{well-placed}
 use Rattle.plan.specs.Plan.{moveCount, planMoves, wrongPlanLength, planAnswer}
 use Rattle.plan.proofs.PlanRecord.{moves-counted}
-use Rattle.plan.proofs.Replayed.{plan-replayed}
+use Rattle.plan.proofs.Accepted.{PlanGave, plan-gave}
 use Rattle.timetable.specs.Timetable.{timetableRecord, stepCount, partsOf, stepsOf, total, timetableAnswer}
 use Rattle.timetable.specs.Reading.{moveTotal}
 use Rattle.timetable.proofs.ReadingLaws.{total-moves}
@@ -53,27 +50,6 @@ use Rattle.scheduling.proofs.Made.{Made, made}
 use Rattle.scheduling.specs.Rows.{stepsBytes}
 use Rattle.scheduling.proofs.RecordBytes.{record-bytes}
 use Rattle.scheduling.specs.Maker.{madeOf, makerAnswer, bufferAfter, Timetabled}
-
-pub record PlanGave (o p v : List ℕ) : Type 0 where
-  pub order-right : WellFormed o
-  pub placed-well : WellPlaced o
-  pub length-right : wrongPlanLength p ≡ false
-  pub counted : moveCount p ∷ [] ≡ v
-  pub leads : Leads (floorOf o) (startsOf o) (planMoves p) (goalsOf o)
-
-pub plan-gave : (o p v : List ℕ) → planAnswer o p ≡ accepted v → PlanGave o p v
-plan-gave o p v e =
-    let a = plan-replayed o .0 p v .0 e in
-    let w = well-placed o (a .order-right) in
-    let replayed : replayMoves (floorOf o) (startsOf o) (planMoves p) ≡ ended (goalsOf o) =
-    pebble-replay (floorOf o) (rackCount o) (startsOf o) (goalsOf o) (w .task) .0 (planMoves p) .1 (rw moves-counted (a .solution)) in
-    record {
-      order-right = a .order-right;
-      placed-well = w;
-      length-right = a .length-right;
-      counted = a .counted;
-      leads = replayMoves-ended (floorOf o) (startsOf o) (planMoves p) (goalsOf o) .0 replayed;
-    }
 
 moves-below : (F : Floor) → F .positions ≤ 64 → (ms : List (ℕ × ℕ)) → ((m : ℕ × ℕ) → List·Memᴰ m ms → OnFloor F m) → BelowPairs 64 ms
 moves-below F few [] h = none₂
@@ -111,9 +87,9 @@ module _ (o p v : List ℕ) (e : planAnswer o p ≡ accepted v) where
   made-short : length (timetableRecord (madeOf o p)) ≤ 3 * moveCount p + 3
   made-short =
       let parts =
-      ap length (record-bytes (madeOf o p) made-packable) ∙ length-append (headBytes (length (madeOf o p))) (stepsBytes (madeOf o p)) in
+      ap length (record-bytes (madeOf o p) made-packable) ∙ length-append (headBytes (length (madeOf o p)) 0) (stepsBytes (madeOf o p)) in
       let few : length (stepsBytes (madeOf o p)) ≤ 3 * length (planMoves p) = unfold madeOf in
-      made-of .short in omega (arith, parts, length-headBytes (length (madeOf o p)), few, moves-counted p)
+      made-of .short in omega (arith, parts, length-headBytes (length (madeOf o p)) 0, few, moves-counted p)
 
   steps-counted : length (madeOf o p) ≡ greatest (timed (startsOf o) [] (planMoves p))
   unfolding madeOf

@@ -1,13 +1,13 @@
 -- The maker's answers: the plan checker's refusal passed up, 44, and the made timetable.
 --
 --     maker-refused     a refusal of the plan checker is the maker's, and the buffer stays
---     count-below, head-there, tail-moves, tail-fits    what an accepted plan tells: few moves, a head, and a tail that has the moves
 --     maker-short       44
 --     maker-room, head-room  the steps and the head have room
 --     maker-made        the answer and the buffer, once steps and head are written
 -- Assumes nothing.
 use Prim.Native.Nat.{ℕ, _+_, _-_, _*_, _^_, _≤_, _<_}
 use mathlib.Core.Path.{_≡_, refl, sym, ap, _∙_}
+use mathlib.Core.Bool.{Bool}
 use mathlib.Core.List.{List, [], _∷_, _++_}
 use native.Mathlib.Omega.{arith}
 use borrow.Author.Tests.{lt-ltb, le-ltb}
@@ -17,14 +17,12 @@ use Rattle.answers.specs.Answer.{Answer, accepted, refused, refuse, passUp}
 use Rattle.answers.proofs.AnswerLaws.{passUp-accepted}
 use Rattle.field.specs.Head.{headBytes}
 use Rattle.field.proofs.HeadLaws.{length-headBytes, front-written}
-use Rattle.field.specs.Bits.{pairs}
-use Rattle.field.proofs.BitLaws.{field-lt}
-use Rattle.field.proofs.RecordLaws.{rest-is, pairs-drop}
-use Rattle.field.proofs.UnitLaws.{Fitting, fitting, tail-units}
+use Rattle.field.specs.Listed.{movesAt}
 use Rattle.field.specs.Writing.{written, leftBy, Fits}
 use Rattle.field.proofs.WritingLaws.{length-written}
 use Rattle.order.specs.Order.{floorOf, startsOf}
-use Rattle.plan.specs.Plan.{moveCount, planMoves, wrongPlanLength, planAnswer}
+use Rattle.plan.specs.Plan.{named, moveCount, planMoves, planAnswer}
+use Rattle.plan.proofs.Accepted.{PlanGave, gave, count-is, count-below, tail-moves}
 use Rattle.plan.proofs.PlanRecord.{moves-counted}
 use Rattle.timetable.specs.Timetable.{timetableRecord}
 use Rattle.scheduling.specs.Making.{timed, greatest}
@@ -35,7 +33,7 @@ use Rattle.scheduling.specs.Windows.{allSteps}
 use Rattle.scheduling.proofs.TabledSteps.{latest-rule, allSteps-made}
 use Rattle.scheduling.proofs.RecordBytes.{record-bytes}
 use Rattle.scheduling.specs.Maker.{madeOf, makerAnswer, bufferAfter}
-use Rattle.scheduling.proofs.MakerLaws.{PlanGave, plan-gave, made-of, made-packable}
+use Rattle.scheduling.proofs.MakerLaws.{made-of, made-packable}
 
 module _ (o p B : List ℕ) where
   -- an answer of the maker, and what it leaves
@@ -57,97 +55,76 @@ module _ (o p B : List ℕ) where
       (down ∙ sym up, after-refusal n q up)
 
   module _ (k : ℕ) (e : accepted (k ∷ []) ≡ planAnswer o p) where
-    gave : PlanGave o p (k ∷ [])
-    gave = plan-gave o p (k ∷ []) (sym e)
+    gives : PlanGave o p (k ∷ [])
+    gives = gave o p k e
 
-    count-is : k ≡ moveCount p
-    count-is = let c : moveCount p ∷ [] ≡ k ∷ [] = gave .counted in cc
-
-    pub count-below : k < 2 ^ 22
-    unfolding moveCount
-    count-below = rw count-is (field-lt p 0 22)
-
-    fit : Fitting p (2 * moveCount p)
-    unfolding wrongPlanLength
-    fit = fitting p (2 * moveCount p) (gave .length-right)
-
-    pub head-there : 3 ≤ length p
-    head-there = fit .head-there
-
-    -- the tail has the plan's moves
-    pub tail-moves : pairs (take (length p - 3) (drop 3 p)) 0 k ≡ planMoves p
-    unfolding planMoves
-    tail-moves = rw (rest-is 3 p, ← pairs-drop p 3 0 k, count-is) refl
-
-    pub tail-fits : 12 * k ≤ 8 * length (take (length p - 3) (drop 3 p))
-    tail-fits = let c = count-is in omega (arith, tail-units p (2 * moveCount p) fit)
-
-    steps-are : allSteps (pairs (take (length p - 3) (drop 3 p)) 0 k) ≡ madeOf o p
-    unfolding madeOf
-    steps-are =
-        ap allSteps tail-moves
-        ∙ allSteps-made (floorOf o) (gave .placed-well .few-positions) (gave .placed-well .starts-sound) (gave .leads)
+    module _ (n : Bool) (edition : n ≡ named p) where
+      steps-are : allSteps (movesAt n (take (length p - 3) (drop 3 p)) 0 k) ≡ madeOf o p
+      unfolding madeOf
+      steps-are =
+          ap allSteps (tail-moves o p k e n edition)
+          ∙ allSteps-made (floorOf o) (gives .placed-well .few-positions) (gives .placed-well .starts-sound) (gives .leads)
 
     answer-is : makerAnswer o p (length B)
         ≡ refuse (ltb (length B) (3 * k + 3)) 44 0 (accepted (greatest (timed (startsOf o) [] (planMoves p)) ∷ []))
     unfolding makerAnswer
-    answer-is = passUp-accepted (planAnswer o p) _ (k ∷ []) (sym e) ∙ rw count-is refl
+    answer-is = passUp-accepted (planAnswer o p) _ (k ∷ []) (sym e) ∙ rw (count-is o p k e) refl
 
     pub maker-short : length B < 3 * k + 3 → (refused 44 0 ≡ makerAnswer o p (length B)) × (B ≡ bufferAfter o p B)
     maker-short h =
         let up : makerAnswer o p (length B) ≡ refused 44 0 = answer-is ∙ rw (lt-ltb (length B) (3 * k + 3) h) refl in
         (sym up, after-refusal 44 0 up)
 
-    module _ (room : 3 * k + 3 ≤ length B) where
+    module _ (n : Bool) (edition : n ≡ named p) (room : 3 * k + 3 ≤ length B) where
       up : makerAnswer o p (length B) ≡ accepted (greatest (timed (startsOf o) [] (planMoves p)) ∷ [])
       up = answer-is ∙ rw (le-ltb (length B) (3 * k + 3) room) refl
 
       few : length (stepsBytes (madeOf o p)) ≤ 3 * k
       unfolding madeOf
-      few = omega (arith, made-of o p (k ∷ []) (sym e) .short, moves-counted p, count-is)
+      few = omega (arith, made-of o p (k ∷ []) (sym e) .short, moves-counted p, (count-is o p k e))
 
-      pub maker-room : Fits B 3 (stepsBytes (allSteps (pairs (take (length p - 3) (drop 3 p)) 0 k)))
-      maker-room = rw steps-are (record { room = omega (arith, few, room) })
+      pub maker-room : Fits B 3 (stepsBytes (allSteps (movesAt n (take (length p - 3) (drop 3 p)) 0 k)))
+      maker-room = rw (steps-are n edition) (record { room = omega (arith, few, room) })
 
-      module _ (s : ℕ) (b : List ℕ) (es : s ≡ latest (pairs (take (length p - 3) (drop 3 p)) 0 k))
-          (eb : b ≡ written B 3 (stepsBytes (allSteps (pairs (take (length p - 3) (drop 3 p)) 0 k)))) where
+      module _ (s : ℕ) (b : List ℕ) (es : s ≡ latest (movesAt n (take (length p - 3) (drop 3 p)) 0 k))
+          (eb : b ≡ written B 3 (stepsBytes (allSteps (movesAt n (take (length p - 3) (drop 3 p)) 0 k)))) where
         count-few : s ≤ k
-        count-few = omega (arith, es, ap latest tail-moves, latest-few (planMoves p), moves-counted p, count-is)
+        count-few = omega (arith, es, ap latest (tail-moves o p k e n edition), latest-few (planMoves p), moves-counted p, count-is o p k e)
 
         pub head-room : (3 ≤ length b) × (s < 2 ^ 22)
         head-room = (
           omega (
             arith,
             ap length eb,
-            length-written B 3 (stepsBytes (allSteps (pairs (take (length p - 3) (drop 3 p)) 0 k))) maker-room,
+            length-written B 3 (stepsBytes (allSteps (movesAt n (take (length p - 3) (drop 3 p)) 0 k))) maker-room,
             room,
           ),
-          omega (arith, count-few, count-below),
+          omega (arith, count-few, (count-below o p k e)),
         )
 
         rule : s ≡ greatest (timed (startsOf o) [] (planMoves p))
         rule =
-            es ∙ ap latest tail-moves
-            ∙ latest-rule (floorOf o) (gave .placed-well .few-positions) (gave .placed-well .starts-sound) (gave .leads)
+            es ∙ ap latest (tail-moves o p k e n edition)
+            ∙ latest-rule (floorOf o) (gives .placed-well .few-positions) (gives .placed-well .starts-sound) (gives .leads)
 
         counted : s ≡ length (madeOf o p)
         unfolding madeOf
         counted = rule ∙ sym (made-of o p (k ∷ []) (sym e) .count)
 
-        whole : timetableRecord (madeOf o p) ≡ headBytes s ++ stepsBytes (madeOf o p)
+        whole : timetableRecord (madeOf o p) ≡ headBytes s 0 ++ stepsBytes (madeOf o p)
         whole =
             record-bytes (madeOf o p) (made-packable o p (k ∷ []) (sym e))
-            ∙ ap (λ (n : ℕ). headBytes n ++ stepsBytes (madeOf o p)) (sym counted)
+            ∙ ap (λ (n : ℕ). headBytes n 0 ++ stepsBytes (madeOf o p)) (sym counted)
 
-        pub maker-made : (c : List ℕ) → c ≡ written b 0 (headBytes s)
+        pub maker-made : (c : List ℕ) → c ≡ written b 0 (headBytes s 0)
             → (accepted (s ∷ []) ≡ makerAnswer o p (length B)) × (c ≡ bufferAfter o p B)
         unfolding bufferAfter
         maker-made c ec =
             let x = stepsBytes (madeOf o p) in
-            let behind : b ≡ written B 3 x = eb ∙ ap (λ (l : List (List (ℕ × ℕ))). written B 3 (stepsBytes l)) steps-are in
-            let buffer : c ≡ written B 0 (headBytes s ++ x) =
-            ec ∙ ap (λ (l : List ℕ). written l 0 (headBytes s)) behind
-            ∙ front-written B (headBytes s) x (length-headBytes s) (omega (arith, few, room)) in (
+            let behind : b ≡ written B 3 x = eb ∙ ap (λ (l : List (List (ℕ × ℕ))). written B 3 (stepsBytes l)) (steps-are n edition) in
+            let buffer : c ≡ written B 0 (headBytes s 0 ++ x) =
+            ec ∙ ap (λ (l : List ℕ). written l 0 (headBytes s 0)) behind
+            ∙ front-written B (headBytes s 0) x (length-headBytes s 0) (omega (arith, few, room)) in (
               ap (λ (n : ℕ). accepted (n ∷ [])) rule ∙ sym up,
               buffer ∙ ap (written B 0) (sym whole) ∙ sym (ap (λ (a : Answer). leftBy a (timetableRecord (madeOf o p)) B) up),
             )

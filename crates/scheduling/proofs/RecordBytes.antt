@@ -7,6 +7,7 @@ use Prim.Native.Nat.{ℕ, _*_, _≤_}
 use mathlib.Core.Path.{_≡_, refl, sym, ap, ap₂, _∙_}
 use mathlib.Core.List.{List, _++_, map}
 use native.Mathlib.Omega.{arith}
+use lib.Dec.{lit<}
 use lib.ListN.{length}
 use Rattle.field.specs.Bits.{bits, bitsOf, pairBits, padded}
 use Rattle.field.specs.Bytes.{more, Bytes, BelowPairs}
@@ -49,5 +50,5 @@ unfolding joined stepsBytes
 steps-bytes no-steps = refl
 steps-bytes (one-step {ms = ms} few below rest) = ap₂ _++_ (step-bytes ms few below) (steps-bytes rest)
 
-pub record-bytes : (l : List (List (ℕ × ℕ))) → Packable l → timetableRecord l ≡ headBytes (length l) ++ stepsBytes l
-record-bytes l p = record-parts l ∙ ap₂ _++_ (head-bytes (length l) (p .few-steps)) (steps-bytes (p .steps-fit))
+pub record-bytes : (l : List (List (ℕ × ℕ))) → Packable l → timetableRecord l ≡ headBytes (length l) 0 ++ stepsBytes l
+record-bytes l p = record-parts l ∙ ap₂ _++_ (head-bytes (length l) 0 (p .few-steps) (lit< tt)) (steps-bytes (p .steps-fit))

@@ -1,6 +1,6 @@
-// The timetable maker: of a plan that the plan checker accepts it makes the timetable by the making rule. specs/Making.antt has the rule,
-// specs/Maker.antt the answer and the buffer afterwards; `make` is the entry point. A pass over the plan fills a window of 4096 steps,
-// which is then written; most plans need one.
+// The timetable maker: of a plan of either edition that the plan checker accepts it makes the timetable by the making rule.
+// specs/Making.antt has the rule, specs/Maker.antt the answer and the buffer afterwards; `make` is the entry point. A pass over the plan
+// fills a window of 4096 steps, which is then written; most plans need one.
 use answers::Fault;
 use plan::PlanVerdict;
 ghost use mathlib.Core.Path.{_≡_};
@@ -8,7 +8,7 @@ ghost use mathlib.Core.List.{[], _∷_};
 ghost use Prim.Native.Nat.{_+_, _*_, _/_, _^_, _≤_, _<_, max};
 ghost use lib.ListN.{length};
 ghost use Rattle.answers.specs.Answer.{accepted, PassedUp};
-ghost use Rattle.field.specs.Bits.{pairs};
+ghost use Rattle.field.specs.Listed.{moveSize, movesAt};
 ghost use Rattle.field.specs.Writing.{written, Fits, Wrote};
 ghost use Rattle.plan.specs.Verdict.{answerOf as planAnswerOf};
 ghost use Rattle.scheduling.specs.Filling.{noted, PassMade, latest};
@@ -81,13 +81,14 @@ fn note(
 // A rack's last step is kept where it now stands, so that no arrangement is needed.
 fn fill(
     tail: &[u8],
+    named: bool,
     k: usize,
     first: usize,
     window: &mut [u8; 262144],
     leaving: &mut [u64; 4096],
 ) -> usize
-    requires { ⌜ (k < 2 ^ 22) × (12 * k ≤ 8 * length (now tail)) ⌝ }
-    ensures { λ r. ⌜ PassMade first (now (window .entry)) (pairs (now (tail .entry)) 0 k) r (now (window .exit)) ⌝ }
+    requires { ⌜ (k < 2 ^ 22) × (6 * (moveSize named * k) ≤ 8 * length (now tail)) ⌝ }
+    ensures { λ r. ⌜ PassMade first (now (window .entry)) (movesAt named (now (tail .entry)) 0 k) r (now (window .exit)) ⌝ }
     ensures { λ _. ⌜ KeepsLeft (now (window .entry)) (now (leaving .entry)) (now (window .exit)) (now (leaving .exit)) ⌝ }
 {
     let mut arrived = [0usize; 64];
@@ -95,7 +96,7 @@ fn fill(
     let mut greatest = 0;
     let mut j = 0;
     while j < k {
-        let step = field::pair_at(tail, j);
+        let step = field::move_at(tail, named, j);
         let a = step.first;
         let b = step.second;
         let t = later(arrived[a] + 1, left[b]);
@@ -149,15 +150,23 @@ struct Progress {
 }
 
 // Makes and writes the steps of one window, those after step `first`, from byte `at` on.
-fn make_window(tail: &[u8], k: usize, first: usize, buffer: &mut [u8], at: usize) -> Progress
-    requires { ⌜ (k < 2 ^ 22) × (12 * k ≤ 8 * length (now tail))
-        × Fits (now buffer) at (stepsBytes (windowSteps (pairs (now tail) 0 k) first)) ⌝ }
-    ensures { λ r. ⌜ (r .steps ≡ latest (pairs (now (tail .entry)) 0 k))
-        × Wrote (now (buffer .entry)) at (stepsBytes (windowSteps (pairs (now (tail .entry)) 0 k) first)) (now (buffer .exit)) (r .next) ⌝ }
+fn make_window(
+    tail: &[u8],
+    named: bool,
+    k: usize,
+    first: usize,
+    buffer: &mut [u8],
+    at: usize,
+) -> Progress
+    requires { ⌜ (k < 2 ^ 22) × (6 * (moveSize named * k) ≤ 8 * length (now tail))
+        × Fits (now buffer) at (stepsBytes (windowSteps (movesAt named (now tail) 0 k) first)) ⌝ }
+    ensures { λ r. ⌜ (r .steps ≡ latest (movesAt named (now (tail .entry)) 0 k))
+        × Wrote (now (buffer .entry)) at (stepsBytes (windowSteps (movesAt named (now (tail .entry)) 0 k) first))
+        (now (buffer .exit)) (r .next) ⌝ }
 {
     let mut window = [0u8; 262144];
     let mut leaving = [0u64; 4096];
-    let s = fill(tail, k, first, &mut window, &mut leaving);
+    let s = fill(tail, named, k, first, &mut window, &mut leaving);
     let n = rows_of(s, first);
     let next = write_window(&window, &leaving, n, buffer, at);
     Progress { steps: s, next }
@@ -165,16 +174,17 @@ fn make_window(tail: &[u8], k: usize, first: usize, buffer: &mut [u8], at: usize
 
 // Makes and writes all steps of the k moves of a plan's tail behind the record's head, window by window, and says how many they are. That
 // is known from the first window on; until then it counts as 1, so that this window is made.
-fn make_steps(tail: &[u8], k: usize, buffer: &mut [u8]) -> usize
-    requires { ⌜ (k < 2 ^ 22) × (12 * k ≤ 8 * length (now tail)) × Fits (now buffer) 3 (stepsBytes (allSteps (pairs (now tail) 0 k))) ⌝ }
-    ensures { λ r. ⌜ (r ≡ latest (pairs (now (tail .entry)) 0 k))
-        × (now (buffer .exit) ≡ written (now (buffer .entry)) 3 (stepsBytes (allSteps (pairs (now (tail .entry)) 0 k)))) ⌝ }
+fn make_steps(tail: &[u8], named: bool, k: usize, buffer: &mut [u8]) -> usize
+    requires { ⌜ (k < 2 ^ 22) × (6 * (moveSize named * k) ≤ 8 * length (now tail))
+        × Fits (now buffer) 3 (stepsBytes (allSteps (movesAt named (now tail) 0 k))) ⌝ }
+    ensures { λ r. ⌜ (r ≡ latest (movesAt named (now (tail .entry)) 0 k))
+        × (now (buffer .exit) ≡ written (now (buffer .entry)) 3 (stepsBytes (allSteps (movesAt named (now (tail .entry)) 0 k)))) ⌝ }
 {
     let mut s = 1;
     let mut at = 3;
     let mut n = 0;
     while 4096 * n < s {
-        let more = make_window(tail, k, 4096 * n, buffer, at);
+        let more = make_window(tail, named, k, 4096 * n, buffer, at);
         s = more.steps;
         at = more.next;
         n += 1;
@@ -210,7 +220,8 @@ pub fn make(order: &[u8], plan: &[u8], buffer: &mut [u8]) -> MakerVerdict
     if buffer.len() < 3 * k + 3 {
         return MakerVerdict::Refused(Fault::TimetableBuffer, 0);
     }
-    let s = make_steps(&plan[3..], k, buffer);
-    field::put_head(buffer, s);
+    let named = plan::names_racks(plan);
+    let s = make_steps(&plan[3..], named, k, buffer);
+    field::put_head(buffer, s, 0);
     MakerVerdict::Accepted(s)
 }

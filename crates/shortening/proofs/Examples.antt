@@ -2,26 +2,30 @@
 -- nothing else.
 --
 --     longPlan                 the case book's order, and its plan after a step out and straight back
+--     longNamed, shortNamed    the same plan with the racks named, and what is left of it
 --     rule-open A ms           the rule's result, with all that it is made of open
+--     shortened-open o p       the moves that it makes of a plan, likewise
 --     long-accepted            it is accepted, with 6 moves
 --     long-shortened           the pair is removed
 --     long-steps, short-steps  its timetable has 4 steps, and that of the result 2
 --     long-shorter             the theorem on it
+--     named-accepted, named-shortened, named-left, named-shorter    so it is with the racks named, and the result names them too
 --     neighbours, apart, visited, freed, to-and-fro    what cancels and what does not
 -- Assumes nothing.
 use Prim.Native.Nat.{ℕ}
 use mathlib.Core.List.{List, [], _∷_}
 use mathlib.Core.Path.{_≡_, refl}
 use Rattle.answers.specs.Answer.{accepted}
-use Rattle.field.specs.Bits.{bits, number, bitsOf, field, pairs, positions}
+use Rattle.field.specs.Bits.{bits, number, bitsOf, field, positions, positionBits, pad, padded, bytes, toBytes}
+use Rattle.field.specs.Listed.{moveSize, rackField, listedMoves, movesOf, units, allUnits}
 use Rattle.sets.specs.First.{firstFrom}
 use Rattle.order.specs.Floor.{some, isPair}
 use Rattle.order.specs.Order.{edgeCount, rackCount, startsOf}
 use Rattle.motion.specs.Arrangement.{Arrangement, rackFrom, rackAt}
 use Rattle.motion.specs.Move.{goesTo, after, afterMove}
 use Rattle.motion.specs.Problem.{arrangementAt}
-use Rattle.motion.specs.Replay.{trace}
-use Rattle.plan.specs.Plan.{moveCount, planMoves, planAnswer}
+use Rattle.motion.specs.Replay.{listed, trace}
+use Rattle.plan.specs.Plan.{spareBits, planBits, planBytes, planRecord, named, moveCount, planListed, planMoves, planAnswer}
 use Rattle.plan.proofs.Examples.{plan-open}
 use Rattle.scheduling.specs.Making.{ofRack, ofLeaving, stepFor, timed, greatest}
 use Rattle.shortening.specs.Rule.{moveAt, rackOf, between, visits, cancels, without, partner, laterMove, shorten, shortened}
@@ -37,17 +41,31 @@ caseBook = 0x08 ∷ 0x0A ∷ 0x08 ∷ 0x00 ∷ 0x10 ∷ 0x02 ∷ 0x04 ∷ 0x20 �
 abbrev longPlan : List ℕ
 longPlan = 0x00 ∷ 0x00 ∷ 0x18 ∷ 0x00 ∷ 0x10 ∷ 0x40 ∷ 0x00 ∷ 0x10 ∷ 0xC2 ∷ 0x08 ∷ 0x00 ∷ 0x43 ∷ []
 
+-- the same with the racks that they move: 1, 1, 1, 2, 2, 1
+abbrev longNamed : List ℕ
+longNamed =
+    0x00 ∷ 0x00 ∷ 0x19 ∷ 0x00 ∷ 0x10 ∷ 0x01 ∷ 0x00 ∷ 0x00 ∷ 0x01 ∷ 0x00 ∷ 0x30 ∷ 0x81 ∷ 0x08 ∷ 0x00 ∷ 0x41 ∷ 0x0C ∷ 0x00 ∷ []
+
+-- 0>1, 3>2, 2>0, 1>3, with the racks that they move: 1, 2, 2, 1
+abbrev shortNamed : List ℕ
+shortNamed = 0x00 ∷ 0x00 ∷ 0x11 ∷ 0x00 ∷ 0x10 ∷ 0x03 ∷ 0x08 ∷ 0x10 ∷ 0x80 ∷ 0x04 ∷ 0x10 ∷ 0xC0 ∷ []
+
 unfoldable pub rule-open : Arrangement → List (ℕ × ℕ) → List (ℕ × ℕ)
 unfolding shortened shorten laterMove partner firstFrom without cancels visits between rackOf moveAt isPair some rackAt rackFrom
     arrangementAt trace afterMove after goesTo
 rule-open A ms = shortened A ms
+
+unfoldable pub shortened-open : List ℕ → List ℕ → List (ℕ × ℕ)
+unfolding shortenedOf rule-open named moveCount planMoves planListed movesOf listedMoves rackField moveSize startsOf edgeCount rackCount
+    field number bitsOf bits positions
+shortened-open o p = shortenedOf o p
 
 pub long-accepted : planAnswer caseBook longPlan ≡ accepted (6 ∷ [])
 unfolding plan-open
 long-accepted = refl
 
 pub long-shortened : shortenedOf caseBook longPlan ≡ (0, 1) ∷ (3, 2) ∷ (2, 0) ∷ (1, 3) ∷ []
-unfolding shortenedOf rule-open moveCount planMoves startsOf edgeCount rackCount field number bitsOf bits pairs positions
+unfolding shortened-open
 long-shortened = refl
 
 -- fewer moves, and here fewer steps
@@ -61,6 +79,24 @@ short-steps = refl
 
 pub long-shorter : Shorter caseBook longPlan
 long-shorter = shorter caseBook longPlan (6 ∷ []) long-accepted
+
+-- with the racks named
+
+pub named-accepted : planAnswer caseBook longNamed ≡ accepted (6 ∷ [])
+unfolding plan-open
+named-accepted = refl
+
+pub named-shortened : shortenedOf caseBook longNamed ≡ (0, 1) ∷ (3, 2) ∷ (2, 0) ∷ (1, 3) ∷ []
+unfolding shortened-open
+named-shortened = refl
+
+-- the record that is written, of the edition read
+pub named-left : planRecord (named longNamed) (startsOf caseBook) (shortenedOf caseBook longNamed) ≡ shortNamed
+unfolding shortened-open planRecord planBytes planBits spareBits listed allUnits units positionBits toBytes padded pad bytes
+named-left = refl
+
+pub named-shorter : Shorter caseBook longNamed
+named-shorter = shorter caseBook longNamed (6 ∷ []) named-accepted
 
 -- out and straight back
 neighbours : shortened (0 ∷ 5 ∷ []) ((0, 1) ∷ (1, 0) ∷ []) ≡ []

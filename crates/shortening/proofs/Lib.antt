@@ -1,6 +1,7 @@
 pub mod StackLaws
 pub mod RuleLaws
 pub mod RemovalLaws
+pub mod RackLaws
 pub mod PassLaws
 pub mod LookingLaws
 pub mod MarkLaws

@@ -5,21 +5,21 @@
 --     Undoing ms i j           a cancelling pair but for the racks
 --     same-rack                in a legal plan the racks follow: the two moves are of one rack
 --     undoing-cancels          so that in a legal plan it is a cancelling pair
---     move-later               two moves without a common position may change places
+--     first-legal, then-legal, alike, move-later    two moves without a common position may change places
 --     undone                   a move and its undoing, with moves between that touch neither position, leave no trace
 --     parts-of                 a list by two of its indices
 --     removal-leads            without a cancelling pair the same moves lead from the same places to the same places
 --     shortens-leads           so the rule's result does
 -- Assumes nothing.
 use Prim.Native.Nat.{ℕ, zero, suc, _+_, _-_, _≤_, _<_}
-use mathlib.Core.Bool.{Bool, true, false, cond, not}
+use mathlib.Core.Bool.{cond}
 use mathlib.Core.List.{List, [], _∷_, _++_, map, append-assoc}
-use mathlib.Core.Logic.{_↔_, _⊎_, inl, inr, ⊎-elim, _≢_}
+use mathlib.Core.Logic.{_⊎_, ⊎-elim, _≢_}
 use mathlib.Core.Path.{_≡_, refl, sym, ap, _∙_}
 use native.Mathlib.Omega.{arith}
 use borrow.Author.Tests.{eq-eqb, ne-eqb}
 use lib.Dec.{T, eqb}
-use lib.ListN.{length, getD, take, drop, length-take, length-drop}
+use lib.ListN.{length, getD, take, drop, length-drop}
 use lib.Seq.{ext-getD, split-at, drop-drop, getD-drop}
 use Rattle.order.specs.Floor.{Floor}
 use Rattle.motion.specs.Arrangement.{Arrangement, occupied, vacant, rackFrom, rackAt}
@@ -31,9 +31,9 @@ use Rattle.motion.proofs.Lawful.{Leads, still, _then_, lawful-first, lawful-app
 use Rattle.motion.proofs.MoveLaws.{legal-parts, move-length, moved-rack, moved-other, turned, turned-back}
 use Rattle.motion.proofs.Test.{equal?}
 use Rattle.motion.proofs.Untouched.{vacant-move}
-use Rattle.shortening.specs.Rule.{moveAt, rackOf, between, cancels, without, FirstPair, Shortens, done, again}
+use Rattle.shortening.specs.Rule.{moveAt, rackOf, between, cancels, without, Shortens, done, again}
 use Rattle.shortening.specs.Stack.{Apart}
-use Rattle.shortening.proofs.RuleLaws.{Cancelling, cancelling, between-at, length-between}
+use Rattle.shortening.proofs.RuleLaws.{cancelling, between-at, length-between}
 
 -- the rack of a move
 
@@ -133,7 +133,7 @@ module _ (F : Floor) (A : Arrangement) (m x : ℕ × ℕ) (a : Apart m x) (l : T
   of-x : T (onFloor F x) × T (occupied (afterMove A m) (x .0)) × T (vacant (afterMove A m) (x .1))
   of-x = legal-parts F (afterMove A m) x .0 k
 
-  first-legal : T (legalMove F A x)
+  pub first-legal : T (legalMove F A x)
   first-legal =
       legal-parts F A x .1 (
         of-x .0,
@@ -152,7 +152,7 @@ module _ (F : Floor) (A : Arrangement) (m x : ℕ × ℕ) (a : Apart m x) (l : T
             (moved-other A m i h (λ c. a .left-entered (sym c ∙ e)) ∙ e)),
       )
 
-  then-legal : T (legalMove F (afterMove A x) m)
+  pub then-legal : T (legalMove F (afterMove A x) m)
   then-legal =
       let r = occupied-rack A (m .0) .0 (of-m .1) in
       legal-parts F (afterMove A x) m .1 (
@@ -185,7 +185,7 @@ module _ (F : Floor) (A : Arrangement) (m x : ℕ × ℕ) (a : Apart m x) (l : T
       (equal? (getD A i 0) (x .0)))
       (equal? (getD A i 0) (m .0))
 
-  alike : afterMove (afterMove A m) x ≡ afterMove (afterMove A x) m
+  pub alike : afterMove (afterMove A m) x ≡ afterMove (afterMove A x) m
   alike =
       let one : length (afterMove (afterMove A m) x) ≡ length A = rw (move-length (afterMove A m) x, move-length A m) in
       let two : length (afterMove (afterMove A x) m) ≡ length A = rw (move-length (afterMove A x) m, move-length A x) in

@@ -1,60 +1,70 @@
 -- The shortener's answers: the plan checker's refusal passed up, 37, and the shortened plan.
 --
 --     shortener-refused    a refusal of the plan checker is the shortener's, and the buffer stays
---     count-below, head-there, tail-fits    what an accepted plan tells: few moves, a head, and a tail that has the moves
 --     shortener-short      37
 --     part-head, part-back, part-room    the head and the moves have room
---     moveAt-read          a move of a list that is read, as it is read by its index
+--     listedAt-read        a move of a list that is read, as it is read by its index
 --     passes-same          a pass over the same moves
 --     few-kept             the count of what is kept fits the head
 --     moves-small          an accepted answer's count is below 2 ^ 22
 --     shortener-made       the answer and the buffer, once moves and head are written
 -- Assumes nothing.
 use Prim.Native.Nat.{ℕ, zero, suc, _+_, _-_, _*_, _/_, _^_, _≤_, _<_}
-use mathlib.Core.Path.{_≡_, refl, sym, ap, ap₂, _∙_}
-use mathlib.Core.List.{List, [], _∷_, _++_, append-nil}
+use mathlib.Core.Bool.{Bool}
+use mathlib.Core.Path.{_≡_, refl, sym, ap, _∙_}
+use mathlib.Core.List.{List, [], _∷_, _++_}
 use native.Mathlib.Omega.{arith}
 use native.Mathlib.Nat.{zero-add}
 use borrow.Author.Tests.{lt-ltb, le-ltb}
 use lib.Dec.{ltb}
-use lib.ListN.{length, getD, take, drop, length-append, length-drop, drop-of-length-le}
-use lib.Seq.{drop-drop, length-take-le}
+use lib.ListN.{length, getD, take, drop, length-append, length-drop}
+use lib.Seq.{length-take-le}
 use Rattle.answers.specs.Answer.{Answer, accepted, refused, refuse, passUp}
 use Rattle.answers.proofs.AnswerLaws.{refuse-else, passUp-high, passUp-refused, passUp-accepted}
-use Rattle.field.specs.Bits.{field, pairs}
+use Rattle.field.specs.Bits.{field}
 use Rattle.field.specs.Head.{headBytes}
-use Rattle.field.specs.Packing.{pack}
+use Rattle.field.specs.Listed.{moveSize, rackField, listedMoves, allUnits, ListedFit}
+use Rattle.field.specs.Packing.{packPositions}
 use Rattle.field.specs.Writing.{written, leftBy}
 use Rattle.field.proofs.BitLaws.{field-lt}
-use Rattle.field.proofs.HeadLaws.{length-headBytes, front-written}
-use Rattle.field.proofs.PackingLaws.{length-pack}
-use Rattle.field.proofs.RecordLaws.{rest-is, pairs-drop}
-use Rattle.field.proofs.UnitLaws.{Fitting, fitting, tail-units}
-use Rattle.field.proofs.WritingLaws.{written-front}
+use Rattle.field.proofs.HeadLaws.{length-headBytes, record-written}
+use Rattle.field.proofs.ListedLaws.{size-none, size-next, length-units, listed-drop}
+use Rattle.field.proofs.PackingLaws.{length-packed}
+use Rattle.field.proofs.RecordLaws.{rest-is}
+use Rattle.field.proofs.UnitLaws.{Fitting, fitting}
 use Rattle.order.specs.Order.{floorOf, startsOf, goalsOf}
-use Rattle.motion.proofs.Lawful.{Leads}
-use Rattle.tables.proofs.AcceptedLaws.{well-placed}
-use Rattle.plan.specs.Plan.{planRecord, moveCount, planMoves, wrongPlanLength, planAnswer}
-use Rattle.plan.proofs.Limits.{LeadingPlan, accepted-leads}
-use Rattle.plan.proofs.PlanRecord.{moves-counted, record-parts}
-use Rattle.plan.proofs.Replayed.{leads-small}
-use Rattle.shortening.specs.Rule.{moveAt, shortened}
+use Rattle.motion.specs.Replay.{listed}
+use Rattle.motion.proofs.ListedLaws.{LeadsListed, listed-leads}
+use Rattle.plan.specs.Plan.{spareBits, planRecord, named, moveCount, planListed, planMoves, planUnits, wrongPlanLength, planAnswer}
+use Rattle.plan.proofs.Accepted.{PlanGave, gave, count-is, count-below}
+use Rattle.plan.proofs.Listing.{length-listing, listing-fits}
+use Rattle.plan.proofs.PlanRecord.{listed-counted, moves-counted, record-parts}
+use Rattle.plan.proofs.Replayed.{listed-fits}
+use Rattle.shortening.specs.Rule.{shortened}
 use Rattle.shortening.specs.Stack.{Passes, begun, next, laid}
-use Rattle.shortening.specs.Looking.{moveOf, Shortened}
+use Rattle.shortening.specs.Looking.{listedOf, Shortened}
 use Rattle.shortening.specs.Shortener.{shortenedOf, shortenerAnswer, bufferAfter}
+use Rattle.shortening.proofs.LookingLaws.{bytes-fewer}
 use Rattle.shortening.proofs.RuleLaws.{shortened-rule, shortens-length}
 use Rattle.shortening.proofs.RemovalLaws.{shortens-leads}
-use Rattle.shortening.proofs.PassLaws.{passes-is}
+use Rattle.shortening.proofs.PassLaws.{listedAt, passes-listed}
 
--- the moves of a byte string, by their indices
-pub moveAt-read : (s : List ℕ) (b k i : ℕ) → i < k → getD (pairs s b k) i (0, 0) ≡ (field s (b + 12 * i) 6, field s (b + 12 * i + 6) 6)
-unfolding pairs
-moveAt-read s b zero i h = absurd (omega arith)
-moveAt-read s b (suc k) zero h = let e : b + 12 * 0 ≡ b = omega arith in rw e
-moveAt-read s b (suc k) (suc i) h =
-    let e : b + 12 * suc i ≡ b + 12 + 12 * i = omega arith in rw e (moveAt-read s (b + 12) k i (omega arith))
+-- the moves of a byte string, as it lists them, by their indices
+pub listedAt-read : (e : Bool) (s : List ℕ) (b k i : ℕ) → i < k
+    → getD (listedMoves e s b k) i (0, 0, 0)
+    ≡ (
+      field s (b + 6 * (moveSize e * i)) 6,
+      field s (b + 6 * (moveSize e * i) + 6) 6,
+      rackField e s (b + 6 * (moveSize e * i) + 12),
+    )
+unfolding listedMoves
+listedAt-read e s b zero i h = absurd (omega arith)
+listedAt-read e s b (suc k) zero h = let z : b + 6 * (moveSize e * 0) ≡ b = omega (arith, size-none e) in rw z
+listedAt-read e s b (suc k) (suc i) h =
+    let z : b + 6 * (moveSize e * suc i) ≡ b + 6 * moveSize e + 6 * (moveSize e * i) = omega (arith, size-next e i) in
+    rw z (listedAt-read e s (b + 6 * moveSize e) k i (omega arith))
 
-pub passes-same : (f g : ℕ → ℕ × ℕ) {j : ℕ} {K : List (ℕ × ℕ)} → ((i : ℕ) → i < j → f i ≡ g i) → Passes f j K → Passes g j K
+pub passes-same : (f g : ℕ → ℕ × ℕ × ℕ) {j : ℕ} {K : List (ℕ × ℕ × ℕ)} → ((i : ℕ) → i < j → f i ≡ g i) → Passes f j K → Passes g j K
 passes-same f g same begun = begun
 passes-same f g same (next {j = j} p q) =
     next (passes-same f g (λ i h. same i (omega arith)) p) (rw (same j (omega arith)) at q)
@@ -62,7 +72,7 @@ passes-same f g same (next {j = j} p q) =
 module _ (o p B : List ℕ) where
   after-refusal : (n q : ℕ) → shortenerAnswer o p (length B) ≡ refused n q → B ≡ bufferAfter o p B
   unfolding bufferAfter
-  after-refusal n q e = sym (ap (λ (a : Answer). leftBy a (planRecord (shortenedOf o p)) B) e)
+  after-refusal n q e = sym (ap (λ (a : Answer). leftBy a (planRecord (named p) (startsOf o) (shortenedOf o p)) B) e)
 
   pub shortener-refused : (a r : Answer) (n q : ℕ) → a ≡ planAnswer o p → a ≡ refused n q → r ≡ passUp a (accepted (0 ∷ []))
       → (r ≡ shortenerAnswer o p (length B)) × (B ≡ bufferAfter o p B)
@@ -73,36 +83,33 @@ module _ (o p B : List ℕ) where
       (down ∙ sym up, after-refusal n q up)
 
   module _ (k : ℕ) (e : accepted (k ∷ []) ≡ planAnswer o p) where
-    gave : LeadingPlan o p (k ∷ [])
-    gave = accepted-leads o p (k ∷ []) .0 (sym e)
+    gives : PlanGave o p (k ∷ [])
+    gives = gave o p k e
 
-    count-is : k ≡ moveCount p
-    count-is = let c : moveCount p ∷ [] ≡ k ∷ [] = gave .counted in cc
+    count : k ≡ moveCount p
+    count = count-is o p k e
 
-    pub count-below : k < 2 ^ 22
-    unfolding moveCount
-    count-below = rw count-is (field-lt p 0 22)
+    few-moves : k < 2 ^ 22
+    few-moves = count-below o p k e
 
-    fit : Fitting p (2 * moveCount p)
+    fit : Fitting p (planUnits p)
     unfolding wrongPlanLength
-    fit = fitting p (2 * moveCount p) (gave .length-right)
+    fit = fitting p (planUnits p) (gives .length-right)
 
-    pub head-there : 3 ≤ length p
-    head-there = fit .head-there
-
-    length-is : length p ≡ 3 + (12 * k + 7) / 8
-    length-is = let c = count-is in let six : 6 * (2 * moveCount p) ≡ 12 * k = omega arith in fit .length-is ∙ rw six refl
+    length-is : length p ≡ 3 + (6 * (moveSize (named p) * k) + 7) / 8
+    unfolding planUnits
+    length-is = rw count (fit .length-is)
 
     -- the part of a byte string behind a head
     abbrev behind : List ℕ → List ℕ
     behind l = take (length l - 3) (drop 3 l)
 
-    tail-moves : pairs (behind p) 0 k ≡ planMoves p
-    unfolding planMoves
-    tail-moves = rw (rest-is 3 p, ← pairs-drop p 3 0 k, count-is) refl
+    tail-listed : listedMoves (named p) (behind p) 0 k ≡ planListed p
+    unfolding planListed
+    tail-listed = rw (rest-is 3 p, ← listed-drop (named p) p 3 0 k, count) refl
 
-    pub tail-fits : 12 * k ≤ 8 * length (behind p)
-    tail-fits = let c = count-is in omega (arith, tail-units p (2 * moveCount p) fit)
+    leads-listed : LeadsListed (floorOf o) (startsOf o) (planListed p) (goalsOf o)
+    leads-listed = rw (gives .racks-told) (listed-leads (named p) (floorOf o) (gives .leads))
 
     answer-is : shortenerAnswer o p (length B) ≡ refuse (ltb (length B) (length p)) 37 0 (accepted (length (shortenedOf o p) ∷ []))
     unfolding shortenerAnswer
@@ -115,79 +122,104 @@ module _ (o p B : List ℕ) where
 
     module _ (room : length p ≤ length B) where
       pub part-head : 3 ≤ length B
-      part-head = omega (arith, head-there, room)
+      part-head = omega (arith, fit .head-there, room)
 
       -- the buffer when its part behind the head has come back
       pub part-back : (y : List ℕ) → 3 ≤ length (take 3 B ++ y)
       part-back y = omega (arith, length-append (take 3 B) y, length-take-le 3 B part-head)
 
-      pub part-room : (12 * k + 7) / 8 ≤ length (behind B)
-      part-room = rw (rest-is 3 B, length-drop 3 B) (omega (arith, length-is, room))
+      pub part-room : (edition : Bool) → edition ≡ named p → (6 * (moveSize edition * k) + 7) / 8 ≤ length (behind B)
+      part-room edition told = rw (told, rest-is 3 B, length-drop 3 B) (omega (arith, length-is, room))
 
       up : shortenerAnswer o p (length B) ≡ accepted (length (shortenedOf o p) ∷ [])
       up = answer-is ∙ rw (le-ltb (length B) (length p) room) refl
 
-      module _ (n : ℕ) (t : List ℕ) (w : Shortened (behind p) k (behind B) n t) where
-        abbrev kept : List (ℕ × ℕ)
-        kept = laid (w .stack) []
+      -- what is left, as the edition lists it
+      left : List (ℕ × ℕ × ℕ)
+      left = listed (named p) (startsOf o) (shortenedOf o p)
 
-        moves : Passes (moveAt (planMoves p)) (length (planMoves p)) (w .stack)
-        unfolding moveOf moveAt
+      count-left : length left ≡ length (shortenedOf o p)
+      unfolding left
+      count-left = length-listing (named p) (startsOf o) (shortenedOf o p)
+
+      few : length left ≤ k
+      unfolding shortenedOf
+      few =
+          omega (
+            arith,
+            count-left,
+            shortens-length (startsOf o) (shortened-rule (startsOf o) (planMoves p)),
+            moves-counted p,
+            count,
+          )
+
+      fits : ListedFit (named p) left
+      unfolding left shortenedOf
+      fits =
+          let g = gives .placed-well in
+          listing-fits (named p) (floorOf o) (g .few-positions) (rw (g .starts-length) (g .few-racks))
+          (shortens-leads (floorOf o) (shortened-rule (startsOf o) (planMoves p)) (gives .leads))
+
+      module _ (edition : Bool) (told : edition ≡ named p) (n : ℕ) (t : List ℕ) (w : Shortened edition (behind p) k (behind B) n t) where
+        wrote : Shortened (named p) (behind p) k (behind B) n t
+        wrote = rw told at w
+
+        moves : Passes (listedAt (planListed p)) (length (planListed p)) (wrote .stack)
+        unfolding listedOf listedAt
         moves =
-            let many : length (planMoves p) ≡ k = moves-counted p ∙ sym count-is in
-            let same : (i : ℕ) → i < k → moveOf (behind p) i ≡ moveAt (planMoves p) i =
+            let many : length (planListed p) ≡ k = listed-counted p ∙ sym count in
+            let same : (i : ℕ) → i < k → listedOf (named p) (behind p) i ≡ listedAt (planListed p) i =
             λ i h.
-            let at : 0 + 12 * i ≡ 12 * i = zero-add (12 * i) in
-            rw (← tail-moves) (sym (moveAt-read (behind p) 0 k i h ∙ rw at refl)) in
-            rw many (passes-same (moveOf (behind p)) (moveAt (planMoves p)) same (w .passes))
+            let at : 0 + 6 * (moveSize (named p) * i) ≡ 6 * (moveSize (named p) * i) = zero-add (6 * (moveSize (named p) * i)) in
+            rw (← tail-listed) (sym (listedAt-read (named p) (behind p) 0 k i h ∙ rw at refl)) in
+            rw many (passes-same (listedOf (named p) (behind p)) (listedAt (planListed p)) same (wrote .passes))
 
-        kept-is : kept ≡ shortenedOf o p
-        unfolding shortenedOf
-        kept-is = passes-is (floorOf o) (startsOf o) (goalsOf o) (planMoves p) (gave .leads) (w .stack) moves
+        -- each move that is kept has the rack that replay of what is left tells
+        kept-is : laid (wrote .stack) [] ≡ left
+        unfolding left shortenedOf planMoves
+        kept-is =
+            passes-listed (floorOf o) (startsOf o) (goalsOf o) (planListed p) leads-listed (wrote .stack) moves (named p) (listed-fits p)
 
-        leads : Leads (floorOf o) (startsOf o) (shortenedOf o p) (goalsOf o)
-        unfolding shortenedOf
-        leads = shortens-leads (floorOf o) (shortened-rule (startsOf o) (planMoves p)) (gave .leads)
-
-        count : n ≡ length (shortenedOf o p)
-        count = w .packed .counted ∙ ap length kept-is
-
-        few : length (shortenedOf o p) ≤ k
-        unfolding shortenedOf
-        few = omega (arith, shortens-length (startsOf o) (shortened-rule (startsOf o) (planMoves p)), moves-counted p, count-is)
+        left-counted : n ≡ length (shortenedOf o p)
+        left-counted = wrote .packed .counted ∙ ap length kept-is ∙ count-left
 
         pub few-kept : n < 2 ^ 22
-        few-kept = omega (arith, count, few, count-below)
+        few-kept = omega (arith, left-counted, count-left, few, few-moves)
+
+        abbrev packed : List ℕ
+        packed = packPositions (allUnits (named p) left)
 
         -- the moves, packed behind the head
-        packed-behind : take 3 B ++ (t ++ drop (length B - 3) (drop 3 B)) ≡ written B 3 (pack (shortenedOf o p))
-        unfolding written
+        packed-behind : t ≡ written (behind B) 0 packed
         packed-behind =
-            let ms = shortenedOf o p in
-            let nothing : drop (length B - 3) (drop 3 B) ≡ [] =
-            drop-of-length-le (drop 3 B) {i = length B - 3} (rw (length-drop 3 B) (omega arith)) in
-            let after : t ≡ pack ms ++ drop (3 + length (pack ms)) B =
-            w .packed .packed ∙ ap (λ (l : List (ℕ × ℕ)). written (behind B) 0 (pack l)) kept-is ∙ written-front (behind B) (pack ms)
-            ∙ ap (λ (x : List ℕ). pack ms ++ drop (length (pack ms)) x) (rest-is 3 B)
-            ∙ ap (λ (x : List ℕ). pack ms ++ x) (drop-drop (length (pack ms)) 3 B) in
-            rw (nothing, append-nil t) (ap (λ (x : List ℕ). take 3 B ++ x) after)
+            wrote .packed .packed
+            ∙ ap (λ (l : List (ℕ × ℕ × ℕ)). written (behind B) 0 (packPositions (allUnits (named p) l))) kept-is
 
-        parts : planRecord (shortenedOf o p) ≡ headBytes n ++ pack (shortenedOf o p)
+        parts : planRecord (named p) (startsOf o) (shortenedOf o p) ≡ headBytes n (spareBits (named p)) ++ packed
+        unfolding planRecord left
         parts =
-            record-parts (shortenedOf o p) (omega (arith, few, count-below))
-            (leads-small (floorOf o) (well-placed o (gave .order-right) .few-positions) leads)
-            ∙ ap (λ (j : ℕ). headBytes j ++ pack (shortenedOf o p)) (sym count)
+            record-parts (named p) left (omega (arith, few, few-moves)) fits
+            ∙ ap (λ (j : ℕ). headBytes j (spareBits (named p)) ++ packed) (count-left ∙ sym left-counted)
 
-        pub shortener-made : (x : List ℕ) → x ≡ written (take 3 B ++ (t ++ drop (length B - 3) (drop 3 B))) 0 (headBytes n)
+        short : 3 + length packed ≤ length B
+        short =
+            let size : length packed ≡ (6 * (moveSize (named p) * length left) + 7) / 8 =
+            length-packed (allUnits (named p) left) ∙ rw (length-units (named p) left) refl in
+            let less = bytes-fewer (named p) (length left) k (length p - 3) few (omega (arith, length-is)) in
+            omega (arith, size, less, fit .head-there, room)
+
+        pub shortener-made : (b : ℕ) → b ≡ spareBits edition → (x : List ℕ)
+            → x ≡ written (take 3 B ++ (t ++ drop (length B - 3) (drop 3 B))) 0 (headBytes n b)
             → (accepted (n ∷ []) ≡ shortenerAnswer o p (length B)) × (x ≡ bufferAfter o p B)
         unfolding bufferAfter
-        shortener-made x is =
-            let ms = shortenedOf o p in
-            let short : 3 + length (pack ms) ≤ length B = omega (arith, few, length-pack ms, length-is, room) in (
-              ap (λ (j : ℕ). accepted (j ∷ [])) count ∙ sym up,
-              is ∙ ap (λ (b : List ℕ). written b 0 (headBytes n)) packed-behind
-                  ∙ front-written B (headBytes n) (pack ms) (length-headBytes n) short ∙ ap (written B 0) (sym parts)
-                  ∙ sym (ap (λ (a : Answer). leftBy a (planRecord ms) B) up),
+        shortener-made b spare x is =
+            let head = headBytes n (spareBits (named p)) in
+            let spare-is : b ≡ spareBits (named p) = spare ∙ ap spareBits told in (
+              ap (λ (j : ℕ). accepted (j ∷ [])) left-counted ∙ sym up,
+              is ∙ ap (λ (y : ℕ). written (take 3 B ++ (t ++ drop (length B - 3) (drop 3 B))) 0 (headBytes n y)) spare-is
+                  ∙ record-written B head packed t (length-headBytes n (spareBits (named p))) short packed-behind
+                  ∙ ap (written B 0) (sym parts)
+                  ∙ sym (ap (λ (a : Answer). leftBy a (planRecord (named p) (startsOf o) (shortenedOf o p)) B) up),
             )
 
 -- what acceptance by the shortener tells: the plan is accepted, and at most its moves are left

@@ -5,34 +5,34 @@
 --     one-result       the rule makes one list of a list, and the function gives it
 --     shorter          what holds of the result for every accepted plan
 -- Assumes nothing.
-use Prim.Native.Nat.{ℕ, _*_, _^_, _<_, _≤_}
+use Prim.Native.Nat.{ℕ, _+_, _-_, _*_, _/_, _^_, _<_, _≤_}
 use mathlib.Core.List.{List, [], _∷_}
 use mathlib.Core.Logic.{_↔_}
 use mathlib.Core.Path.{_≡_, refl, sym, ap, ap₂, _∙_, subst}
 use native.Mathlib.Omega.{arith}
 use lib.Dec.{T}
 use lib.ListN.{length}
-use Rattle.answers.specs.Answer.{Answer, accepted}
+use Rattle.answers.specs.Answer.{accepted}
+use Rattle.field.specs.Listed.{moveSize, movesOf}
 use Rattle.field.specs.Units.{recordLength}
 use Rattle.field.proofs.BitLaws.{field-lt}
 use Rattle.field.proofs.UnitLaws.{Fitting, fitting}
 use Rattle.order.specs.Floor.{Floor}
 use Rattle.order.specs.Order.{floorOf, startsOf, goalsOf}
 use Rattle.motion.specs.Arrangement.{Arrangement}
-use Rattle.motion.specs.Replay.{ended, replayMoves}
+use Rattle.motion.specs.Replay.{ended, replayMoves, listed}
 use Rattle.motion.proofs.Lawful.{Leads, replayMoves-ended}
 use Rattle.tables.proofs.AcceptedLaws.{well-placed}
-use Rattle.plan.specs.Plan.{planRecord, moveCount, planMoves, wrongPlanLength, planAnswer}
+use Rattle.plan.specs.Plan.{planBytes, planRecord, named, moveCount, planListed, planMoves, planUnits, wrongPlanLength, planAnswer}
 use Rattle.plan.proofs.Limits.{LeadingPlan, accepted-leads}
+use Rattle.plan.proofs.Listing.{moves-listed, length-listing, listing-fits}
 use Rattle.plan.proofs.PlanRecord.{moves-counted, length-record, Written, written as read-back}
-use Rattle.plan.proofs.Replayed.{leads-small}
-use Rattle.timetable.specs.Timetable.{timetableRecord, timetableAnswer}
 use Rattle.scheduling.specs.Making.{timed, greatest}
-use Rattle.scheduling.specs.Maker.{madeOf}
 use Rattle.scheduling.proofs.MakerLaws.{timetabled}
-use Rattle.shortening.specs.Rule.{cancels, without, NoPair, Shortens, shortened}
+use Rattle.shortening.specs.Rule.{cancels, without, Shortens, shortened}
 use Rattle.shortening.specs.Shortener.{shortenedOf}
 use Rattle.shortening.specs.Theorems.{Shorter}
+use Rattle.shortening.proofs.LookingLaws.{bytes-fewer}
 use Rattle.shortening.proofs.RuleLaws.{partner-unique, shortens-unique, shortened-rule, shortens-none, shortens-length}
 use Rattle.shortening.proofs.RuleLaws.{shortens-again}
 use Rattle.shortening.proofs.RemovalLaws.{removal-leads, shortens-leads}
@@ -72,40 +72,80 @@ module _ (o p v : List ℕ) (e : planAnswer o p ≡ accepted v) where
   unfolding moveCount
   small = field-lt p 0 22
 
-  read : Written left
-  read =
-      read-back left (omega (arith, few, small)) (leads-small (floorOf o) (well-placed o (gave .order-right) .few-positions) leads)
+  -- what is left, as the edition of p lists it
+  rest : List (ℕ × ℕ × ℕ)
+  rest = listed (named p) (startsOf o) left
 
-  accepted-too : planAnswer o (planRecord left) ≡ accepted (length left ∷ [])
+  made : List ℕ
+  made = planRecord (named p) (startsOf o) left
+
+  read : Written (named p) rest
+  unfolding rest
+  read =
+      let g = well-placed o (gave .order-right) in
+      read-back (named p) (listed (named p) (startsOf o) left)
+      (omega (arith, length-listing (named p) (startsOf o) left, few, small))
+      (listing-fits (named p) (floorOf o) (g .few-positions) (rw (g .starts-length) (g .few-racks)) leads)
+
+  record-is : made ≡ planBytes (named p) rest
+  unfolding made planRecord rest
+  record-is = refl
+
+  edition-is : named made ≡ named p
+  edition-is = rw record-is (read .edition-is)
+
+  listed-are : planListed made ≡ rest
+  listed-are = rw record-is (read .listed-are)
+
+  moves-are : planMoves made ≡ left
+  unfolding planMoves rest
+  moves-are = ap movesOf listed-are ∙ moves-listed (named p) (startsOf o) left
+
+  count-is : moveCount made ≡ length left
+  unfolding rest
+  count-is = rw record-is (read .count-is) ∙ length-listing (named p) (startsOf o) left
+
+  accepted-too : planAnswer o made ≡ accepted (length left ∷ [])
+  unfolding rest
   accepted-too =
-      accepted-leads o (planRecord left) (length left ∷ []) .1
+      accepted-leads o made (length left ∷ []) .1
       (record {
         order-right = gave .order-right;
-        length-right = read .length-right;
-        padding-clear = read .padding-clear;
-        counted = ap (λ (k : ℕ). k ∷ []) (read .count-is);
-        leads = rw (read .moves-are) leads;
+        length-right = rw record-is (read .length-right);
+        padding-clear = rw record-is (read .padding-clear);
+        counted = ap (λ (k : ℕ). k ∷ []) count-is;
+        leads = rw moves-are leads;
+        racks-told = rw (edition-is, moves-are) listed-are;
       })
 
-  fit : Fitting p (2 * moveCount p)
+  fit : Fitting p (planUnits p)
   unfolding wrongPlanLength
-  fit = fitting p (2 * moveCount p) (gave .length-right)
+  fit = fitting p (planUnits p) (gave .length-right)
 
-  stays : shortenedOf o (planRecord left) ≡ left
+  short : length made ≤ length p
+  unfolding made recordLength planUnits
+  short =
+      let size : length (planRecord (named p) (startsOf o) left) ≡ 3 + (6 * (moveSize (named p) * length left) + 7) / 8 =
+      length-record (named p) (startsOf o) left in
+      let given : length p ≡ 3 + (6 * (moveSize (named p) * moveCount p) + 7) / 8 = fit .length-is in
+      let less = bytes-fewer (named p) (length left) (moveCount p) (length p - 3) few (omega (arith, given)) in
+      omega (arith, size, less, fit .head-there)
+
+  stays : shortenedOf o made ≡ left
   unfolding shortenedOf
-  stays = ap (shortened (startsOf o)) (read .moves-are) ∙ shortens-again (startsOf o) ruled
+  stays = ap (shortened (startsOf o)) moves-are ∙ shortens-again (startsOf o) ruled
 
   pub shorter : Shorter o p
+  unfolding made
   shorter =
       record {
         by-rule = ruled;
         accepted-too = accepted-too;
         moves-at-most = few;
-        bytes-at-most = unfold recordLength in omega (arith, length-record left, few, fit .length-is);
+        bytes-at-most = short;
         no-pair = shortens-none (startsOf o) ruled;
         stays = stays;
         timetabled =
-            timetabled o (planRecord left) (length left ∷ []) accepted-too .checked
-            ∙ ap₂ (λ (ms : List (ℕ × ℕ)) (k : ℕ). accepted (greatest (timed (startsOf o) [] ms) ∷ k ∷ [])) (read .moves-are)
-            (read .count-is);
+            timetabled o made (length left ∷ []) accepted-too .checked
+            ∙ ap₂ (λ (ms : List (ℕ × ℕ)) (k : ℕ). accepted (greatest (timed (startsOf o) [] ms) ∷ k ∷ [])) moves-are count-is;
       }

@@ -1,5 +1,5 @@
 -- The shortener's answer and the second buffer afterwards, from request (e): "The result is written to a second buffer". "Its input is
--- refused as by the plan checker."
+-- refused as by the plan checker." It reads a plan of either edition and writes the edition that it read.
 --
 --     shortenedOf o p          the moves that the rule makes of the plan p for the order o
 --     shortenerAnswer o p n    the shortener's answer for the order o, the plan p and a second buffer of n bytes
@@ -13,7 +13,7 @@ use lib.Dec.{ltb}
 use Rattle.answers.specs.Answer.{Answer, accepted, refusedBy, refuse, passUp}
 use Rattle.field.specs.Writing.{leftBy}
 use Rattle.order.specs.Order.{startsOf}
-use Rattle.plan.specs.Plan.{planMoves, planRecord, planAnswer}
+use Rattle.plan.specs.Plan.{named, planMoves, planRecord, planAnswer}
 use Rattle.shortening.specs.Rule.{shortened}
 use Rattle.shortening.specs.declared.ShortenerVerdict.{ShortenerVerdict}
 use Rattle.shortening.specs.declared.ShortenerVerdict.the-variants.{Accepted, Refused}
@@ -28,9 +28,10 @@ shortenerAnswer o p n =
     (refuse (ltb n (length p)) 37 0
     (accepted (length (shortenedOf o p) ∷ [])))
 
--- the record at the front of the buffer, "and the bytes after the record are unchanged"
+-- the record at the front of the buffer, "and the bytes after the record are unchanged"; where the plan's moves name their racks, so do
+-- those of the record, each the one that replay from the starts tells
 unfoldable pub bufferAfter : List ℕ → List ℕ → List ℕ → List ℕ
-bufferAfter o p B = leftBy (shortenerAnswer o p (length B)) (planRecord (shortenedOf o p)) B
+bufferAfter o p B = leftBy (shortenerAnswer o p (length B)) (planRecord (named p) (startsOf o) (shortenedOf o p)) B
 
 abbrev pub answerOf : ShortenerVerdict → Answer
 answerOf (Accepted moves) = accepted (moves ∷ [])

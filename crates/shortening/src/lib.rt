@@ -1,6 +1,6 @@
-// The shortener: of a plan that the plan checker accepts it takes away the moves that cancel. specs/Rule.antt has the rule,
-// specs/Shortener.antt the answer and the buffer afterwards; `shorten` is the entry point. One pass over the plan marks the moves that
-// are kept (specs/Stack.antt, specs/Looking.antt), a second one writes them.
+// The shortener: of a plan of either edition that the plan checker accepts it takes away the moves that cancel. specs/Rule.antt has the
+// rule, specs/Shortener.antt the answer and the buffer afterwards; `shorten` is the entry point. One pass over the plan marks the moves
+// that are kept (specs/Stack.antt, specs/Looking.antt), a second one writes them, each with the rack that it names.
 use answers::Fault;
 use plan::PlanVerdict;
 ghost use mathlib.Core.Path.{_≡_};
@@ -10,10 +10,11 @@ ghost use mathlib.Core.Logic.{_↔_};
 ghost use Prim.Native.Nat.{ℕ, _+_, _-_, _*_, _/_, _%_, _^_, _≤_, _<_, max, min};
 ghost use lib.ListN.{length, set};
 ghost use Rattle.answers.specs.Answer.{accepted, PassedUp};
+ghost use Rattle.field.specs.Listed.{moveSize};
 ghost use Rattle.plan.specs.Verdict.{answerOf as planAnswerOf};
 ghost use Rattle.sets.specs.Sets.{Has};
-ghost use Rattle.shortening.specs.Stack.{Passes, laid};
-ghost use Rattle.shortening.specs.Looking.{moveOf, stackOf, ClearFrom, Touching, GoesBack, Forgets, Found, NoneKept};
+ghost use Rattle.shortening.specs.Stack.{moveOf, Passes, laid};
+ghost use Rattle.shortening.specs.Looking.{listedOf, stackOf, ClearFrom, Touching, GoesBack, Forgets, Found, NoneKept};
 ghost use Rattle.shortening.specs.Looking.{Room, Looked, Marks, Unmarks, TakesIn, linkOf, Going, GoesAhead};
 ghost use Rattle.shortening.specs.Looking.{Packed, WritesOne, Shortened};
 ghost use Rattle.shortening.specs.Shortener.{shortenerAnswer, bufferAfter, answerOf};
@@ -26,14 +27,14 @@ fn disjoint(s: u64, t: u64) -> bool
 }
 
 // Is the move of index i kept, and does it touch a position of `ends`?
-fn touching(tail: &[u8], marks: &[u64], i: usize, ends: u64) -> bool
-    requires { ⌜ (12 * i + 12 ≤ 8 * length (now tail)) × (i < 64 * length (now marks)) ⌝ }
-    ensures { λ r. ⌜ (r ≡ true) ↔ Touching (now (tail .entry)) (now (marks .entry)) ends i ⌝ }
+fn touching(tail: &[u8], named: bool, marks: &[u64], i: usize, ends: u64) -> bool
+    requires { ⌜ (6 * (moveSize named * (i + 1)) ≤ 8 * length (now tail)) × (i < 64 * length (now marks)) ⌝ }
+    ensures { λ r. ⌜ (r ≡ true) ↔ Touching (listedOf named (now (tail .entry))) (now (marks .entry)) ends i ⌝ }
 {
     if !sets::has(marks[i / 64], i % 64) {
         return false;
     }
-    let step = field::pair_at(tail, i);
+    let step = field::move_at(tail, named, i);
     if sets::has(ends, step.first) {
         return true;
     }
@@ -84,20 +85,22 @@ fn forget_group(groups: &mut [u64], at: usize, ends: u64)
 // The latest kept move that touches a position of `ends`, below the index `from`, where the search begins: its index plus 1, or 0.
 fn look_back(
     tail: &[u8],
+    named: bool,
     marks: &[u64],
     blocks: &mut [u64],
     groups: &mut [u64],
     from: usize,
     ends: u64,
 ) -> usize
-    requires { ⌜ (12 * from ≤ 8 * length (now tail)) × Room from (now marks) (now blocks) (now groups) ⌝ }
-    requires { ⌜ Looked (now tail) (now marks) (now blocks) (now groups) × ClearFrom (now tail) (now marks) ends from ⌝ }
-    ensures { λ r. ⌜ Found (now (tail .entry)) (now (marks .entry)) ends from r ⌝ }
-    ensures { λ _. ⌜ Looked (now (tail .entry)) (now (marks .entry)) (now (blocks .exit)) (now (groups .exit)) ⌝ }
+    requires { ⌜ (6 * (moveSize named * from) ≤ 8 * length (now tail)) × Room from (now marks) (now blocks) (now groups) ⌝ }
+    requires { ⌜ Looked (listedOf named (now tail)) (now marks) (now blocks) (now groups)
+        × ClearFrom (listedOf named (now tail)) (now marks) ends from ⌝ }
+    ensures { λ r. ⌜ Found (listedOf named (now (tail .entry))) (now (marks .entry)) ends from r ⌝ }
+    ensures { λ _. ⌜ Looked (listedOf named (now (tail .entry))) (now (marks .entry)) (now (blocks .exit)) (now (groups .exit)) ⌝ }
 {
     let mut at = from;
     while at > 0 {
-        if touching(tail, marks, at - 1, ends) {
+        if touching(tail, named, marks, at - 1, ends) {
             return at;
         }
         at = back(marks, blocks, groups, at - 1, ends);
@@ -128,14 +131,14 @@ fn sooner(x: usize, y: usize) -> usize
 }
 
 // Is there a move before the index `at`, and does it go from b to a?
-fn undone(tail: &[u8], at: usize, a: usize, b: usize) -> bool
-    requires { ⌜ 12 * at ≤ 8 * length (now tail) ⌝ }
-    ensures { λ r. ⌜ (r ≡ true) ↔ ((0 < at) × (moveOf (now (tail .entry)) (at - 1) ≡ (b, a))) ⌝ }
+fn undone(tail: &[u8], named: bool, at: usize, a: usize, b: usize) -> bool
+    requires { ⌜ 6 * (moveSize named * at) ≤ 8 * length (now tail) ⌝ }
+    ensures { λ r. ⌜ (r ≡ true) ↔ ((0 < at) × (moveOf (listedOf named (now (tail .entry)) (at - 1)) ≡ (b, a))) ⌝ }
 {
     if at == 0 {
         return false;
     }
-    let step = field::pair_at(tail, at - 1);
+    let step = field::move_at(tail, named, at - 1);
     if step.first != b {
         return false;
     }
@@ -197,6 +200,7 @@ fn set_two(list: &mut [usize; 64], a: usize, b: usize, x: usize, y: usize)
 // Takes the move of index j: where it cancels with a kept one, that one is kept no longer; else the move is kept.
 fn take_move(
     tail: &[u8],
+    named: bool,
     j: usize,
     marks: &mut [u64],
     blocks: &mut [u64],
@@ -205,19 +209,19 @@ fn take_move(
     lefts: &mut [usize; 512],
     enters: &mut [usize; 512],
 )
-    requires { ⌜ (12 * (j + 1) ≤ 8 * length (now tail)) × Room (j + 1) (now marks) (now blocks) (now groups) ⌝ }
-    requires { ⌜ Going (now tail) j (now marks) (now blocks) (now groups) (now bounds) (now lefts) (now enters) ⌝ }
-    ensures { λ _. ⌜ Going (now (tail .entry)) (j + 1) (now (marks .exit)) (now (blocks .exit)) (now (groups .exit))
+    requires { ⌜ (6 * (moveSize named * (j + 1)) ≤ 8 * length (now tail)) × Room (j + 1) (now marks) (now blocks) (now groups) ⌝ }
+    requires { ⌜ Going (listedOf named (now tail)) j (now marks) (now blocks) (now groups) (now bounds) (now lefts) (now enters) ⌝ }
+    ensures { λ _. ⌜ Going (listedOf named (now (tail .entry))) (j + 1) (now (marks .exit)) (now (blocks .exit)) (now (groups .exit))
         (now (bounds .exit)) (now (lefts .exit)) (now (enters .exit)) ⌝ }
 {
-    let step = field::pair_at(tail, j);
+    let step = field::move_at(tail, named, j);
     let a = step.first;
     let b = step.second;
     let ends = sets::with(sets::only(a), b);
     let x = bounds[a];
     let y = bounds[b];
-    let at = look_back(tail, marks, blocks, groups, later(x, y), ends);
-    if undone(tail, at, a, b) {
+    let at = look_back(tail, named, marks, blocks, groups, later(x, y), ends);
+    if undone(tail, named, at, a, b) {
         let gone = at - 1;
         clear_mark(marks, gone);
         set_two(bounds, a, b, link(enters, j, gone), link(lefts, j, gone));
@@ -232,10 +236,17 @@ fn take_move(
 }
 
 // Marks the moves that are kept of the k moves of a plan's tail.
-fn mark_kept(tail: &[u8], k: usize, marks: &mut [u64], blocks: &mut [u64], groups: &mut [u64])
-    requires { ⌜ (k < 2 ^ 22) × (12 * k ≤ 8 * length (now tail)) ⌝ }
+fn mark_kept(
+    tail: &[u8],
+    named: bool,
+    k: usize,
+    marks: &mut [u64],
+    blocks: &mut [u64],
+    groups: &mut [u64],
+)
+    requires { ⌜ (k < 2 ^ 22) × (6 * (moveSize named * k) ≤ 8 * length (now tail)) ⌝ }
     requires { ⌜ Room k (now marks) (now blocks) (now groups) × NoneKept (now marks) ⌝ }
-    ensures { λ _. ⌜ Passes (moveOf (now (tail .entry))) k (stackOf (now (tail .entry)) (now (marks .exit)) k) ⌝ }
+    ensures { λ _. ⌜ Passes (listedOf named (now (tail .entry))) k (stackOf (listedOf named (now (tail .entry))) (now (marks .exit)) k) ⌝ }
 {
     let mut bounds = [0usize; 64];
     let mut lefts = [0usize; 512];
@@ -244,6 +255,7 @@ fn mark_kept(tail: &[u8], k: usize, marks: &mut [u64], blocks: &mut [u64], group
     while j < k {
         take_move(
             tail,
+            named,
             j,
             marks,
             blocks,
@@ -271,68 +283,81 @@ fn ahead(marks: &[u64], i: usize, k: usize) -> usize
     sooner(i / 64 * 64 + sets::lowest(rest), k)
 }
 
-// Writes the move of index i, if it is marked, behind the `count` moves at the front of the room, and says how many these are then.
-fn write_one(tail: &[u8], i: usize, marks: &[u64], room: &mut [u8], count: usize) -> usize
-    requires { ⌜ (i < 2 ^ 22) × (12 * (i + 1) ≤ 8 * length (now tail)) × (i < 64 * length (now marks)) ⌝ }
-    requires { ⌜ (count ≤ i) × ((12 * (i + 1) + 7) / 8 ≤ length (now room)) ⌝ }
-    ensures { λ r. ⌜ WritesOne (now (tail .entry)) i (now (marks .entry)) (now (room .entry)) count (now (room .exit)) r ⌝ }
+// Writes the move of index i, if it is marked, as the plan lists it behind the `count` moves at the front of the room, and says how many
+// these are then.
+fn write_one(
+    tail: &[u8],
+    named: bool,
+    i: usize,
+    marks: &[u64],
+    room: &mut [u8],
+    count: usize,
+) -> usize
+    requires { ⌜ (i < 2 ^ 22) × (6 * (moveSize named * (i + 1)) ≤ 8 * length (now tail)) × (i < 64 * length (now marks)) ⌝ }
+    requires { ⌜ (count ≤ i) × ((6 * (moveSize named * (i + 1)) + 7) / 8 ≤ length (now room)) ⌝ }
+    ensures { λ r. ⌜ WritesOne named (now (tail .entry)) i (now (marks .entry)) (now (room .entry)) count (now (room .exit)) r ⌝ }
 {
     if !sets::has(marks[i / 64], i % 64) {
         return count;
     }
-    let step = field::pair_at(tail, i);
-    field::put_pair(room, count, step.first, step.second);
+    let listed = field::listed_at(tail, named, i);
+    let step = listed.step;
+    field::put_listed(room, named, count, step / 64, step % 64, listed.rack);
     count + 1
 }
 
 // Writes the marked ones of the k moves of a plan's tail to the front of the room behind a record's head, and says how many they are.
-fn write_kept(tail: &[u8], k: usize, marks: &[u64], room: &mut [u8]) -> usize
-    requires { ⌜ (k < 2 ^ 22) × (12 * k ≤ 8 * length (now tail)) × (k ≤ 64 * length (now marks)) ⌝ }
-    requires { ⌜ (12 * k + 7) / 8 ≤ length (now room) ⌝ }
-    ensures { λ r. ⌜ Packed (now (room .entry)) (laid (stackOf (now (tail .entry)) (now (marks .entry)) k) []) r (now (room .exit)) ⌝ }
+fn write_kept(tail: &[u8], named: bool, k: usize, marks: &[u64], room: &mut [u8]) -> usize
+    requires { ⌜ (k < 2 ^ 22) × (6 * (moveSize named * k) ≤ 8 * length (now tail)) × (k ≤ 64 * length (now marks)) ⌝ }
+    requires { ⌜ (6 * (moveSize named * k) + 7) / 8 ≤ length (now room) ⌝ }
+    ensures { λ r. ⌜ Packed named (now (room .entry)) (laid (stackOf (listedOf named (now (tail .entry))) (now (marks .entry)) k) []) r
+        (now (room .exit)) ⌝ }
 {
     let mut count = 0;
     let mut i = 0;
     while i < k {
-        count = write_one(tail, i, marks, room, count);
+        count = write_one(tail, named, i, marks, room, count);
         i = ahead(marks, i + 1, k);
     }
     count
 }
 
 // Marks and writes the moves that are kept of a plan of at most 16,384 moves.
-fn shorten_few(tail: &[u8], k: usize, room: &mut [u8]) -> usize
-    requires { ⌜ (k ≤ 16384) × (12 * k ≤ 8 * length (now tail)) × ((12 * k + 7) / 8 ≤ length (now room)) ⌝ }
-    ensures { λ r. ⌜ Shortened (now (tail .entry)) k (now (room .entry)) r (now (room .exit)) ⌝ }
+fn shorten_few(tail: &[u8], named: bool, k: usize, room: &mut [u8]) -> usize
+    requires { ⌜ (k ≤ 16384) × (6 * (moveSize named * k) ≤ 8 * length (now tail)) ⌝ }
+    requires { ⌜ (6 * (moveSize named * k) + 7) / 8 ≤ length (now room) ⌝ }
+    ensures { λ r. ⌜ Shortened named (now (tail .entry)) k (now (room .entry)) r (now (room .exit)) ⌝ }
 {
     let mut marks = [0u64; 256];
     let mut blocks = [0u64; 64];
     let mut groups = [0u64; 1];
-    mark_kept(tail, k, &mut marks, &mut blocks, &mut groups);
-    write_kept(tail, k, &marks, room)
+    mark_kept(tail, named, k, &mut marks, &mut blocks, &mut groups);
+    write_kept(tail, named, k, &marks, room)
 }
 
 // Marks and writes the moves that are kept of a plan of any size.
-fn shorten_many(tail: &[u8], k: usize, room: &mut [u8]) -> usize
-    requires { ⌜ (k < 2 ^ 22) × (12 * k ≤ 8 * length (now tail)) × ((12 * k + 7) / 8 ≤ length (now room)) ⌝ }
-    ensures { λ r. ⌜ Shortened (now (tail .entry)) k (now (room .entry)) r (now (room .exit)) ⌝ }
+fn shorten_many(tail: &[u8], named: bool, k: usize, room: &mut [u8]) -> usize
+    requires { ⌜ (k < 2 ^ 22) × (6 * (moveSize named * k) ≤ 8 * length (now tail)) ⌝ }
+    requires { ⌜ (6 * (moveSize named * k) + 7) / 8 ≤ length (now room) ⌝ }
+    ensures { λ r. ⌜ Shortened named (now (tail .entry)) k (now (room .entry)) r (now (room .exit)) ⌝ }
 {
     let mut marks = [0u64; 65536];
     let mut blocks = [0u64; 16384];
     let mut groups = [0u64; 256];
-    mark_kept(tail, k, &mut marks, &mut blocks, &mut groups);
-    write_kept(tail, k, &marks, room)
+    mark_kept(tail, named, k, &mut marks, &mut blocks, &mut groups);
+    write_kept(tail, named, k, &marks, room)
 }
 
 // The same with tables of a size that goes with the plan's, since they are zeroed for each plan.
-fn shorten_moves(tail: &[u8], k: usize, room: &mut [u8]) -> usize
-    requires { ⌜ (k < 2 ^ 22) × (12 * k ≤ 8 * length (now tail)) × ((12 * k + 7) / 8 ≤ length (now room)) ⌝ }
-    ensures { λ r. ⌜ Shortened (now (tail .entry)) k (now (room .entry)) r (now (room .exit)) ⌝ }
+fn shorten_moves(tail: &[u8], named: bool, k: usize, room: &mut [u8]) -> usize
+    requires { ⌜ (k < 2 ^ 22) × (6 * (moveSize named * k) ≤ 8 * length (now tail)) ⌝ }
+    requires { ⌜ (6 * (moveSize named * k) + 7) / 8 ≤ length (now room) ⌝ }
+    ensures { λ r. ⌜ Shortened named (now (tail .entry)) k (now (room .entry)) r (now (room .exit)) ⌝ }
 {
     if k <= 16384 {
-        return shorten_few(tail, k, room);
+        return shorten_few(tail, named, k, room);
     }
-    shorten_many(tail, k, room)
+    shorten_many(tail, named, k, room)
 }
 
 // The verdict of the shortener: specs/Shortener.antt gives it the number and the values.
@@ -351,7 +376,7 @@ fn passed_up(plan: PlanVerdict) -> ShortenerVerdict
     }
 }
 
-// Shortens a plan for an order and writes the result at the front of the buffer: the plan checker's numbers, then 37.
+// Shortens a plan for an order and writes the result, in the edition read, at the front of the buffer: the plan checker's numbers, then 37.
 pub fn shorten(order: &[u8], plan: &[u8], buffer: &mut [u8]) -> ShortenerVerdict
     ensures { λ r. ⌜ answerOf r ≡ shortenerAnswer (now (order .entry)) (now (plan .entry)) (length (now (buffer .entry))) ⌝ }
     ensures { λ _. ⌜ now (buffer .exit) ≡ bufferAfter (now (order .entry)) (now (plan .entry)) (now (buffer .entry)) ⌝ }
@@ -363,7 +388,8 @@ pub fn shorten(order: &[u8], plan: &[u8], buffer: &mut [u8]) -> ShortenerVerdict
     if buffer.len() < plan.len() {
         return ShortenerVerdict::Refused(Fault::SecondBuffer, 0);
     }
-    let count = shorten_moves(&plan[3..], k, &mut buffer[3..]);
-    field::put_head(buffer, count);
+    let named = plan::names_racks(plan);
+    let count = shorten_moves(&plan[3..], named, k, &mut buffer[3..]);
+    field::put_head(buffer, count, plan::spare_bits(named));
     ShortenerVerdict::Accepted(count)
 }

@@ -13,7 +13,7 @@
 --     back-carried            moves taken back where a rack was carried to y meanwhile lead back but for that rack: carry away by
 --                             conjugation
 --     Taken, went-back        the moves that are made where others are taken back
---     went-renamed            the same moves with racks renamed
+--     renamed f ws            the written moves ws with racks renamed by f; went-renamed    the same moves with racks renamed
 --     kept m h                the table h without stand-ins
 --     kept-real, kept-stand-in, kept-same    where a real rack stands; where a stand-in does; of tables that agree
 --     went-kept               stand-ins dropped: the written moves alone lead from table to table
@@ -28,6 +28,7 @@ use native.Mathlib.Omega.{arith}
 use lib.Dec.{eqb, leb}
 use lib.ListN.{length}
 use borrow.Author.Tests.{eq-eqb, ne-eqb, le-leb, lt-leb}
+use Rattle.field.specs.Listed.{movesOf}
 use Rattle.graph.specs.Walk.{Symmetric}
 use Rattle.shunting.specs.Went.{Same, Move, Went, Within, Back}
 use Rattle.shunting.specs.Went.Went.{stay, real, stand-in}
@@ -66,14 +67,15 @@ module _ {E : ℕ → ℕ → Type 0} where
   back-taken n (back {i = i} x w) = record { between = i; move = x; rest = w }
 
   module _ (s : Symmetric E) {m : ℕ} where
-    pub back-renamed : {A B i : ℕ → ℕ} {ms ws past : List (ℕ × ℕ)} (f : ℕ → ℕ) → f 0 ≡ 0 → ((r : ℕ) → r ≢ 0 → f r ≢ 0)
-        → Went E m A ms ws B → Back E (λ p. f (A p)) past i → Back E (λ p. f (B p)) (onto ms past) i
+    pub back-renamed : {A B i : ℕ → ℕ} {ms past : List (ℕ × ℕ)} {ws : List (ℕ × ℕ × ℕ)} (f : ℕ → ℕ) → f 0 ≡ 0
+        → ((r : ℕ) → r ≢ 0 → f r ≢ 0) → Went E m A ms ws B → Back E (λ p. f (A p)) past i → Back E (λ p. f (B p)) (onto ms past) i
     unfolding onto
     back-renamed f zero some (stay t) b = back-from (λ p. ap f (sym (t p))) b
-    back-renamed f zero some (real x l w) b = back-renamed f zero some w (back (move-renamed f zero some (move-back s x)) b)
+    back-renamed f zero some (real x e l w) b = back-renamed f zero some w (back (move-renamed f zero some (move-back s x)) b)
     back-renamed f zero some (stand-in x l w) b = back-renamed f zero some w (back (move-renamed f zero some (move-back s x)) b)
 
-    pub back-went : {A B i : ℕ → ℕ} {ms ws past : List (ℕ × ℕ)} → Went E m A ms ws B → Back E A past i → Back E B (onto ms past) i
+    pub back-went : {A B i : ℕ → ℕ} {ms past : List (ℕ × ℕ)} {ws : List (ℕ × ℕ × ℕ)} → Went E m A ms ws B → Back E A past i
+        → Back E B (onto ms past) i
     back-went w b = back-renamed (λ r. r) refl (λ r x. x) w b
 
 -- A table with rack r carried to y.
@@ -136,18 +138,22 @@ module _ {E : ℕ → ℕ → Type 0} (r y : ℕ) {h k : ℕ → ℕ} {a b : ℕ
         (λ e. skip (carried-left r y k b (λ f. enters (sym f)) (x .entered ∙ e)) (back-from (move-carries e) w))
         (λ n. back (move-back s (move-carried n)) w)
 
-pub back-carried : {E : ℕ → ℕ → Type 0} (s : Symmetric E) {m : ℕ} (r y : ℕ) {A B i : ℕ → ℕ} {ms ws past : List (ℕ × ℕ)} → Avoids y ms
-    → Went E m A ms ws B → Back E (carried r y A) past i → Back E (carried r y B) (onto ms past) i
+pub back-carried : {E : ℕ → ℕ → Type 0} (s : Symmetric E) {m : ℕ} (r y : ℕ) {A B i : ℕ → ℕ} {ms past : List (ℕ × ℕ)} {ws : List (ℕ × ℕ × ℕ)}
+    → Avoids y ms → Went E m A ms ws B → Back E (carried r y A) past i → Back E (carried r y B) (onto ms past) i
 unfolding onto
 back-carried s r y {A} {B} v (stay t) b = back-from (λ p. carried-same r y B A p (sym (t p))) b
-back-carried s r y (Within.more u n v) (real x l w) b = back-carried s r y v w (carried-back r y u n x s b)
+back-carried s r y (Within.more u n v) (real x e l w) b = back-carried s r y v w (carried-back r y u n x s b)
 back-carried s r y (Within.more u n v) (stand-in x l w) b = back-carried s r y v w (carried-back r y u n x s b)
 
 pub record Taken (E : ℕ → ℕ → Type 0) (m : ℕ) (h : ℕ → ℕ) (past : List (ℕ × ℕ)) (k : ℕ → ℕ) : Type 0 where
   pub moves : List (ℕ × ℕ)
-  pub written : List (ℕ × ℕ)
+  pub written : List (ℕ × ℕ × ℕ)
   pub went : Went E m h moves written k
   pub few : length moves ≤ length past
+
+unfoldable pub renamed : (ℕ → ℕ) → List (ℕ × ℕ × ℕ) → List (ℕ × ℕ × ℕ)
+renamed f [] = []
+renamed f (w ∷ ws) = (w .0, w .1, f (w .2)) ∷ renamed f ws
 
 module _ {E : ℕ → ℕ → Type 0} {m : ℕ} where
   pub went-back : {h k : ℕ → ℕ} {past : List (ℕ × ℕ)} → Back E h past k → Taken E m h past k
@@ -156,14 +162,16 @@ module _ {E : ℕ → ℕ → Type 0} {m : ℕ} where
   went-back {h} (back {a = a} {b = b} x w) =
       let t = went-back w in
       by-cases (decLe (h b) m)
-      (λ l. record { moves = (b, a) ∷ t .moves; written = (b, a) ∷ t .written; went = real x l (t .went); few = omega arith })
+      (λ l. record { moves = (b, a) ∷ t .moves; written = (b, a, h b) ∷ t .written; went = real x refl l (t .went); few = omega arith })
       (λ l. record { moves = (b, a) ∷ t .moves; written = t .written; went = stand-in x (omega arith) (t .went); few = omega arith })
 
-  pub went-renamed : {n : ℕ} {h k : ℕ → ℕ} {ms ws : List (ℕ × ℕ)} (f : ℕ → ℕ) → f 0 ≡ 0 → ((r : ℕ) → r ≢ 0 → f r ≢ 0)
-      → ((r : ℕ) → r ≤ m → f r ≤ n) → ((r : ℕ) → m < r → n < f r) → Went E m h ms ws k → Went E n (λ p. f (h p)) ms ws (λ p. f (k p))
+  pub went-renamed : {n : ℕ} {h k : ℕ → ℕ} {ms : List (ℕ × ℕ)} {ws : List (ℕ × ℕ × ℕ)} (f : ℕ → ℕ) → f 0 ≡ 0
+      → ((r : ℕ) → r ≢ 0 → f r ≢ 0) → ((r : ℕ) → r ≤ m → f r ≤ n) → ((r : ℕ) → m < r → n < f r) → Went E m h ms ws k
+      → Went E n (λ p. f (h p)) ms (renamed f ws) (λ p. f (k p))
+  unfolding renamed
   went-renamed f zero some low high (stay s) = stay (λ p. ap f (s p))
-  went-renamed {h = h} f zero some low high (real {a = a} x l w) =
-      real (move-renamed f zero some x) (low (h a) l) (went-renamed f zero some low high w)
+  went-renamed {h = h} f zero some low high (real {a = a} x e l w) =
+      real (move-renamed f zero some x) (ap f e) (low (h a) l) (went-renamed f zero some low high w)
   went-renamed {h = h} f zero some low high (stand-in {a = a} x l w) =
       stand-in (move-renamed f zero some x) (high (h a) l) (went-renamed f zero some low high w)
 
@@ -205,8 +213,11 @@ module _ (m : ℕ) where
         (λ e. kept-vacant h p (ap h e ∙ x .vacant) ∙ sym (kept-stand-in k p (let q = ap k e in let t = x .entered in omega arith)))
         (λ o. kept-same h k p (sym (x .others p n o))))
 
-pub went-kept : {E : ℕ → ℕ → Type 0} {m : ℕ} {h k : ℕ → ℕ} {ms ws : List (ℕ × ℕ)} → Went E m h ms ws k
-    → Went E m (kept m h) ws ws (kept m k)
+pub went-kept : {E : ℕ → ℕ → Type 0} {m : ℕ} {h k : ℕ → ℕ} {ms : List (ℕ × ℕ)} {ws : List (ℕ × ℕ × ℕ)} → Went E m h ms ws k
+    → Went E m (kept m h) (movesOf ws) ws (kept m k)
+unfolding movesOf
 went-kept {m = m} {h} {k} (stay s) = stay (λ p. kept-same m h k p (s p))
-went-kept {m = m} {h} (real {a = a} x l w) = real (move-kept m x l) (let e = kept-real m h a l in omega arith) (went-kept w)
+went-kept {m = m} {h} (real {a = a} x e l w) =
+    let same = kept-real m h a l in
+    real (move-kept m x l) (e ∙ sym same) (omega arith) (went-kept w)
 went-kept {m = m} (stand-in x l w) = went-from (move-dropped m x l) (went-kept w)

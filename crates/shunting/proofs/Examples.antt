@@ -4,7 +4,7 @@
 --     line, line-rows      the rows of the line
 --     table x y z          the table with racks x, y and z on the line
 --     moves, past          the two moves, in order and the last of them first
---     went                 they lead from table to table
+--     went                 they lead from table to table, and are written with the racks 2 and 1
 --     went-stand-in        the same where rack 2 is a stand-in: the other rack's move is written
 --     taken-back           taken back they lead back
 --     logged               the log that has them
@@ -18,7 +18,7 @@
 --     cycle, ring, ring-rows    a floor of five positions in a ring, and its cycle 4, 1, 0, 3, 2
 --     standing             racks 1 and 2 and the stand-in 3 on it, with two vacancies, at places 1 and 3
 --     turn-moves, turn-written    its turn: from the vacancy at place 1, rack 1, the stand-in, and rack 2 past the other vacancy; written
---                          are the moves of the racks 1 and 2
+--                          are the moves of the racks 1 and 2, with these
 --     turn-met             what `shunting::turn` asks for, on that floor
 -- Assumes nothing.
 use Prim.Native.Nat.{ℕ, zero, suc, _+_, _≤_, _<_}
@@ -27,6 +27,7 @@ use mathlib.Core.List.{List, [], _∷_}
 use mathlib.Core.Logic.{_≢_}
 use native.Mathlib.Omega.{arith}
 use lib.ListN.{replicate, length-replicate}
+use Rattle.field.specs.Listed.{movesOf}
 use Rattle.sets.specs.Sets.{bit, Has}
 use Rattle.sets.proofs.SetLaws.{has-none, has-below}
 use Rattle.graph.specs.Rows.{Edge, Rows}
@@ -85,11 +86,11 @@ second = record { edge = refl; held = clear; vacant = refl; entered = refl; left
     others (suc zero) x y = absurd (y refl)
     others (suc (suc p)) x y = refl
 
-pub went : Went (Edge line) 2 (row (table 1 2 0)) moves moves (row (table 0 1 2))
-went = real first (omega arith) (real second (omega arith) (stay (same-refl (row (table 0 1 2)))))
+pub went : Went (Edge line) 2 (row (table 1 2 0)) moves ((1, 2, 2) ∷ (0, 1, 1) ∷ []) (row (table 0 1 2))
+went = real first refl (omega arith) (real second refl (omega arith) (stay (same-refl (row (table 0 1 2)))))
 
-pub went-stand-in : Went (Edge line) 1 (row (table 1 2 0)) moves ((0, 1) ∷ []) (row (table 0 1 2))
-went-stand-in = stand-in first (omega arith) (real second (omega arith) (stay (same-refl (row (table 0 1 2)))))
+pub went-stand-in : Went (Edge line) 1 (row (table 1 2 0)) moves ((0, 1, 1) ∷ []) (row (table 0 1 2))
+went-stand-in = stand-in first (omega arith) (real second refl (omega arith) (stay (same-refl (row (table 0 1 2)))))
 
 pub taken-back : Back (Edge line) (row (table 0 1 2)) past (row (table 1 2 0))
 unfolding onto
@@ -111,11 +112,11 @@ state = record { racks = table 0 1 2; real = 2; written = 2; logged = 2 }
 pub entries : Entries 0 2
 entries = record { ordered = omega arith; within = omega arith }
 
-pub undo-space : Space state (replicate 6 0) 2
+pub undo-space : Space state (replicate 9 0) 2
 undo-space =
     let n = length-replicate {A = ℕ} 61 0 in
-    let r = length-replicate {A = ℕ} 6 0 in
-    record { racks = omega arith; room = omega arith }
+    let r = length-replicate {A = ℕ} 9 0 in
+    record { racks = omega arith; few-racks = omega arith; room = omega arith }
 
 -- racks 1 and 2 exchanged
 abbrev swap : ℕ → ℕ
@@ -163,16 +164,22 @@ lined = record { racks = table 1 2 0; real = 2; written = 0; logged = 0 }
 abbrev pub log : List ℕ
 log = replicate 8256 0
 
-pub fits : (c : ℕ) → c ≤ 4 → Fits lined log (replicate 6 0) c
+pub fits : (c : ℕ) → c ≤ 4 → Fits lined log (replicate 9 0) c
 fits c few =
     let h = length-replicate {A = ℕ} 61 0 in
-    let t = length-replicate {A = ℕ} 6 0 in
-    record { racks = omega arith; log = length-replicate {A = ℕ} 8256 0; logged = omega arith; room = omega arith }
+    let t = length-replicate {A = ℕ} 9 0 in
+    record {
+      racks = omega arith;
+      log = length-replicate {A = ℕ} 8256 0;
+      logged = omega arith;
+      few-racks = omega arith;
+      room = omega arith;
+    }
 
-pub clear-met : Rows 3 line × (1 < 64) × RoomToClear (Edge line) (Unheld 3 0) 1 lined log (replicate 6 0)
+pub clear-met : Rows 3 line × (1 < 64) × RoomToClear (Edge line) (Unheld 3 0) 1 lined log (replicate 9 0)
 clear-met = (line-rows, omega arith, clear-room (at-most-inside 3 (λ p x. x .inside)) (fits 2 (omega arith)))
 
-pub bring-room : RoomToBring (Has 7) lined log (replicate 6 0)
+pub bring-room : RoomToBring (Has 7) lined log (replicate 9 0)
 bring-room =
     record { most = 2; few = at-most-inside 3 (λ p x. has-below 3 7 p (omega arith) x); fits = fits 4 (omega arith) }
 
@@ -190,10 +197,10 @@ abbrev pub standing : State
 standing = record { racks = 2 ∷ 0 ∷ 3 ∷ 0 ∷ 1 ∷ replicate 59 0; real = 2; written = 0; logged = 0 }
 
 pub turn-moves : turnMoves (row cycle) 5 (row (standing .racks)) ≡ (4, 1) ∷ (2, 4) ∷ (0, 3) ∷ []
-unfolding passMoves placeFrom
+unfolding passMoves placeFrom movesOf
 turn-moves = refl
 
-pub turn-written : turnWritten (row cycle) 5 standing ≡ (4, 1) ∷ (0, 3) ∷ []
+pub turn-written : turnWritten (row cycle) 5 standing ≡ (4, 1, 1) ∷ (0, 3, 2) ∷ []
 unfolding passMoves placeFrom
 turn-written = refl
 
@@ -222,10 +229,10 @@ unfolding ring bit
 back = refl
 
 pub turn-met : Round (row cycle) 5 ring × Simple (row cycle) 5 × Turnable (row cycle) 5 (row (standing .racks))
-    × Fits standing log (replicate 8 0) 5
+    × Fits standing log (replicate 12 0) 5
 turn-met =
     let h = length-replicate {A = ℕ} 59 0 in
-    let t = length-replicate {A = ℕ} 8 0 in (
+    let t = length-replicate {A = ℕ} 12 0 in (
       record { joined = around; closed = back },
       record {
         short = omega arith;
@@ -235,5 +242,11 @@ turn-met =
             absurd (omega arith);
       },
       (1, record { before = omega arith; vacant = refl }),
-      record { racks = omega arith; log = length-replicate {A = ℕ} 8256 0; logged = omega arith; room = omega arith },
+      record {
+        racks = omega arith;
+        log = length-replicate {A = ℕ} 8256 0;
+        logged = omega arith;
+        few-racks = omega arith;
+        room = omega arith;
+      },
     )

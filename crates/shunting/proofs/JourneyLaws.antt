@@ -1,6 +1,7 @@
 -- Laws of journeys.
 --
 --     packed-nothing       no move in the plan
+--     move-bytes           the bytes that w moves take
 --     packed-next          one move more in the plan
 --     packedOn-append, packedOn-packed    moves and then more of them, packed; packed behind packed moves they are packed with them
 --     trail-next           one move more in the log
@@ -19,6 +20,7 @@
 --     journey-trail        a journey leaves in the log what was there
 --     journey-others       and the log's entries before its moves and behind them stay
 --     trip-written         a trip writes no more moves than its bound
+--     real-named           the racks that were real are so still
 --     trip-packed          behind packed moves it packs those that it writes
 --     moved-passed         the table after one move
 --     moved-relogged, space-relogged    a move, and room in the plan, do not look at how many moves the log has
@@ -38,10 +40,12 @@ use mathlib.Core.Logic.{_≢_, _⊎_, ⊎-elim, by-cases}
 use native.Mathlib.Decide.{decLe}
 use native.Mathlib.Omega.{arith}
 use lib.Dec.{eqb}
-use lib.ListN.{getD, length, set, drop, replicate, length-append, length-drop, length-set, length-replicate}
-use lib.Seq.{drop-drop, getD-set-same, getD-set-other}
-use Rattle.field.specs.Packing.{pack, putPair}
-use Rattle.field.proofs.PackingLaws.{length-pack, added, added-is, put-next}
+use lib.ListN.{getD, length, set, replicate, length-append, length-set, length-replicate}
+use lib.Seq.{getD-set-same, getD-set-other}
+use Rattle.field.specs.Packing.{packPositions, putPosition, putPositions}
+use Rattle.field.specs.Listed.{moveSize, units, allUnits}
+use Rattle.field.proofs.ListedLaws.{put-behind-listed}
+use Rattle.field.proofs.WritingLaws.{written-none}
 use Rattle.sets.specs.Sets.{Has}
 use Rattle.sets.proofs.SetLaws.{has-only}
 use Rattle.graph.specs.Rows.{Edge}
@@ -49,73 +53,69 @@ use Rattle.shunting.specs.Went.{Move, Went, Within}
 use Rattle.shunting.specs.Went.Went.{stay, real, stand-in}
 use Rattle.shunting.proofs.WentLaws.{same-refl, went-append, within-less, within-append, went-one}
 use Rattle.shunting.specs.declared.State.{State}
-use Rattle.shunting.specs.Journey.{row, relogged, Packed, packedOn, noted, onto, Trail, Fits, Room, Space, made, Moved}
+use Rattle.shunting.specs.Journey.{row, relogged, Packed, putMove, packedOn, noted, onto, Trail, Fits, Room, Space, made, Moved}
 use Rattle.shunting.specs.Journey.{Trip, Journey, JourneyIn, JourneyBy, Joins, JourneyOn}
 use Rattle.shunting.specs.Turned.{Movable, Passed}
 use Rattle.shunting.specs.Journey.Trail.{start, entry}
 
 -- no move packed: the bytes are as they were
 pub packed-nothing : (t : List ℕ) → Packed t [] t
-unfolding pack
-packed-nothing t = record { is = refl }
+unfolding allUnits packPositions
+packed-nothing t = record { is = sym (written-none t 0) }
 
-length-putPair : (t : List ℕ) (j a b : ℕ) → length (putPair t j a b) ≡ length t
-unfolding putPair
-length-putPair t j a b = by (eqb (j % 2) 0)
+length-putPosition : (t : List ℕ) (q p : ℕ) → length (putPosition t q p) ≡ length t
+unfolding putPosition
+length-putPosition t q p = by (eqb (q % 4) 0) (eqb (q % 4) 1) (eqb (q % 4) 2)
   where
-    by : (x : Bool)
-        → length (cond x (set (set t (j / 2 * 3) (a * 4 + b / 16)) (j / 2 * 3 + 1) (b % 16 * 16))
-        (set (set t (j / 2 * 3 + 1) (getD t (j / 2 * 3 + 1) 0 / 16 * 16 + a / 4)) (j / 2 * 3 + 2) (a % 4 * 64 + b))) ≡ length t
-    by true = length-set (set t (j / 2 * 3) (a * 4 + b / 16)) (j / 2 * 3 + 1) (b % 16 * 16) ∙ length-set t (j / 2 * 3) (a * 4 + b / 16)
-    by false =
-        length-set (set t (j / 2 * 3 + 1) (getD t (j / 2 * 3 + 1) 0 / 16 * 16 + a / 4)) (j / 2 * 3 + 2) (a % 4 * 64 + b)
-        ∙ length-set t (j / 2 * 3 + 1) (getD t (j / 2 * 3 + 1) 0 / 16 * 16 + a / 4)
+    twice : (i j x y : ℕ) → length (set (set t i x) j y) ≡ length t
+    twice i j x y = length-set (set t i x) j y ∙ length-set t i x
 
-pub packed-next : (old : List ℕ) (ws : List (ℕ × ℕ)) (t : List ℕ) (a b : ℕ) → (12 * (length ws + 1) + 7) / 8 ≤ length old → Packed old ws t
-    → Packed old (ws ++ ((a, b) ∷ [])) (putPair t (length ws) a b)
-packed-next old ws t a b room p =
+    by : (u v w : Bool)
+        → length (cond u (set t (q / 4 * 3) (p * 4))
+        (cond v (set (set t (q / 4 * 3) (getD t (q / 4 * 3) 0 / 4 * 4 + p / 16)) (q / 4 * 3 + 1) (p % 16 * 16))
+        (cond w (set (set t (q / 4 * 3 + 1) (getD t (q / 4 * 3 + 1) 0 / 16 * 16 + p / 4)) (q / 4 * 3 + 2) (p % 4 * 64))
+        (set t (q / 4 * 3 + 2) (getD t (q / 4 * 3 + 2) 0 / 64 * 64 + p))))) ≡ length t
+    by true v w = length-set t (q / 4 * 3) (p * 4)
+    by false true w = twice _ _ _ _
+    by false false true = twice _ _ _ _
+    by false false false = length-set t (q / 4 * 3 + 2) (getD t (q / 4 * 3 + 2) 0 / 64 * 64 + p)
+
+length-putPositions : (t : List ℕ) (q : ℕ) (ps : List ℕ) → length (putPositions t q ps) ≡ length t
+unfolding putPositions
+length-putPositions t q [] = refl
+length-putPositions t q (p ∷ ps) = length-putPositions (putPosition t q p) (q + 1) ps ∙ length-putPosition t q p
+
+pub move-bytes : (w : ℕ) → (6 * (moveSize true * w) + 7) / 8 ≡ (18 * w + 7) / 8
+unfolding moveSize
+move-bytes w = ap (λ (k : ℕ). (k + 7) / 8) (let e : 6 * (3 * w) ≡ 18 * w = omega arith in e)
+
+pub packed-next : (old : List ℕ) (ws : List (ℕ × ℕ × ℕ)) (t : List ℕ) (w : ℕ × ℕ × ℕ) → (18 * (length ws + 1) + 7) / 8 ≤ length old
+    → Packed old ws t → Packed old (ws ++ (w ∷ [])) (putMove t (length ws) w)
+packed-next old ws t w room p =
     record {
       is =
-          ap (λ (x : List ℕ). putPair x (length ws) a b) (p .is)
-          ∙ put-next ws (drop (length (pack ws)) old) a b fits
-          ∙ ap (λ (x : List ℕ). pack (ws ++ ((a, b) ∷ [])) ++ x)
-          (drop-drop (added (length ws)) (length (pack ws)) old ∙ ap (λ (i : ℕ). drop i old) size);
+          ap (λ (x : List ℕ). putMove x (length ws) w) (p .is)
+          ∙ put-behind-listed true ws w old (let e = move-bytes (length ws + 1) in omega arith);
     }
-  where
-    more : (12 * length ws + 7) / 8 + added (length ws) ≡ (12 * (length ws + 1) + 7) / 8
-    more = added-is (length ws)
 
-    fits : added (length ws) ≤ length (drop (length (pack ws)) old)
-    fits = let e = length-pack ws in let f = length-drop (length (pack ws)) old in let m = more in omega arith
-
-    size : length (pack ws) + added (length ws) ≡ length (pack (ws ++ ((a, b) ∷ [])))
-    size =
-        let e = length-pack ws in
-        let f = length-pack (ws ++ ((a, b) ∷ [])) in
-        let n : length (ws ++ ((a, b) ∷ [])) ≡ length ws + 1 = length-append ws ((a, b) ∷ []) in
-        let q : (12 * length (ws ++ ((a, b) ∷ [])) + 7) / 8 ≡ (12 * (length ws + 1) + 7) / 8 = ap (λ (k : ℕ). (12 * k + 7) / 8) n in
-        let m = more in
-        omega arith
-
-pub packedOn-append : (ms ns : List (ℕ × ℕ)) (t : List ℕ) (w : ℕ) → packedOn t w (ms ++ ns) ≡ packedOn (packedOn t w ms) (w + length ms) ns
+pub packedOn-append : (ms ns : List (ℕ × ℕ × ℕ)) (t : List ℕ) (w : ℕ)
+    → packedOn t w (ms ++ ns) ≡ packedOn (packedOn t w ms) (w + length ms) ns
 unfolding packedOn
 packedOn-append [] ns t w = let e : w ≡ w + 0 = omega arith in ap (λ (k : ℕ). packedOn t k ns) e
 packedOn-append (m ∷ ms) ns t w =
     let e : w + 1 + length ms ≡ w + suc (length ms) = omega arith in
-    packedOn-append ms ns (putPair t w (m .0) (m .1)) (w + 1)
-    ∙ ap (λ (k : ℕ). packedOn (packedOn (putPair t w (m .0) (m .1)) (w + 1) ms) k ns) e
+    packedOn-append ms ns (putMove t w m) (w + 1) ∙ ap (λ (k : ℕ). packedOn (packedOn (putMove t w m) (w + 1) ms) k ns) e
 
-pub packedOn-packed : (old : List ℕ) (ws ms : List (ℕ × ℕ)) (t : List ℕ) (w : ℕ) → w ≡ length ws
-    → (12 * (w + length ms) + 7) / 8 ≤ length old → Packed old ws t
+pub packedOn-packed : (old : List ℕ) (ws ms : List (ℕ × ℕ × ℕ)) (t : List ℕ) (w : ℕ) → w ≡ length ws
+    → (18 * (w + length ms) + 7) / 8 ≤ length old → Packed old ws t
     → Packed old (ws ++ ms) (packedOn t w ms)
 unfolding packedOn
-packedOn-packed old ws [] t w e room p = subst (λ (v : List (ℕ × ℕ)). Packed old v t) (sym (append-nil ws)) p
+packedOn-packed old ws [] t w e room p = subst (λ (v : List (ℕ × ℕ × ℕ)). Packed old v t) (sym (append-nil ws)) p
 packedOn-packed old ws (m ∷ ms) t w e room p =
-    subst (λ (v : List (ℕ × ℕ)). Packed old v (packedOn (putPair t w (m .0) (m .1)) (w + 1) ms)) (append-assoc ws (m ∷ []) ms)
-    (packedOn-packed old (ws ++ (m ∷ [])) ms (putPair t w (m .0) (m .1)) (w + 1)
+    subst (λ (v : List (ℕ × ℕ × ℕ)). Packed old v (packedOn (putMove t w m) (w + 1) ms)) (append-assoc ws (m ∷ []) ms)
+    (packedOn-packed old (ws ++ (m ∷ [])) ms (putMove t w m) (w + 1)
     (let n = length-append ws (m ∷ []) in omega arith) (omega arith)
-    (subst (λ (i : ℕ). Packed old (ws ++ (m ∷ [])) (putPair t i (m .0) (m .1))) (sym e)
-    (packed-next old ws t (m .0) (m .1) (omega arith) p)))
+    (subst (λ (i : ℕ). Packed old (ws ++ (m ∷ [])) (putMove t i m)) (sym e) (packed-next old ws t m (omega arith) p)))
 
 pub noted-append : (ms ns : List (ℕ × ℕ)) (l : List ℕ) (j : ℕ) → noted l j (ms ++ ns) ≡ noted (noted l j ms) (j + length ms) ns
 unfolding noted
@@ -159,9 +159,10 @@ unfolding onto
 trail-below {l} {s} [] past i e t = subst (λ (n : ℕ). Trail l s n past) (omega arith) t
 trail-below (m ∷ ms) past i e t = trail-tail i refl (trail-below ms (m ∷ past) (i + 1) (omega arith) t)
 
-pub went-written : {E : ℕ → ℕ → Type 0} {m : ℕ} {h k : ℕ → ℕ} {ms ws : List (ℕ × ℕ)} → Went E m h ms ws k → length ws ≤ length ms
+pub went-written : {E : ℕ → ℕ → Type 0} {m : ℕ} {h k : ℕ → ℕ} {ms : List (ℕ × ℕ)} {ws : List (ℕ × ℕ × ℕ)} → Went E m h ms ws k
+    → length ws ≤ length ms
 went-written (stay s) = omega arith
-went-written (real x l w) = let r = went-written w in omega arith
+went-written (real x e l w) = let r = went-written w in omega arith
 went-written (stand-in x l w) = let r = went-written w in omega arith
 
 module _ {g : List ℕ} where
@@ -317,13 +318,14 @@ module _ {g : List ℕ} where
   unfolding journey-none trip-none
   journey-by-none s l t = record { journey = journey-none s l t; moves = refl; written = refl }
 
-  module _ {ms ws : List (ℕ × ℕ)} {c : ℕ} {s s′ : State} {l t l′ t′ : List ℕ} where
+  module _ {ms : List (ℕ × ℕ)} {ws : List (ℕ × ℕ × ℕ)} {c : ℕ} {s s′ : State} {l t l′ t′ : List ℕ} where
     pub journey-by-more : (d : ℕ) → c ≤ d → JourneyBy ms ws g c s l t s′ l′ t′ → JourneyBy ms ws g d s l t s′ l′ t′
     unfolding journey-more trip-more
     journey-by-more d le a = record { journey = journey-more d le (a .journey); moves = a .moves; written = a .written }
 
-    pub journey-by-append : {ns xs : List (ℕ × ℕ)} {d : ℕ} {s″ : State} {l″ t″ : List ℕ} → JourneyBy ms ws g c s l t s′ l′ t′
-        → JourneyBy ns xs g d s′ l′ t′ s″ l″ t″ → JourneyBy (ms ++ ns) (ws ++ xs) g (c + d) s l t s″ l″ t″
+    pub journey-by-append : {ns : List (ℕ × ℕ)} {xs : List (ℕ × ℕ × ℕ)} {d : ℕ} {s″ : State} {l″ t″ : List ℕ}
+        → JourneyBy ms ws g c s l t s′ l′ t′ → JourneyBy ns xs g d s′ l′ t′ s″ l″ t″
+        → JourneyBy (ms ++ ns) (ws ++ xs) g (c + d) s l t s″ l″ t″
     unfolding journey-append trip-append
     journey-by-append a b =
         record {
@@ -332,16 +334,16 @@ module _ {g : List ℕ} where
           written = both (a .written) (b .written);
         }
       where
-        both : {x y u v : List (ℕ × ℕ)} → x ≡ y → u ≡ v → x ++ u ≡ y ++ v
-        both {y = y} {u} e f = ap (λ (z : List (ℕ × ℕ)). z ++ u) e ∙ ap (λ (z : List (ℕ × ℕ)). y ++ z) f
+        both : {A : Type 0} {x y u v : List A} → x ≡ y → u ≡ v → x ++ u ≡ y ++ v
+        both {A} {y = y} {u} e f = ap (λ (z : List A). z ++ u) e ∙ ap (λ (z : List A). y ++ z) f
 
-    pub journey-by-to : {ns xs : List (ℕ × ℕ)} → ms ≡ ns → ws ≡ xs → JourneyBy ms ws g c s l t s′ l′ t′
+    pub journey-by-to : {ns : List (ℕ × ℕ)} {xs : List (ℕ × ℕ × ℕ)} → ms ≡ ns → ws ≡ xs → JourneyBy ms ws g c s l t s′ l′ t′
         → JourneyBy ns xs g c s l t s′ l′ t′
     journey-by-to e f a = record { journey = a .journey; moves = a .moves ∙ e; written = a .written ∙ f }
 
     pub journey-by-went : JourneyBy ms ws g c s l t s′ l′ t′ → Went (Edge g) (s .real) (row (s .racks)) ms ws (row (s′ .racks))
     journey-by-went a =
-        subst (λ (xs : List (ℕ × ℕ)). Went (Edge g) (s .real) (row (s .racks)) ms xs (row (s′ .racks))) (a .written)
+        subst (λ (xs : List (ℕ × ℕ × ℕ)). Went (Edge g) (s .real) (row (s .racks)) ms xs (row (s′ .racks))) (a .written)
         (subst (λ (ns : List (ℕ × ℕ)). Went (Edge g) (s .real) (row (s .racks)) ns (a .journey .trip .written) (row (s′ .racks)))
         (a .moves) (a .journey .trip .went))
 
@@ -350,8 +352,11 @@ module _ {g : List ℕ} where
     pub trip-written : s′ .written ≤ s .written + c
     trip-written = let n = went-written (a .went) in let f = a .few in let e = a .counted in omega arith
 
-    pub trip-packed : (old : List ℕ) (ws : List (ℕ × ℕ)) → s .written ≡ length ws
-        → (12 * (s .written + length (a .written)) + 7) / 8 ≤ length old → Packed old ws t → Packed old (ws ++ a .written) t′
+    pub real-named : s .real ≤ 64 → s′ .real ≤ 64
+    real-named few = subst (λ (m : ℕ). m ≤ 64) (sym (a .reals)) few
+
+    pub trip-packed : (old : List ℕ) (ws : List (ℕ × ℕ × ℕ)) → s .written ≡ length ws
+        → (18 * (s .written + length (a .written)) + 7) / 8 ≤ length old → Packed old ws t → Packed old (ws ++ a .written) t′
     trip-packed old ws e room p =
         subst (Packed old (ws ++ a .written)) (sym (a .bytes)) (packedOn-packed old ws (a .written) t (s .written) e room p)
 
@@ -367,6 +372,7 @@ module _ {g : List ℕ} where
         racks = a .trip .racks ∙ f .racks;
         log = a .log ∙ f .log;
         logged = omega arith;
+        few-racks = real-named (a .trip) (f .few-racks);
         room = omega arith;
       }
 
@@ -376,40 +382,42 @@ module _ {g : List ℕ} where
       let written = trip-written a in
       let room = f .room in
       let tail = a .tail in
-      record { racks = a .racks ∙ f .racks; log = log ∙ f .log; room = omega arith }
+      record { racks = a .racks ∙ f .racks; log = log ∙ f .log; few-racks = real-named a (f .few-racks); room = omega arith }
 
   pub space-then : {c d : ℕ} {s s′ : State} {t t′ : List ℕ} → Space s t (c + d) → Trip g c s t s′ t′ → Space s′ t′ d
   space-then f a =
       let written = trip-written a in
       let room = f .room in
       let tail = a .tail in
-      record { racks = a .racks ∙ f .racks; room = omega arith }
+      record { racks = a .racks ∙ f .racks; few-racks = real-named a (f .few-racks); room = omega arith }
 
 module _ {c : ℕ} {s : State} {l t : List ℕ} where
   pub fits-less : (d : ℕ) → d ≤ c → Fits s l t c → Fits s l t d
   fits-less d le f =
       let room = f .room in
       let log = f .logged in
-      record { racks = f .racks; log = f .log; logged = omega arith; room = omega arith }
+      record { racks = f .racks; log = f .log; logged = omega arith; few-racks = f .few-racks; room = omega arith }
 
   -- a log begun anew
   pub fits-anew : (d : ℕ) → d ≤ c → d ≤ 8256 → Room s l t c → Fits (relogged s 0) l t d
-  fits-anew d le log f = let room = f .room in record { racks = f .racks; log = f .log; logged = omega arith; room = omega arith }
+  fits-anew d le log f =
+      let room = f .room in
+      record { racks = f .racks; log = f .log; logged = omega arith; few-racks = f .few-racks; room = omega arith }
 
   pub room-less : (d : ℕ) → d ≤ c → Room s l t c → Room s l t d
-  room-less d le f = let room = f .room in record { racks = f .racks; log = f .log; room = omega arith }
+  room-less d le f = let room = f .room in record { racks = f .racks; log = f .log; few-racks = f .few-racks; room = omega arith }
 
   pub fits-space : Fits s l t c → Space s t c
-  fits-space f = record { racks = f .racks; room = f .room }
+  fits-space f = record { racks = f .racks; few-racks = f .few-racks; room = f .room }
 
   pub space-room : length l ≡ 8256 → Space s t c → Room s l t c
-  space-room log f = record { racks = f .racks; log = log; room = f .room }
+  space-room log f = record { racks = f .racks; log = log; few-racks = f .few-racks; room = f .room }
 
 pub space-relogged : {c : ℕ} {s : State} {t : List ℕ} (j : ℕ) → Space s t c → Space (relogged s j) t c
-space-relogged j f = record { racks = f .racks; room = f .room }
+space-relogged j f = record { racks = f .racks; few-racks = f .few-racks; room = f .room }
 
 pub space-less : {c : ℕ} {s : State} {t : List ℕ} (d : ℕ) → d ≤ c → Space s t c → Space s t d
-space-less d le f = let room = f .room in record { racks = f .racks; room = omega arith }
+space-less d le f = let room = f .room in record { racks = f .racks; few-racks = f .few-racks; room = omega arith }
 
 -- Rows with just one edge, so that what holds of a move along an edge of any rows holds of some.
 edge-of : (a b : ℕ) → a < 64 → Edge (set (replicate 64 0) a (2 ^ b)) a b
@@ -465,7 +473,7 @@ module _ {a b : ℕ} {s s′ : State} {t t′ : List ℕ} (long : length (s .rac
           others = p .others;
         }
 
-    single : (ws : List (ℕ × ℕ)) → Went (Edge g) (s .real) (row (s .racks)) ((a, b) ∷ []) ws (row (s′ .racks))
+    single : (ws : List (ℕ × ℕ × ℕ)) → Went (Edge g) (s .real) (row (s .racks)) ((a, b) ∷ []) ws (row (s′ .racks))
         → s′ .written ≡ s .written + length ws → length t′ ≡ length t → t′ ≡ packedOn t (s .written) ws
         → Single g a b s t s′ t′
     single ws went counted tail bytes =
@@ -493,8 +501,9 @@ module _ {a b : ℕ} {s s′ : State} {t t′ : List ℕ} (long : length (s .rac
         by-cases (decLe (row (s .racks) a) (s .real))
         (λ l.
         let y = x .real l in
-        single ((a, b) ∷ []) (real move l (stay (same-refl (row (s′ .racks))))) (y .1)
-        (ap length (y .0) ∙ length-putPair t (s .written) a b) (y .0))
+        let r = row (s .racks) a in
+        single ((a, b, r) ∷ []) (real move refl l (stay (same-refl (row (s′ .racks))))) (y .1)
+        (ap length (y .0) ∙ length-putPositions t (moveSize true * s .written) (units true (a, b, r))) (y .0))
         (λ l.
         let above : s .real < row (s .racks) a = omega arith in
         let y = x .stand-in above in

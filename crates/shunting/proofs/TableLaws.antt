@@ -163,9 +163,9 @@ module _ {n : ℕ} {E : ℕ → ℕ → Type 0} (inside : (a b : ℕ) → E a b 
             (λ x. inr (there p (t .second) (t .second-vacant) x f))
             (t .only p l (sym (m .others p e f) ∙ z))))
 
-  pub table-went : {m : ℕ} {h k : ℕ → ℕ} {ms ws : List (ℕ × ℕ)} → Went E m h ms ws k → Table n h → Table n k
+  pub table-went : {m : ℕ} {h k : ℕ → ℕ} {ms : List (ℕ × ℕ)} {ws : List (ℕ × ℕ × ℕ)} → Went E m h ms ws k → Table n h → Table n k
   table-went (stay s) t = table-same s t
-  table-went (real x l w) t = table-went w (table-move x t)
+  table-went (real x e l w) t = table-went w (table-move x t)
   table-went (stand-in x l w) t = table-went w (table-move x t)
 
 pub table-other : {n : ℕ} {h : ℕ → ℕ} → Table n h → (z : ℕ) → (x : ℕ) × (x < n) × (x ≢ z) × (h x ≡ 0)

@@ -9,7 +9,7 @@
 --     Turning at size i h k    what stood at the places i, .., size - 1 of `at` stands one place on, place i is vacant, the rest is as it
 --                              was
 --     turning-first, turning-next, turning-last    nothing is moved yet; place i is passed on to place i + 1; all round the cycle is turned
---     PassedBy m a b h ms ws    ms is the move of what stands at a to b, and ws that of a real rack
+--     PassedBy m a b h ms ws    ms is the move of what stands at a to b, and ws that of a real rack, with the rack
 --     went-passed              one move at most, after which what stood at a stands at b: just that
 --     passMoves-next           the moves from place i on, the first of them apart
 --     Onward at size i g s l t s′ l′ t′    the journey so far; its moves, and then those of the places before i, are those of the turn
@@ -31,6 +31,8 @@ use native.Mathlib.Omega.{arith}
 use lib.Dec.{leb}
 use lib.ListN.{length, getD, replicate, getD-replicate}
 use borrow.Author.Tests.{lt-ltb, le-ltb, le-leb, lt-leb}
+use Rattle.field.specs.Listed.{movesOf}
+use Rattle.field.proofs.ListedLaws.{movesOf-append}
 use Rattle.sets.specs.Sets.{Has}
 use Rattle.sets.proofs.SetLaws.{has-first}
 use Rattle.graph.specs.Rows.{Edge}
@@ -181,39 +183,50 @@ module _ (at : ℕ → ℕ) (z size : ℕ) (h k : ℕ → ℕ) (hz : z < size) (
   turning-last =
       record { on = next; closed = first; others = λ p x. t .others p (λ j y l. x ((z + j) % size) (mod-lt (z + j) (omega arith))) }
 
-pub record PassedBy (m a b : ℕ) (h : ℕ → ℕ) (ms ws : List (ℕ × ℕ)) : Type 0 where
-  pub moves : ms ≡ passMove isRack a b h
+pub record PassedBy (m a b : ℕ) (h : ℕ → ℕ) (ms : List (ℕ × ℕ)) (ws : List (ℕ × ℕ × ℕ)) : Type 0 where
+  pub moves : ms ≡ movesOf (passMove isRack a b h)
   pub written : ws ≡ passMove (isReal m) a b h
 
 module _ (m a b : ℕ) (h : ℕ → ℕ) where
-  pass-is : (keep : ℕ → Bool) (t : Bool) → keep (h a) ≡ t → cond t ((a, b) ∷ []) [] ≡ passMove keep a b h
-  pass-is keep t e = ap (λ (u : Bool). cond {A = List (ℕ × ℕ)} u ((a, b) ∷ []) []) (sym e)
+  pass-is : (keep : ℕ → Bool) (t : Bool) → keep (h a) ≡ t → cond t ((a, b, h a) ∷ []) [] ≡ passMove keep a b h
+  pass-is keep t e = ap (λ (u : Bool). cond {A = List (ℕ × ℕ × ℕ)} u ((a, b, h a) ∷ []) []) (sym e)
 
   pass-none : h a ≡ 0 → PassedBy m a b h [] []
+  unfolding movesOf
   pass-none e =
       let no = le-ltb 0 (h a) (omega arith) in
-      record { moves = pass-is isRack false no; written = pass-is (isReal m) false (ap (λ (t : Bool). t && leb (h a) m) no) }
+      record { moves = ap movesOf (pass-is isRack false no); written = pass-is (isReal m) false (ap (λ (t : Bool). t && leb (h a) m) no) }
 
   module _ (n : h a ≢ 0) where
-    pass-real : h a ≤ m → PassedBy m a b h ((a, b) ∷ []) ((a, b) ∷ [])
+    pass-real : h a ≤ m → PassedBy m a b h ((a, b) ∷ []) ((a, b, h a) ∷ [])
+    unfolding movesOf
     pass-real l =
         let yes = lt-ltb 0 (h a) (omega arith) in
         record {
-          moves = pass-is isRack true yes;
+          moves = ap movesOf (pass-is isRack true yes);
           written = pass-is (isReal m) true (ap (λ (t : Bool). t && leb (h a) m) yes ∙ le-leb (h a) m l);
         }
 
     pass-stand-in : m < h a → PassedBy m a b h ((a, b) ∷ []) []
+    unfolding movesOf
     pass-stand-in l =
         let yes = lt-ltb 0 (h a) (omega arith) in
         record {
-          moves = pass-is isRack true yes;
+          moves = ap movesOf (pass-is isRack true yes);
           written = pass-is (isReal m) false (ap (λ (t : Bool). t && leb (h a) m) yes ∙ lt-leb (h a) m l);
         }
 
 pass-pair : {a b x y : ℕ} → (a ≡ x) × (b ≡ y) → _≡_ {A = List (ℕ × ℕ)} ((a, b) ∷ []) ((x, y) ∷ [])
 pass-pair {b = b} {x} e =
     ap {B = List (ℕ × ℕ)} (λ (u : ℕ). (u, b) ∷ []) (e .0) ∙ ap {B = List (ℕ × ℕ)} (λ (v : ℕ). (x, v) ∷ []) (e .1)
+
+pass-listed : {m a b x y r : ℕ} {h : ℕ → ℕ} → (a ≡ x) × (b ≡ y) → r ≡ h a → PassedBy m a b h ((a, b) ∷ []) ((a, b, h a) ∷ [])
+    → PassedBy m a b h ((x, y) ∷ []) ((x, y, r) ∷ [])
+pass-listed {a = a} {b} {x} {y} {r} {h} e f p =
+    let u = e .0 in
+    let v = e .1 in
+    let listed : _≡_ {A = List (ℕ × ℕ × ℕ)} ((x, y, r) ∷ []) ((a, b, h a) ∷ []) = cc in
+    record { moves = sym (pass-pair e) ∙ p .moves; written = listed ∙ p .written }
 
 module _ {E : ℕ → ℕ → Type 0} {h k : ℕ → ℕ} (a b : ℕ) (free : h b ≡ 0) (p : Passed a b h k) where
   -- no move where a is vacant: the position that it leaves had a rack, and would still have it
@@ -225,16 +238,15 @@ module _ {E : ℕ → ℕ → Type 0} {h k : ℕ → ℕ} (a b : ℕ) (free : h 
   pass-just : {i : ℕ → ℕ} {x y : ℕ} → h a ≢ 0 → Move E h x y i → Same i k → (a ≡ x) × (b ≡ y)
   pass-just n move s = move-just a b n (p .left) free (λ e. n (sym (p .entered) ∙ e)) move s
 
-  pub went-passed : {m : ℕ} {ms ws : List (ℕ × ℕ)} → Went E m h ms ws k → length ms ≤ 1 → PassedBy m a b h ms ws
+  pub went-passed : {m : ℕ} {ms : List (ℕ × ℕ)} {ws : List (ℕ × ℕ × ℕ)} → Went E m h ms ws k → length ms ≤ 1 → PassedBy m a b h ms ws
   went-passed {m} (stay s) few =
       by-cases (ℕ-discrete (h a) 0) (λ e. pass-none m a b h e) (λ n. absurd (n (s a ∙ p .left)))
-  went-passed {m} (real x l (stay s)) few =
+  went-passed {m} (real {r = r} x q l (stay s)) few =
       by-cases (ℕ-discrete (h a) 0)
       (λ e. absurd (pass-still e x s))
       (λ n.
       let just = pass-just n x s in
-      subst (λ (u : List (ℕ × ℕ)). PassedBy m a b h u u) (pass-pair just)
-      (pass-real m a b h n (subst (λ (r : ℕ). h r ≤ m) (sym (just .0)) l)))
+      pass-listed just (q ∙ sym (ap h (just .0))) (pass-real m a b h n (subst (λ (p : ℕ). h p ≤ m) (sym (just .0)) l)))
   went-passed {m} (stand-in x l (stay s)) few =
       by-cases (ℕ-discrete (h a) 0)
       (λ e. absurd (pass-still e x s))
@@ -242,9 +254,9 @@ module _ {E : ℕ → ℕ → Type 0} {h k : ℕ → ℕ} (a b : ℕ) (free : h 
       let just = pass-just n x s in
       subst (λ (u : List (ℕ × ℕ)). PassedBy m a b h u []) (pass-pair just)
       (pass-stand-in m a b h n (subst (λ (r : ℕ). m < h r) (sym (just .0)) l)))
-  went-passed (real x l (real y r w)) few = absurd (omega arith)
-  went-passed (real x l (stand-in y r w)) few = absurd (omega arith)
-  went-passed (stand-in x l (real y r w)) few = absurd (omega arith)
+  went-passed (real x q l (real y f r w)) few = absurd (omega arith)
+  went-passed (real x q l (stand-in y r w)) few = absurd (omega arith)
+  went-passed (stand-in x l (real y f r w)) few = absurd (omega arith)
   went-passed (stand-in x l (stand-in y r w)) few = absurd (omega arith)
 
 module _ (keep : ℕ → Bool) (at h : ℕ → ℕ) where
@@ -256,18 +268,18 @@ module _ (keep : ℕ → Bool) (at h : ℕ → ℕ) where
       ap (λ (n : ℕ). passMove keep (at (suc c)) (at (suc c + 1)) h ++ passMoves keep at h n) down
 
   -- ms so far, and now ns, which is what place i adds, by a table k that has there what h has
-  onward-next : (i : ℕ) (k : ℕ → ℕ) (ms ns all : List (ℕ × ℕ)) → 0 < i → k (at i) ≡ h (at i) → ns ≡ passMove keep (at i) (at (i + 1)) k
+  onward-next : (i : ℕ) (k : ℕ → ℕ) (ms ns all : List (ℕ × ℕ × ℕ)) → 0 < i → k (at i) ≡ h (at i) → ns ≡ passMove keep (at i) (at (i + 1)) k
       → ms ++ passMoves keep at h (i + 1 - 1) ≡ all → (ms ++ ns) ++ passMoves keep at h (i - 1) ≡ all
   onward-next i k ms ns all hi same is e =
       let up : i ≡ i + 1 - 1 = omega arith in
       append-assoc ms ns (passMoves keep at h (i - 1))
-      ∙ ap (λ (x : List (ℕ × ℕ)). ms ++ (x ++ passMoves keep at h (i - 1)))
-      (is ∙ ap (λ (r : ℕ). cond {A = List (ℕ × ℕ)} (keep r) ((at i, at (i + 1)) ∷ []) []) same)
-      ∙ ap (λ (x : List (ℕ × ℕ)). ms ++ x) (passMoves-next i hi)
+      ∙ ap (λ (x : List (ℕ × ℕ × ℕ)). ms ++ (x ++ passMoves keep at h (i - 1)))
+      (is ∙ ap (λ (r : ℕ). cond {A = List (ℕ × ℕ × ℕ)} (keep r) ((at i, at (i + 1), r) ∷ []) []) same)
+      ∙ ap (λ (x : List (ℕ × ℕ × ℕ)). ms ++ x) (passMoves-next i hi)
       ∙ ap (λ (n : ℕ). ms ++ passMoves keep at h n) up
       ∙ e
 
-  onward-last : (i : ℕ) (ms all : List (ℕ × ℕ)) → i ≡ 1 → ms ++ passMoves keep at h (i - 1) ≡ all → ms ≡ all
+  onward-last : (i : ℕ) (ms all : List (ℕ × ℕ × ℕ)) → i ≡ 1 → ms ++ passMoves keep at h (i - 1) ≡ all → ms ≡ all
   unfolding passMoves
   onward-last i ms all one e =
       let none : 0 ≡ i - 1 = omega arith in
@@ -275,14 +287,15 @@ module _ (keep : ℕ → Bool) (at h : ℕ → ℕ) where
 
 -- `at` goes round from the vacancy on
 pub record Onward (at : ℕ → ℕ) (size i : ℕ) (g : List ℕ) (s : State) (l t : List ℕ) (s′ : State) (l′ t′ : List ℕ) : Type 0 where
-  pub made : List (ℕ × ℕ)
-  pub packed : List (ℕ × ℕ)
-  pub journey : JourneyBy made packed g (size - i) s l t s′ l′ t′
+  pub made : List (ℕ × ℕ × ℕ)
+  pub packed : List (ℕ × ℕ × ℕ)
+  pub journey : JourneyBy (movesOf made) packed g (size - i) s l t s′ l′ t′
   pub moves : made ++ passMoves isRack at (row (s .racks)) (i - 1) ≡ passMoves isRack at (row (s .racks)) (size - 1)
   pub written : packed ++ passMoves (isReal (s .real)) at (row (s .racks)) (i - 1)
       ≡ passMoves (isReal (s .real)) at (row (s .racks)) (size - 1)
 
 onward-first : (at : ℕ → ℕ) (size : ℕ) (g : List ℕ) (s : State) (l t : List ℕ) → Onward at size size g s l t s l t
+unfolding movesOf
 onward-first at size g s l t =
     record {
       made = [];
@@ -302,13 +315,15 @@ onward-one {at} {size} {i} {s = s} {s′} hi his same free u step p =
     let by = went-passed (at i) (at (i + 1)) free p (step .trip .went) (step .trip .few) in
     let reals = u .journey .journey .trip .reals in
     let written = by .written ∙ ap (λ (m : ℕ). passMove (isReal m) (at i) (at (i + 1)) k) reals in
+    let next = passMove isRack (at i) (at (i + 1)) k in
     record {
-      made = u .made ++ step .trip .moves;
+      made = u .made ++ next;
       packed = u .packed ++ step .trip .written;
       journey =
           journey-by-more (size - i) (omega arith)
-          (journey-by-append (u .journey) (record { journey = step; moves = refl; written = refl }));
-      moves = onward-next isRack at h i k (u .made) (step .trip .moves) _ hi same (by .moves) (u .moves);
+          (journey-by-to (sym (movesOf-append (u .made) next)) refl
+          (journey-by-append (u .journey) (record { journey = step; moves = by .moves; written = refl })));
+      moves = onward-next isRack at h i k (u .made) next _ hi same refl (u .moves);
       written = onward-next (isReal (s .real)) at h i k (u .packed) (step .trip .written) _ hi same written (u .written);
     }
 
@@ -395,7 +410,7 @@ module _ {at : ℕ → ℕ} {z size : ℕ} {s : State} {l t : List ℕ} (v : Vac
         (subst (λ (n : ℕ). Turning (roundFrom at z size) size n (row (s .racks)) (row (s′ .racks))) one (u .turning))
 
     module _ (is : z ≡ vacantPlace at size (row (s .racks))) where
-      turn-all : (keep : ℕ → Bool) (ms : List (ℕ × ℕ))
+      turn-all : (keep : ℕ → Bool) (ms : List (ℕ × ℕ × ℕ))
           → ms ++ passMoves keep (roundFrom at z size) (row (s .racks)) (i - 1)
           ≡ passMoves keep (roundFrom at z size) (row (s .racks)) (size - 1)
           → ms ≡ turnBy keep at size (row (s .racks))
@@ -407,7 +422,8 @@ module _ {at : ℕ → ℕ} {z size : ℕ} {s : State} {l t : List ℕ} (v : Vac
       underway-journey g around =
           let o = u .onward g around in
           journey-by-more size (omega arith)
-          (journey-by-to (turn-all isRack (o .made) (o .moves)) (turn-all (isReal (s .real)) (o .packed) (o .written)) (o .journey))
+          (journey-by-to (ap movesOf (turn-all isRack (o .made) (o .moves))) (turn-all (isReal (s .real)) (o .packed) (o .written))
+          (o .journey))
 
       pub underway-shown : TurnShown at size s s′
       underway-shown = record { legal = λ g around. journey-by-went (underway-journey g around); turned = underway-turned }

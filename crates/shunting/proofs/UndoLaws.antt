@@ -21,7 +21,7 @@ use Rattle.shunting.specs.Went.{Same, Move, Back}
 use Rattle.shunting.specs.declared.State.{State}
 use Rattle.shunting.specs.Journey.{row, Trail, Space, Moved, Trip}
 use Rattle.shunting.specs.Journey.Trail.{start, entry}
-use Rattle.shunting.proofs.JourneyLaws.{trip-none, trip-append, trip-more, trip-written}
+use Rattle.shunting.proofs.JourneyLaws.{trip-none, trip-append, trip-more, trip-written, real-named}
 use Rattle.shunting.proofs.JourneyLaws.{moved-passed, moved-trip}
 use Rattle.shunting.specs.Turned.{Movable, Passed}
 use Rattle.shunting.specs.Undone.{Undoing, Undoable, Undone}
@@ -97,7 +97,7 @@ module _ {l : List ℕ} {s j : ℕ} {x x′ : State} {t t′ : List ℕ} {i : �
       let room = f .room in
       let tail = o .tail in
       let few = trip-written o in
-      record { racks = o .racks ∙ f .racks; room = omega arith }
+      record { racks = o .racks ∙ f .racks; few-racks = real-named o (f .few-racks); room = omega arith }
 
   module _ {a b : ℕ} (leaves : a ≡ first l (i - 1)) (enters : b ≡ second l (i - 1)) where
     pub taking-skip : row (x′ .racks) b ≡ 0 → Taking l s j x t x′ t′ (i - 1)

@@ -80,20 +80,20 @@ module _ {E : ℕ → ℕ → Type 0} where
       }
 
 module _ {E : ℕ → ℕ → Type 0} {m : ℕ} where
-  pub went-from : {h i k : ℕ → ℕ} {ms ws : List (ℕ × ℕ)} → Same i h → Went E m h ms ws k → Went E m i ms ws k
+  pub went-from : {h i k : ℕ → ℕ} {ms : List (ℕ × ℕ)} {ws : List (ℕ × ℕ × ℕ)} → Same i h → Went E m h ms ws k → Went E m i ms ws k
   went-from s (stay t) = stay (same-then s t)
-  went-from {i = i} s (real {a = a} x l w) = real (move-from s x) (subst (λ (r : ℕ). r ≤ m) (sym (s a)) l) w
+  went-from {i = i} s (real {a = a} x e l w) = real (move-from s x) (e ∙ sym (s a)) (subst (λ (r : ℕ). r ≤ m) (sym (s a)) l) w
   went-from {i = i} s (stand-in {a = a} x l w) = stand-in (move-from s x) (subst (λ (r : ℕ). m < r) (sym (s a)) l) w
 
-  pub went-to : {h i k : ℕ → ℕ} {ms ws : List (ℕ × ℕ)} → Same k i → Went E m h ms ws k → Went E m h ms ws i
+  pub went-to : {h i k : ℕ → ℕ} {ms : List (ℕ × ℕ)} {ws : List (ℕ × ℕ × ℕ)} → Same k i → Went E m h ms ws k → Went E m h ms ws i
   went-to s (stay t) = stay (same-then t s)
-  went-to s (real x l w) = real x l (went-to s w)
+  went-to s (real x e l w) = real x e l (went-to s w)
   went-to s (stand-in x l w) = stand-in x l (went-to s w)
 
-  pub went-append : {h i k : ℕ → ℕ} {ms ns ws xs : List (ℕ × ℕ)} → Went E m h ms ws i → Went E m i ns xs k
+  pub went-append : {h i k : ℕ → ℕ} {ms ns : List (ℕ × ℕ)} {ws xs : List (ℕ × ℕ × ℕ)} → Went E m h ms ws i → Went E m i ns xs k
       → Went E m h (ms ++ ns) (ws ++ xs) k
   went-append (stay s) v = went-from s v
-  went-append (real x l w) v = real x l (went-append w v)
+  went-append (real x e l w) v = real x e l (went-append w v)
   went-append (stand-in x l w) v = stand-in x l (went-append w v)
 
 -- a move that leaves a vacant and b not: it leaves a, since no other way makes a vacant, and enters b
@@ -124,11 +124,11 @@ module _ {P : ℕ → Type 0} where
         let just = move-just a b held left vacant entered move same in
         Within.more (subst P (just .0) pa) (subst P (just .1) pb) Within.none
 
-    pub went-one : {m : ℕ} {ms ws : List (ℕ × ℕ)} → Went E m h ms ws k → length ms ≤ 1 → Within P ms
+    pub went-one : {m : ℕ} {ms : List (ℕ × ℕ)} {ws : List (ℕ × ℕ × ℕ)} → Went E m h ms ws k → length ms ≤ 1 → Within P ms
     went-one (stay s) few = Within.none
-    went-one (real x l (stay s)) few = one-move x s
-    went-one (real x l (real y r w)) few = absurd (omega arith)
-    went-one (real x l (stand-in y r w)) few = absurd (omega arith)
+    went-one (real x e l (stay s)) few = one-move x s
+    went-one (real x e l (real y f r w)) few = absurd (omega arith)
+    went-one (real x e l (stand-in y r w)) few = absurd (omega arith)
     went-one (stand-in x l (stay s)) few = one-move x s
-    went-one (stand-in x l (real y r w)) few = absurd (omega arith)
+    went-one (stand-in x l (real y f r w)) few = absurd (omega arith)
     went-one (stand-in x l (stand-in y r w)) few = absurd (omega arith)

@@ -5,16 +5,16 @@
 --     row h                      the table as a function of the position
 --     relogged s j               the state s with j moves in its log
 --     stateOf h m c              the racks h, m of them real, and the counts c as one state; unlogged h m w    w moves written, and no log
---     Packed old ws t            the bytes t are the moves ws, packed, and behind them what stood there before in `old`
---     packedOn t w ws            the bytes t, which have w moves, with the moves ws packed behind them
+--     Packed old ws t            the bytes t are the moves ws in edition two, packed, and behind them what stood there before in `old`
+--     putMove t w m              the bytes t, which have w moves, with the move m behind them; packedOn t w ws    with the moves ws
 --     noted l j ms               the log l, which has j moves, with the moves ms behind them
 --     onto ms past               the moves ms, the last of them first, and behind them `past`
 --     Trail l s j past           the log's entries from s up to j are the moves `past`, the last of them first
---     Fits s l t c               there is room for c moves more
+--     Fits s l t c               there is room for c moves more, and 6 bits hold the number of each real rack minus 1
 --     Room s l t c               there is room for c moves more in the plan, whatever the log has
 --     Space s t c                there is room for c moves more in the plan, and no log
 --     made h a b                 the table h with the rack at a moved to b
---     Moved a b s t s′ t′        that move is made; of a real rack it is packed into the plan
+--     Moved a b s t s′ t′        that move is made; of a real rack it is packed into the plan, with that rack
 --     Trip g c s t s′ t′         at most c moves, each legal at its turn by the rows g, lead from s to s′; those of the real racks are
 --                               packed into the plan, and nothing else of it changes
 --     Journey g c s l t s′ l′ t′       such a trip, with all of its moves logged, and nothing else of the log changes
@@ -29,9 +29,12 @@
 -- Assumes nothing.
 use Prim.Native.Nat.{ℕ, _+_, _-_, _*_, _/_, _≤_, _<_}
 use mathlib.Core.Path.{_≡_}
-use mathlib.Core.List.{List, [], _∷_, _++_}
-use lib.ListN.{getD, length, set, drop}
-use Rattle.field.specs.Packing.{pack, putPair}
+use mathlib.Core.Bool.{true}
+use mathlib.Core.List.{List, [], _∷_}
+use lib.ListN.{getD, length, set}
+use Rattle.field.specs.Packing.{packPositions, putPositions}
+use Rattle.field.specs.Listed.{moveSize, units, allUnits}
+use Rattle.field.specs.Writing.{written}
 use Rattle.sets.specs.Sets.{Has}
 use Rattle.graph.specs.Rows.{Edge}
 use Rattle.shunting.specs.Went.{Went, Within}
@@ -50,12 +53,16 @@ stateOf h m c = record { racks = h; real = m; written = c .written; logged = c .
 abbrev pub unlogged : List ℕ → ℕ → ℕ → State
 unlogged h m w = record { racks = h; real = m; written = w; logged = 0 }
 
-pub record Packed (old : List ℕ) (ws : List (ℕ × ℕ)) (t : List ℕ) : Type 0 where
-  pub is : t ≡ pack ws ++ drop (length (pack ws)) old
+-- Request (h): "The planner writes edition two"
+pub record Packed (old : List ℕ) (ws : List (ℕ × ℕ × ℕ)) (t : List ℕ) : Type 0 where
+  pub is : t ≡ written old 0 (packPositions (allUnits true ws))
 
-unfoldable pub packedOn : List ℕ → ℕ → List (ℕ × ℕ) → List ℕ
+abbrev pub putMove : List ℕ → ℕ → ℕ × ℕ × ℕ → List ℕ
+putMove t w m = putPositions t (moveSize true * w) (units true m)
+
+unfoldable pub packedOn : List ℕ → ℕ → List (ℕ × ℕ × ℕ) → List ℕ
 packedOn t w [] = t
-packedOn t w (m ∷ ms) = packedOn (putPair t w (m .0) (m .1)) (w + 1) ms
+packedOn t w (m ∷ ms) = packedOn (putMove t w m) (w + 1) ms
 
 unfoldable pub noted : List ℕ → ℕ → List (ℕ × ℕ) → List ℕ
 noted l j [] = l
@@ -74,16 +81,19 @@ pub record Fits (s : State) (l t : List ℕ) (c : ℕ) : Type 0 where
   pub racks : length (s .racks) ≡ 64
   pub log : length l ≡ 8256
   pub logged : s .logged + c ≤ 8256
-  pub room : (12 * (s .written + c) + 7) / 8 ≤ length t
+  pub few-racks : s .real ≤ 64
+  pub room : (18 * (s .written + c) + 7) / 8 ≤ length t
 
 pub record Room (s : State) (l t : List ℕ) (c : ℕ) : Type 0 where
   pub racks : length (s .racks) ≡ 64
   pub log : length l ≡ 8256
-  pub room : (12 * (s .written + c) + 7) / 8 ≤ length t
+  pub few-racks : s .real ≤ 64
+  pub room : (18 * (s .written + c) + 7) / 8 ≤ length t
 
 pub record Space (s : State) (t : List ℕ) (c : ℕ) : Type 0 where
   pub racks : length (s .racks) ≡ 64
-  pub room : (12 * (s .written + c) + 7) / 8 ≤ length t
+  pub few-racks : s .real ≤ 64
+  pub room : (18 * (s .written + c) + 7) / 8 ≤ length t
 
 abbrev pub made : List ℕ → ℕ → ℕ → List ℕ
 made h a b = set (set h b (row h a)) a 0
@@ -91,12 +101,12 @@ made h a b = set (set h b (row h a)) a 0
 pub record Moved (a b : ℕ) (s : State) (t : List ℕ) (s′ : State) (t′ : List ℕ) : Type 0 where
   pub table : s′ .racks ≡ made (s .racks) a b
   pub reals : s′ .real ≡ s .real
-  pub real : row (s .racks) a ≤ s .real → (t′ ≡ putPair t (s .written) a b) × (s′ .written ≡ s .written + 1)
+  pub real : row (s .racks) a ≤ s .real → (t′ ≡ putMove t (s .written) (a, b, row (s .racks) a)) × (s′ .written ≡ s .written + 1)
   pub stand-in : s .real < row (s .racks) a → (t′ ≡ t) × (s′ .written ≡ s .written)
 
 pub record Trip (g : List ℕ) (c : ℕ) (s : State) (t : List ℕ) (s′ : State) (t′ : List ℕ) : Type 0 where
   pub moves : List (ℕ × ℕ)
-  pub written : List (ℕ × ℕ)
+  pub written : List (ℕ × ℕ × ℕ)
   pub went : Went (Edge g) (s .real) (row (s .racks)) moves written (row (s′ .racks))
   pub few : length moves ≤ c
   pub reals : s′ .real ≡ s .real
@@ -117,7 +127,8 @@ pub record JourneyIn (P : ℕ → Type 0) (g : List ℕ) (c : ℕ) (s : State) (
   pub journey : Journey g c s l t s′ l′ t′
   pub within : Within P (journey .trip .moves)
 
-pub record JourneyBy (ms ws : List (ℕ × ℕ)) (g : List ℕ) (c : ℕ) (s : State) (l t : List ℕ) (s′ : State) (l′ t′ : List ℕ) : Type 0 where
+pub record JourneyBy (ms : List (ℕ × ℕ)) (ws : List (ℕ × ℕ × ℕ)) (g : List ℕ) (c : ℕ) (s : State) (l t : List ℕ) (s′ : State)
+    (l′ t′ : List ℕ) : Type 0 where
   pub journey : Journey g c s l t s′ l′ t′
   pub moves : journey .trip .moves ≡ ms
   pub written : journey .trip .written ≡ ws

@@ -10,12 +10,12 @@
 --     vacantPlace at size h   the lowest place of the cycle that is vacant
 --     roundFrom at z size i   the position i places after place z of the cycle; at i = size that is place z again
 --     isRack r, isReal m r    r is a rack, not 0; it is a real one, up to m
---     passMove keep a b h     what stands at a, if it is a rack that `keep` takes, moves to b
+--     passMove keep a b h     what stands at a, if it is a rack that `keep` takes, moves to b: the move with that rack
 --     passMoves keep at h c   so does what stands at the places c, c - 1, .., 1 of `at`, one after another, each to the next place
 --     turnBy keep at size h   and so round a cycle, from the vacancy at its lowest place: first what stands before it, last what stands
 --                             behind it
 --     turnMoves at size h     the moves of a turn by one place
---     turnWritten at size s   those of them that move a real rack of the state s
+--     turnWritten at size s   those of them that move a real rack of the state s, each with that rack
 --     TurnJourney at size s l t s′ l′ t′    a journey of just these moves, on every floor that has the cycle
 --     Turned at size h k      every content of the cycle, vacancies too, stands one place on; nothing else moved
 --     TurnShown at size s s′  the three things shown of a turn: legal moves, one place on, no other rack
@@ -29,6 +29,7 @@ use mathlib.Core.Bool.{Bool, cond, _&&_}
 use mathlib.Core.List.{List, [], _∷_, _++_}
 use mathlib.Core.Logic.{_≢_}
 use lib.Dec.{ltb, leb}
+use Rattle.field.specs.Listed.{movesOf}
 use Rattle.graph.specs.Rows.{Edge}
 use Rattle.breakdown.specs.Part.{placeOf}
 use Rattle.shunting.specs.Went.{Went}
@@ -81,21 +82,21 @@ abbrev pub isReal : ℕ → ℕ → Bool
 isReal m r = isRack r && leb r m
 
 -- A vacant place is passed over.
-abbrev pub passMove : (ℕ → Bool) → ℕ → ℕ → (ℕ → ℕ) → List (ℕ × ℕ)
-passMove keep a b h = cond (keep (h a)) ((a, b) ∷ []) []
+abbrev pub passMove : (ℕ → Bool) → ℕ → ℕ → (ℕ → ℕ) → List (ℕ × ℕ × ℕ)
+passMove keep a b h = cond (keep (h a)) ((a, b, h a) ∷ []) []
 
-unfoldable pub passMoves : (ℕ → Bool) → (ℕ → ℕ) → (ℕ → ℕ) → ℕ → List (ℕ × ℕ)
+unfoldable pub passMoves : (ℕ → Bool) → (ℕ → ℕ) → (ℕ → ℕ) → ℕ → List (ℕ × ℕ × ℕ)
 passMoves keep at h zero = []
 passMoves keep at h (suc c) = passMove keep (at (suc c)) (at (suc c + 1)) h ++ passMoves keep at h c
 
-abbrev pub turnBy : (ℕ → Bool) → (ℕ → ℕ) → ℕ → (ℕ → ℕ) → List (ℕ × ℕ)
+abbrev pub turnBy : (ℕ → Bool) → (ℕ → ℕ) → ℕ → (ℕ → ℕ) → List (ℕ × ℕ × ℕ)
 turnBy keep at size h = passMoves keep (roundFrom at (vacantPlace at size h) size) h (size - 1)
 
 abbrev pub turnMoves : (ℕ → ℕ) → ℕ → (ℕ → ℕ) → List (ℕ × ℕ)
-turnMoves at size h = turnBy isRack at size h
+turnMoves at size h = movesOf (turnBy isRack at size h)
 
 -- Document 01: "Vacancies beyond two are filled with stand-in racks whose moves are dropped."
-abbrev pub turnWritten : (ℕ → ℕ) → ℕ → State → List (ℕ × ℕ)
+abbrev pub turnWritten : (ℕ → ℕ) → ℕ → State → List (ℕ × ℕ × ℕ)
 turnWritten at size s = turnBy (isReal (s .real)) at size (row (s .racks))
 
 -- Request (f): "Every order's plan stays the same, byte for byte": which moves are made, logged and written hangs on nothing else.

@@ -4,7 +4,8 @@
 --
 --     Same h k                 the tables h and k agree at every position
 --     Move E h a b k           the rack at a moves along an edge of E to b, which is vacant: that makes k of h
---     Went E m h ms ws k       the moves ms, each legal at its turn, lead from h to k; ws are those of them that move a rack up to m
+--     Went E m h ms ws k       the moves ms, each legal at its turn, lead from h to k; ws are those of them that move a rack up to m, each
+--                              with that rack
 --     Within P ms              each move of ms leaves a position of P and enters one
 --     Back E h ms k            the moves ms turned round, each skipped where nothing stands at the position to leave, lead from h to k
 -- Assumes nothing.
@@ -26,11 +27,12 @@ pub record Move (E : ℕ → ℕ → Type 0) (h : ℕ → ℕ) (a b : ℕ) (k : 
   pub left : k a ≡ 0
   pub others : (p : ℕ) → p ≢ a → p ≢ b → k p ≡ h p
 
-pub data Went (E : ℕ → ℕ → Type 0) (m : ℕ) : (ℕ → ℕ) → List (ℕ × ℕ) → List (ℕ × ℕ) → (ℕ → ℕ) → Type 0 where
+-- Request (h): "each move has 6 more bits at its end, rack number minus 1": r is the rack that moves.
+pub data Went (E : ℕ → ℕ → Type 0) (m : ℕ) : (ℕ → ℕ) → List (ℕ × ℕ) → List (ℕ × ℕ × ℕ) → (ℕ → ℕ) → Type 0 where
   stay : {h k : ℕ → ℕ} → Same h k → Went E m h [] [] k
-  real : {h i k : ℕ → ℕ} {a b : ℕ} {ms ws : List (ℕ × ℕ)} → Move E h a b i → h a ≤ m → Went E m i ms ws k
-      → Went E m h ((a, b) ∷ ms) ((a, b) ∷ ws) k
-  stand-in : {h i k : ℕ → ℕ} {a b : ℕ} {ms ws : List (ℕ × ℕ)} → Move E h a b i → m < h a → Went E m i ms ws k
+  real : {h i k : ℕ → ℕ} {a b r : ℕ} {ms : List (ℕ × ℕ)} {ws : List (ℕ × ℕ × ℕ)} → Move E h a b i → r ≡ h a → h a ≤ m
+      → Went E m i ms ws k → Went E m h ((a, b) ∷ ms) ((a, b, r) ∷ ws) k
+  stand-in : {h i k : ℕ → ℕ} {a b : ℕ} {ms : List (ℕ × ℕ)} {ws : List (ℕ × ℕ × ℕ)} → Move E h a b i → m < h a → Went E m i ms ws k
       → Went E m h ((a, b) ∷ ms) ws k
 
 pub data Within (P : ℕ → Type 0) : List (ℕ × ℕ) → Type 0 where

@@ -1,6 +1,7 @@
 // Racks on the move: one move, a position cleared, a rack brought to a position, a cycle turned by one place, and a log taken back. Each
 // move of a real rack is packed into the plan as it is made, and every move is logged. specs/Journey.antt says what that means.
 ghost use mathlib.Core.Path.{_≡_};
+ghost use mathlib.Core.Logic.{_≢_};
 ghost use Prim.Native.Nat.{_+_, _-_, _≤_, _<_};
 ghost use Rattle.sets.specs.Sets.{Has};
 ghost use Rattle.graph.specs.Connected.{Robust};
@@ -35,7 +36,8 @@ struct Tally {
     logged: usize,
 }
 
-// Moves the rack at a to b. The move of a stand-in is not written. Yields how many moves the plan has.
+// Moves the rack at a to b. The move is written with the rack's number; that of a stand-in is not written. Yields how many moves the plan
+// has.
 pub fn move_rack(
     a: usize,
     b: usize,
@@ -44,7 +46,7 @@ pub fn move_rack(
     tail: &mut [u8],
     written: usize,
 ) -> usize
-    requires { ⌜ (a < 64) × (b < 64) ⌝ }
+    requires { ⌜ (a < 64) × (b < 64) × (row (now racks) a ≢ 0) ⌝ }
     requires { ⌜ Space (unlogged (now racks) real written) (now tail) 1 ⌝ }
     ensures { λ r. ⌜ Moved a b (unlogged (now (racks .entry)) real written) (now (tail .entry))
         (unlogged (now (racks .exit)) real r) (now (tail .exit)) ⌝ }
@@ -52,10 +54,11 @@ pub fn move_rack(
     let rack = racks[a];
     racks[b] = rack;
     racks[a] = 0;
-    if real < field::wide(rack) {
+    let number = field::wide(rack);
+    if real < number {
         return written;
     }
-    field::put_pair(tail, written, a, b);
+    field::put_listed(tail, true, written, a, b, number);
     written + 1
 }
 

@@ -113,6 +113,7 @@ shift-met = (
   record {
     racks = four-long 2 0 0 1;
     log = length-replicate {A = ℕ} 8256 0;
+    few-racks = lit≤ tt;
     room = space goal (four-long 2 0 0 1) 5 (lit≤ tt) .room;
   },
 )

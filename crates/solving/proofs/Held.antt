@@ -2,13 +2,16 @@
 --
 --     HeldBy A f       the table f says where the racks of the arrangement A stand: rack i + 1 is the one of index i
 --     held-same        tables that agree say the same
+--     held-racks       such a table has the rack of each position
 --     held-move        a move on the table is a legal move, and is held
 --     Led, went-led    moves on the table, each legal at its turn, lead to an arrangement that the last table holds
 --     held-one         a table holds one arrangement only
 --     went-replayed    so the replay of moves that lead from the starts' table to the goals' ends at the goals
+--     went-listed      where every move is written, the written moves are the moves as a plan lists them
 -- Assumes nothing.
 use Prim.Native.Nat.{ℕ, suc, _<_}
 use mathlib.Core.Path.{_≡_, refl, sym, ap, ap₂, subst, _∙_}
+use mathlib.Core.Bool.{true}
 use mathlib.Core.List.{List, [], _∷_}
 use mathlib.Core.Logic.{_≢_, ⊎-elim, by-cases}
 use native.Mathlib.Decide.{ℕ-discrete}
@@ -16,15 +19,16 @@ use native.Mathlib.Omega.{arith}
 use lib.Dec.{T}
 use lib.ListN.{length, getD}
 use Rattle.order.specs.Floor.{Floor, joined}
-use Rattle.motion.specs.Arrangement.{Arrangement, occupied, vacant}
-use Rattle.motion.proofs.ArrangementLaws.{occupied-rack, vacant-racks, occupied-or-vacant}
+use Rattle.motion.specs.Arrangement.{Arrangement, occupied, vacant, rackAt}
+use Rattle.motion.proofs.ArrangementLaws.{occupied-rack, vacant-racks, occupied-or-vacant, rackAt-finds, rackAt-none}
 use Rattle.motion.specs.Move.{legalMove, afterMove}
 use Rattle.motion.proofs.MoveLaws.{onFloor-parts, legal-parts, move-length, moved-rack, moved-other}
 use Rattle.motion.proofs.Lawful.{Leads, replayMoves-ended}
 use Rattle.motion.proofs.Lawful.Lawful.{still, _then_}
-use Rattle.motion.specs.Replay.{ended, replayMoves}
+use Rattle.motion.specs.Replay.{ended, replayMoves, listed}
 use Rattle.shunting.specs.Went.{Same, Move, Went}
 use Rattle.shunting.specs.Went.Went.{stay, real, stand-in}
+use Rattle.shunting.proofs.JourneyLaws.{went-written}
 
 pub record HeldBy (A : Arrangement) (f : ℕ → ℕ) : Type 0 where
   pub racks : (i : ℕ) → i < length A → f (getD A i 0) ≡ suc i
@@ -32,6 +36,13 @@ pub record HeldBy (A : Arrangement) (f : ℕ → ℕ) : Type 0 where
 
 pub held-same : {A : Arrangement} {f k : ℕ → ℕ} → Same f k → HeldBy A f → HeldBy A k
 held-same {A} s h = record { racks = λ i l. sym (s (getD A i 0)) ∙ h .racks i l; others = λ p out. sym (s p) ∙ h .others p out }
+
+pub held-racks : {A : Arrangement} {f : ℕ → ℕ} → HeldBy A f → (p : ℕ) → f p ≡ rackAt A p
+held-racks {A} {f} h p =
+    ⊎-elim
+    (λ o. let r = rackAt-finds A p o in ap f (sym (r .2)) ∙ h .racks (r .0) (r .1) ∙ sym (r .3))
+    (λ v. h .others p (vacant-racks A p .0 v) ∙ sym (rackAt-none A p v))
+    (occupied-or-vacant A p)
 
 module _ (F : Floor) {E : ℕ → ℕ → Type 0} (joins : (a b : ℕ) → E a b → (a < F .positions) × (b < F .positions) × T (joined F a b)) where
   module _ (A : Arrangement) {f k : ℕ → ℕ} {a b : ℕ} (h : HeldBy A f) (m : Move E f a b k) where
@@ -81,10 +92,22 @@ module _ (F : Floor) {E : ℕ → ℕ → Type 0} (joins : (a b : ℕ) → E a b
   led-then {a = a} {b = b} A h x r =
       record { to = r .to; leads = held-legal A h x then r .leads; holds = r .holds; size = r .size ∙ move-length A (a, b) }
 
-  pub went-led : {m : ℕ} {f k : ℕ → ℕ} {ms ws : List (ℕ × ℕ)} (A : Arrangement) → HeldBy A f → Went E m f ms ws k → Led A ms k
+  pub went-led : {m : ℕ} {f k : ℕ → ℕ} {ms : List (ℕ × ℕ)} {ws : List (ℕ × ℕ × ℕ)} (A : Arrangement) → HeldBy A f → Went E m f ms ws k
+      → Led A ms k
   went-led A h (stay s) = record { to = A; leads = still; holds = held-same s h; size = refl }
-  went-led A h (real {a = a} {b = b} x l w) = led-then A h x (went-led (afterMove A (a, b)) (held-move A h x) w)
+  went-led A h (real {a = a} {b = b} x e l w) = led-then A h x (went-led (afterMove A (a, b)) (held-move A h x) w)
   went-led A h (stand-in {a = a} {b = b} x l w) = led-then A h x (went-led (afterMove A (a, b)) (held-move A h x) w)
+
+  -- where every move is written no rack is a stand-in, and each is the one that replay has at the position left
+  pub went-listed : {m : ℕ} {f k : ℕ → ℕ} {ms : List (ℕ × ℕ)} {ws : List (ℕ × ℕ × ℕ)} (A : Arrangement) → HeldBy A f → Went E m f ms ws k
+      → length ms ≡ length ws → ws ≡ listed true A ms
+  unfolding listed
+  went-listed A h (stay s) all = refl
+  went-listed A h (real {a = a} {b} {ws = ws} x e l w) all =
+      let next = afterMove A (a, b) in
+      ap (λ (r : ℕ). (a, b, r) ∷ ws) (e ∙ held-racks h a)
+      ∙ ap (λ (l : List (ℕ × ℕ × ℕ)). (a, b, rackAt A a) ∷ l) (went-listed next (held-move A h x) w (omega arith))
+  went-listed A h (stand-in x l w) all = let few = went-written w in absurd (omega arith)
 
 same-list : (A B : List ℕ) → length A ≡ length B → ((i : ℕ) → i < length A → getD A i 0 ≡ getD B i 0) → A ≡ B
 same-list [] [] e same = refl
@@ -111,8 +134,9 @@ held-one A B f one size a b =
     clash z = omega arith
 
 pub went-replayed : (F : Floor) {E : ℕ → ℕ → Type 0} → ((a b : ℕ) → E a b → (a < F .positions) × (b < F .positions) × T (joined F a b))
-    → {m : ℕ} {f k : ℕ → ℕ} {ms ws : List (ℕ × ℕ)} (A G : Arrangement) → ((p q : ℕ) → k p ≢ 0 → k p ≡ k q → p ≡ q) → length A ≡ length G
-    → HeldBy A f → HeldBy G k → Went E m f ms ws k → replayMoves F A ms ≡ ended G
+    → {m : ℕ} {f k : ℕ → ℕ} {ms : List (ℕ × ℕ)} {ws : List (ℕ × ℕ × ℕ)} (A G : Arrangement)
+    → ((p q : ℕ) → k p ≢ 0 → k p ≡ k q → p ≡ q) → length A ≡ length G → HeldBy A f → HeldBy G k → Went E m f ms ws k
+    → replayMoves F A ms ≡ ended G
 went-replayed F joins {k = k} {ms = ms} A G one size a g w =
     let r = went-led F joins A a w in
     let same = held-one (r .to) G k one (r .size ∙ size) (r .holds) g in

@@ -54,9 +54,9 @@ module _ {n : ℕ} (all : ℕ) (has : (p : ℕ) → Has all p ↔ (p < n)) where
   few-rest {x} inside free less =
       at-most-without all free (has x .1 inside) less (at-most-more (suc (suc (n - 2))) (omega arith) few-all)
 
-pub none-written : {E : ℕ → ℕ → Type 0} {h k : ℕ → ℕ} {ms ws : List (ℕ × ℕ)} → Went E 0 h ms ws k → ws ≡ []
+pub none-written : {E : ℕ → ℕ → Type 0} {h k : ℕ → ℕ} {ms : List (ℕ × ℕ)} {ws : List (ℕ × ℕ × ℕ)} → Went E 0 h ms ws k → ws ≡ []
 none-written (stay s) = refl
-none-written (real {h = h} {a = a} m low w) = absurd (m .held (zero (h a) low))
+none-written (real {h = h} {a = a} m e low w) = absurd (m .held (zero (h a) low))
   where
     zero : (r : ℕ) → r ≤ 0 → r ≡ 0
     zero r l = omega arith

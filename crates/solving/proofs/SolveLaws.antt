@@ -28,7 +28,7 @@ use Rattle.shunting.proofs.WentLaws.{same-refl}
 use Rattle.shunting.proofs.BackLaws.{back-went, back-from}
 use Rattle.shunting.specs.Undone.{Undoing}
 use Rattle.shunting.specs.Journey.{row, onto, Room, Space, Trip}
-use Rattle.shunting.proofs.JourneyLaws.{trip-append, trip-more, trip-written}
+use Rattle.shunting.proofs.JourneyLaws.{trip-append, trip-more, trip-written, real-named}
 use Rattle.shunting.specs.Table.{Table}
 use Rattle.base_ring.specs.declared.Circle.{Circle}
 use Rattle.base_ring.specs.Circle.{place, On, BaseRing, Open, RestSettled}
@@ -142,14 +142,14 @@ module _ {n r : ℕ} (three : 3 ≤ r) (less : r < n) {s : State} {t : List ℕ}
   room-shift k l racks log =
       let all = bound n r three less in
       let room = space .room in
-      record { racks = racks; log = log; room = omega arith }
+      record { racks = racks; log = log; few-racks = omega arith; room = omega arith }
 
   pub space-settle : {t′ : List ℕ} → t′ ≡ t → Space s t′ (settleMoves n r)
   space-settle {t′} same =
       let all = bound n r three less in
       let room = space .room in
       let long : length t′ ≡ length t = ap length same in
-      record { racks = space .racks; room = omega arith }
+      record { racks = space .racks; few-racks = space .few-racks; room = omega arith }
 
   module _ {g : List ℕ} {t₁ : List ℕ} (same : t₁ ≡ t) {s₂ : State} {t₂ : List ℕ} (trip : Trip g (settleMoves n r) s t₁ s₂ t₂) (j : ℕ)
       (few : j ≤ shiftMoves n) where
@@ -160,7 +160,7 @@ module _ {n r : ℕ} (three : 3 ≤ r) (less : r < n) {s : State} {t : List ℕ}
         let long : length t₁ ≡ length t = ap length same in
         let tail = trip .tail in
         let written = trip-written trip in
-        record { racks = trip .racks ∙ space .racks; room = omega arith }
+        record { racks = trip .racks ∙ space .racks; few-racks = real-named trip (space .few-racks); room = omega arith }
 
     pub trip-all : {s₃ : State} {t₃ : List ℕ} → Trip g (j - 0) s₂ t₂ s₃ t₃ → Trip g (solveMoves n) s t s₃ t₃
     trip-all {s₃} {t₃} back =

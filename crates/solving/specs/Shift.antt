@@ -28,7 +28,7 @@ pub record TwoPositions (n x y : ℕ) : Type 0 where
 
 pub record Shift (n : ℕ) (g : List ℕ) (x y : ℕ) (t : List ℕ) (s : State) (l : List ℕ) : Type 0 where
   pub moves : List (ℕ × ℕ)
-  pub written : List (ℕ × ℕ)
+  pub written : List (ℕ × ℕ × ℕ)
   pub went : Went (Edge g) 0 (row t) moves written (row (s .racks))
   pub few : s .logged ≤ shiftMoves n
   pub trail : Trail l 0 (s .logged) (onto moves [])

@@ -3,6 +3,7 @@
 --     zeros-at           the empty table holds nothing
 --     passed, failed     a test that passes or fails, as an equation
 --     held-occupied      the table holds a rack exactly where the arrangement has one
+--     table-rack         what the table has at p is the rack that stands there
 --     held-rack          rack i + 1 is what the table has at p exactly if rack i + 1 stands at p
 --     placed-holds       the racks of a sound arrangement, put down one after another, are held
 --     moved-holds        a move from an occupied to a vacant position, made on the table, is held
@@ -20,8 +21,8 @@ use lib.ListN.{length, getD, set, replicate, length-set, length-replicate}
 use lib.Seq.{getD-set-same, getD-set-other}
 use lib.Dec.{T, eqb, ltb, ltb→lt}
 use Rattle.order.specs.Tables.{placed}
-use Rattle.motion.specs.Arrangement.{Arrangement, occupied, vacant}
-use Rattle.motion.proofs.ArrangementLaws.{occupied-rack, vacant-racks, occupied-or-vacant}
+use Rattle.motion.specs.Arrangement.{Arrangement, occupied, vacant, rackAt}
+use Rattle.motion.proofs.ArrangementLaws.{occupied-rack, vacant-racks, occupied-or-vacant, rackAt-finds, rackAt-none}
 use Rattle.motion.specs.Move.{afterMove}
 use Rattle.motion.proofs.MoveLaws.{move-length, moved-rack, moved-other}
 use Rattle.motion.specs.Sound.{Sound}
@@ -50,6 +51,15 @@ module _ (A : Arrangement) (h : List ℕ) (holds : Holds A h) where
       let there : getD h p 0 ≡ suc (r .0) = ap (λ (q : ℕ). getD h q 0) (sym (r .2)) ∙ holds .racks (r .0) (r .1) in
       rw (ne-eqb (getD h p 0) 0 (λ z. omega arith)) (sym (passed (occupied A p) o)))
       (λ (v : T (vacant A p)). rw (eq-eqb (getD h p 0) 0 (holds .others p v)) (sym (failed (occupied A p) v)))
+      (occupied-or-vacant A p)
+
+  pub table-rack : (p : ℕ) → rackAt A p ≡ getD h p 0
+  table-rack p =
+      ⊎-elim
+      (λ (o : T (occupied A p)).
+      let r = rackAt-finds A p o in
+      r .3 ∙ sym (ap (λ (q : ℕ). getD h q 0) (sym (r .2)) ∙ holds .racks (r .0) (r .1)))
+      (λ (v : T (vacant A p)). rackAt-none A p v ∙ sym (holds .others p v))
       (occupied-or-vacant A p)
 
   pub held-rack : (i g : ℕ) → i < length A → eqb (getD h g 0) (suc i) ≡ eqb (getD A i 0) g

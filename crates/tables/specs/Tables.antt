@@ -5,7 +5,8 @@
 --     heldAt h p               by the table h a rack stands at p
 --     entriesFault e l t       a move's fault by what the tables have: e for its edge, l where it leaves, t where it enters
 --     moveFaultOn g h m        the fault of the move m by the matrix g and the table h
---     movedOn h m              the table h after the move m
+--     listedEntries e l t r    the same with the rack r that the move names, 0 for none; listedFaultOn g h w
+--     movedOn h m              the table h after the move m; listedOn h w    after the listed move w
 --     misplacedOn r h G        by the table h, the lowest rack that does not stand at its goal, where G begins with
 --                              rack r's; 0 where each does
 --     MisplacedOn h G m r      r is that rack, where the goals G are those of racks 1 to m, so that it is at most m
@@ -18,7 +19,7 @@ use mathlib.Core.List.{List, [], _∷_}
 use lib.ListN.{getD, set}
 use lib.Dec.{eqb}
 use Rattle.answers.specs.Answer.{Answer, accepted, refused, refuse}
-use Rattle.motion.specs.Move.{faultBy}
+use Rattle.motion.specs.Move.{faultBy, misnamed}
 use Rattle.motion.specs.Replay.{Replayed, ended, stopped}
 
 unfoldable pub edgeAt : List ℕ → ℕ × ℕ → Bool
@@ -34,8 +35,19 @@ entriesFault edge left entered = faultBy (not (eqb edge 0)) (not (eqb left 0)) (
 unfoldable pub moveFaultOn : List ℕ → List ℕ → ℕ × ℕ → ℕ
 moveFaultOn g h m = entriesFault (getD g (m .0 * 64 + m .1) 0) (getD h (m .0) 0) (getD h (m .1) 0)
 
+unfoldable pub listedEntries : ℕ → ℕ → ℕ → ℕ → ℕ
+listedEntries edge left entered rack =
+    let f = entriesFault edge left entered in
+    cond (eqb f 0) (misnamed rack left) f
+
+unfoldable pub listedFaultOn : List ℕ → List ℕ → ℕ × ℕ × ℕ → ℕ
+listedFaultOn g h w = listedEntries (getD g (w .0 * 64 + w .1) 0) (getD h (w .0) 0) (getD h (w .1) 0) (w .2)
+
 unfoldable pub movedOn : List ℕ → ℕ × ℕ → List ℕ
 movedOn h m = set (set h (m .0) 0) (m .1) (getD h (m .0) 0)
+
+unfoldable pub listedOn : List ℕ → ℕ × ℕ × ℕ → List ℕ
+listedOn h w = movedOn h (w .0, w .1)
 
 unfoldable pub misplacedOn : ℕ → List ℕ → List ℕ → ℕ
 misplacedOn r h [] = 0

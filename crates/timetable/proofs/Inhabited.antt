@@ -31,7 +31,7 @@ use Rattle.answers.specs.Answer.{Answer, accepted, refused}
 use Rattle.field.specs.Bits.{bits, number, bitsOf, field, positions, pairs, pairBits, pad, padded, bytes, toBytes}
 use Rattle.field.specs.Bytes.{Bytes, none, more, none₂, more₂}
 use Rattle.field.proofs.WholeBytes.{below-each}
-use Rattle.field.specs.Units.{recordLength, misfits, unclean}
+use Rattle.field.specs.Units.{recordLength, misfits, padSet, unclean}
 use Rattle.field.specs.Front.{wholeLength}
 use Rattle.order.specs.Floor.{some, isPair, joined}
 use Rattle.order.specs.Order.{positionCount, edgeCount, rackCount, unitCount, floorOf, startsOf, goalsOf, orderOf, wrongLength}
@@ -214,7 +214,7 @@ unfoldable pub timetable-open : List ℕ → List ℕ → Answer
 unfolding timetableAnswer judged misplaced replaySteps replayFrom stepFault unlessLegal legalStep? by-test legalStep every ascends
     leaves enters enteredOnce led occupied vacant onFloor goesTo after joined some isPair orderAnswer counts wrongRacks wrongPlaces repeats
     wrongEdges ascending precedes badEdge paddingSet wrongPositions wrongLength unitCount floorOf startsOf goalsOf orderOf positionCount
-    edgeCount rackCount unclean misfits recordLength positions total stepsOf stepMoves pairs wrongTimetableLength timetablePaddingSet
+    edgeCount rackCount padSet unclean misfits recordLength positions total stepsOf stepMoves pairs wrongTimetableLength timetablePaddingSet
     wrongSteps stepPadSet pad partsOf stepParts stepLength stepCount field number bitsOf bits
 timetable-open o s = timetableAnswer o s
 
@@ -266,7 +266,7 @@ fullOrder = 0x04 ∷ 0x02 ∷ 0x08 ∷ 0x00 ∷ 0x10 ∷ 0x01 ∷ 0x00 ∷ 0x10 
 
 pub full-right : WellFormed fullOrder
 unfolding orderAnswer counts wrongRacks wrongPlaces repeats wrongEdges ascending precedes badEdge paddingSet wrongPositions wrongLength
-    unitCount floorOf startsOf goalsOf orderOf positionCount edgeCount rackCount unclean misfits recordLength positions pairs some pad
+    unitCount floorOf startsOf goalsOf orderOf positionCount edgeCount rackCount padSet unclean misfits recordLength positions pairs some pad
     field number bitsOf bits
 full-right = record { length-right = refl; positions-right = refl; padding-clear = refl; edges-right = refl; racks-right = refl }
 

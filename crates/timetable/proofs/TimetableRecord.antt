@@ -111,33 +111,33 @@ steps-joined (ms ∷ l) =
 
 pub record-bytes : (l : List (List (ℕ × ℕ))) → Bytes (timetableRecord l)
 unfolding timetableRecord timetableBits headBits
-record-bytes l = toBytes-are (below-append (headBits-are (length l)) (allStepBits-are l))
+record-bytes l = toBytes-are (below-append (headBits-are (length l) 0) (allStepBits-are l))
 
-pub record-parts : (l : List (List (ℕ × ℕ))) → timetableRecord l ≡ toBytes (headBits (length l)) ++ joined (map stepRecord l)
+pub record-parts : (l : List (List (ℕ × ℕ))) → timetableRecord l ≡ toBytes (headBits (length l) 0) ++ joined (map stepRecord l)
 unfolding timetableRecord timetableBits headBits
 record-parts l =
-    toBytes-append 3 (headBits-are (length l)) (length-headBits (length l)) (allStepBits-are l)
-    ∙ ap (λ (t : List ℕ). toBytes (headBits (length l)) ++ t) (steps-joined l)
+    toBytes-append 3 (headBits-are (length l) 0) (length-headBits (length l) 0) (allStepBits-are l)
+    ∙ ap (λ (t : List ℕ). toBytes (headBits (length l) 0) ++ t) (steps-joined l)
 
 module _ (l : List (List (ℕ × ℕ))) where
-  head-record : length (toBytes (headBits (length l))) ≡ 3
-  head-record = length-whole 3 (headBits-are (length l)) (length-headBits (length l))
+  head-record : length (toBytes (headBits (length l) 0)) ≡ 3
+  head-record = length-whole 3 (headBits-are (length l) 0) (length-headBits (length l) 0)
 
   -- the bits of the record: its head, and the rest
-  record-bits : bitsOf (timetableRecord l) ≡ headBits (length l) ++ bitsOf (joined (map stepRecord l))
+  record-bits : bitsOf (timetableRecord l) ≡ headBits (length l) 0 ++ bitsOf (joined (map stepRecord l))
   record-bits =
-      ap bitsOf (record-parts l) ∙ bitsOf-append (toBytes (headBits (length l))) (joined (map stepRecord l))
+      ap bitsOf (record-parts l) ∙ bitsOf-append (toBytes (headBits (length l) 0)) (joined (map stepRecord l))
       ∙ ap (λ (h : List ℕ). h ++ bitsOf (joined (map stepRecord l)))
-      (toBytes-whole 3 (headBits-are (length l)) (length-headBits (length l)))
+      (toBytes-whole 3 (headBits-are (length l) 0) (length-headBits (length l) 0))
 
   record-rest : drop 3 (timetableRecord l) ≡ joined (map stepRecord l)
-  record-rest = ap (drop 3) (record-parts l) ∙ drop-at (toBytes (headBits (length l))) (joined (map stepRecord l)) 3 head-record
+  record-rest = ap (drop 3) (record-parts l) ∙ drop-at (toBytes (headBits (length l) 0)) (joined (map stepRecord l)) 3 head-record
 
   record-long : 3 ≤ length (timetableRecord l)
   record-long = omega (
     arith,
     ap length (record-parts l),
-    length-append (toBytes (headBits (length l))) (joined (map stepRecord l)),
+    length-append (toBytes (headBits (length l) 0)) (joined (map stepRecord l)),
     head-record,
   )
 
@@ -224,7 +224,7 @@ module _ {s : List ℕ} (b : Bytes s) (w : WellPacked s) where
   spare-zero = eqb-true (field s 22 2) 0 (not-false _ (or-left _ _ (w .padding-clear)))
 
   -- the first three bytes are the head
-  head-bits : bitsOf (take 3 s) ≡ headBits (stepCount s)
+  head-bits : bitsOf (take 3 s) ≡ headBits (stepCount s) 0
   unfolding headBits stepCount
   head-bits =
       sym (take-at (bitsOf (take 3 s)) (bitsOf (drop 3 s)) 24 (length-bitsOf (take 3 s) ∙ ap (λ (n : ℕ). 8 * n) (length-take-le 3 s long)))
@@ -232,17 +232,17 @@ module _ {s : List ℕ} (b : Bytes s) (w : WellPacked s) where
       ∙ take-add 22 2 (bitsOf s)
       ∙ ap₂ _++_ (sym (bits-field s 0 22 (omega (arith, long)))) (sym (bits-field s 22 2 (omega (arith, long))) ∙ ap (bits 2) spare-zero)
 
-  head-right : toBytes (headBits (stepCount s)) ≡ take 3 s
+  head-right : toBytes (headBits (stepCount s) 0) ≡ take 3 s
   head-right =
       sym
-      (toBytes-from (below-take 3 b) (headBits-are (stepCount s))
-      (head-bits ∙ sym (padded-whole (headBits (stepCount s)) 3 (length-headBits (stepCount s)))))
+      (toBytes-from (below-take 3 b) (headBits-are (stepCount s) 0)
+      (head-bits ∙ sym (padded-whole (headBits (stepCount s) 0) 3 (length-headBits (stepCount s) 0))))
 
   pub record-stepsOf : timetableRecord (stepsOf s) ≡ s
   unfolding stepsOf
   record-stepsOf =
       record-parts (stepsOf s)
-      ∙ ap₂ _++_ (ap (λ (k : ℕ). toBytes (headBits k)) (count-steps s) ∙ head-right)
+      ∙ ap₂ _++_ (ap (λ (k : ℕ). toBytes (headBits k 0)) (count-steps s) ∙ head-right)
       (ap joined (records-back (rest-right .0)) ∙ rest-right .1)
       ∙ take-append-drop 3 s
 

@@ -31,6 +31,7 @@ const THEOREMS: &[(&str, &[&str])] = &[
     ("crates/optimality/specs/Shortest.antt", &[]),
     ("crates/planner/specs/Rings.antt", &[]),
     ("crates/shortening/specs/Theorems.antt", &[]),
+    ("crates/converting/specs/Theorems.antt", &[]),
 ];
 
 /// A decision carries the proof that it decides: what it decides stands in its type, and nobody has to believe the rest.

@@ -11,7 +11,7 @@ use compare::proved;
 use compare::random::Random;
 use compare::short_orders::{self, MODELS};
 use compare::timetables;
-use compare::write::Order;
+use compare::write::{Edition, Order, EDITIONS};
 use std::hint::black_box;
 use std::time::Instant;
 
@@ -29,6 +29,7 @@ fn main() {
     breakdown();
     clear();
     plan_check();
+    plan_convert();
     plan_shorten();
     timetable_check();
     timetable_step();
@@ -207,22 +208,53 @@ fn clear() {
 }
 
 /// A plan of so many moves on an 8 by 8 grid, and its order.
-fn grid_plan(m: usize, moves: usize) -> (Vec<u8>, Vec<u8>) {
+fn grid_plan(m: usize, moves: usize, edition: Edition) -> (Vec<u8>, Vec<u8>) {
     let mut random = Random::new(0xBE_0003);
     let sample = plans::sound_on(&mut random, floors::grid(8, 8), m, moves);
-    (sample.order.record(), sample.plan().record())
+    (sample.order.record(), sample.plan(edition).record())
+}
+
+/// The racks, the moves and the calls of the plans that are checked and converted.
+const PLANS: [(usize, usize, usize); 3] = [(62, 1_354, 500), (62, 2_097_152, 1), (32, 2_097_152, 1)];
+
+/// What a line on such a plan says of it.
+fn grid_input(m: usize, moves: usize, edition: Edition) -> String {
+    match edition {
+        Edition::One => format!("8 by 8 grid, {m} racks, {moves} moves"),
+        Edition::Two => format!("{m} racks, {moves} moves, edition two"),
+    }
 }
 
 fn plan_check() {
-    for (m, moves, calls) in [(62, 1_354, 500), (62, 2_097_152, 1), (32, 2_097_152, 1)] {
-        let (order, plan) = grid_plan(m, moves);
-        compare_speed(
-            "plan_check",
-            &format!("8 by 8 grid, {m} racks, {moves} moves"),
-            calls,
-            || proved::plan_check(black_box(&order), &plan),
-            || compare::packed::count(second::plan::check(black_box(&order), &plan)),
-        );
+    for edition in EDITIONS {
+        for (m, moves, calls) in PLANS {
+            let (order, plan) = grid_plan(m, moves, edition);
+            compare_speed(
+                "plan_check",
+                &grid_input(m, moves, edition),
+                calls,
+                || proved::plan_check(black_box(&order), &plan),
+                || compare::packed::count(second::plan::check(black_box(&order), &plan)),
+            );
+        }
+    }
+}
+
+/// From each edition to the other: a line names the one that is read.
+fn plan_convert() {
+    for edition in EDITIONS {
+        for (m, moves, calls) in PLANS {
+            let (order, plan) = grid_plan(m, moves, edition);
+            let length = edition.other().length(moves);
+            let (mut one, mut two) = (vec![0; length], vec![0; length]);
+            compare_speed(
+                "plan_convert",
+                &grid_input(m, moves, edition),
+                calls,
+                || proved::plan_convert(black_box(&order), &plan, &mut one),
+                || compare::packed::count(second::converting::convert(black_box(&order), &plan, &mut two)),
+            );
+        }
     }
 }
 
@@ -231,12 +263,14 @@ fn plan_check() {
 fn plan_shorten() {
     let most = 2_097_152;
     for (m, moves, calls) in [(62, 1_354, 500), (62, most, 1), (32, most, 1), (1, most, 1)] {
-        let (order, plan) = grid_plan(m, moves);
-        shorten_line(&format!("8 by 8 grid, {m} racks, {moves} moves"), &order, &plan, calls);
+        let (order, plan) = grid_plan(m, moves, Edition::One);
+        shorten_line(&grid_input(m, moves, Edition::One), &order, &plan, calls);
     }
+    let (order, plan) = grid_plan(62, most, Edition::Two);
+    shorten_line(&grid_input(62, most, Edition::Two), &order, &plan, 1);
     for (name, sample) in cancelling::hurting(most) {
         let input = format!("{} moves, {name}", sample.moves.len());
-        shorten_line(&input, &sample.order.record(), &sample.plan().record(), 1);
+        shorten_line(&input, &sample.order.record(), &sample.plan(Edition::One).record(), 1);
     }
 }
 
@@ -285,8 +319,14 @@ fn timetable_step() {
 }
 
 fn timetable_make() {
-    for (m, moves) in [(62, 1_354), (62, 21_844), (62, 2_097_152), (1, 2_097_152)] {
-        let (order, plan) = grid_plan(m, moves);
+    for (m, moves, edition) in [
+        (62, 1_354, Edition::One),
+        (62, 21_844, Edition::One),
+        (62, 2_097_152, Edition::One),
+        (1, 2_097_152, Edition::One),
+        (62, 2_097_152, Edition::Two),
+    ] {
+        let (order, plan) = grid_plan(m, moves, edition);
         let mut buffer = vec![0; 3 * moves + 3];
         let (mut of_proved, mut of_second) = (f64::MAX, f64::MAX);
         for _ in 0..if moves > 1_000_000 { 3 } else { ROUNDS } {
@@ -297,7 +337,7 @@ fn timetable_make() {
                 compare::packed::count(second::making::make(&order, &plan, &mut buffer))
             }));
         }
-        let input = format!("8 by 8 grid, {m} racks, {moves} moves");
+        let input = grid_input(m, moves, edition);
         let ratio = of_second / of_proved;
         println!(
             "{:<16} {input:<44} {:>12} {:>12} {ratio:>6.2}",

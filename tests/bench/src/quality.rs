@@ -8,7 +8,7 @@ use compare::packed;
 use compare::proved;
 use compare::random::Random;
 use compare::rings;
-use compare::write::Plan;
+use compare::write::{Edition, Plan};
 use published::bibox;
 use published::operation::Choice;
 use second::breakdown::shortest_path;
@@ -99,7 +99,7 @@ fn shortened_plan(order: &[u8]) -> Vec<u8> {
     let plan = proved_plan(order);
     let mut buffer = vec![0; plan.len()];
     let k = packed::to_count(proved::plan_shorten(order, &plan, &mut buffer)).expect("the plan is accepted");
-    buffer.truncate(second::plan::length(k as usize));
+    buffer.truncate(Edition::Two.length(k as usize));
     buffer
 }
 
@@ -153,20 +153,20 @@ fn mean_length(orders: &[Vec<u8>], plan: impl Fn(&[u8]) -> Vec<u8>) -> Length {
 
 /// Room for every plan of a floor with 64 positions.
 fn plan_buffer() -> Vec<u8> {
-    vec![0; 12 * 64 * 64 * 64 + 3]
+    vec![0; 18 * 64 * 64 * 64 + 3]
 }
 
 fn proved_plan(order: &[u8]) -> Vec<u8> {
     let mut buffer = plan_buffer();
     let k = packed::to_count(proved::plan_make(order, &mut buffer)).expect("the order can be planned");
-    buffer.truncate(second::plan::length(k as usize));
+    buffer.truncate(Edition::Two.length(k as usize));
     buffer
 }
 
 fn bibox_plan(order: &[u8], choice: Choice) -> Vec<u8> {
     let order = order::read(order).expect("the order is sound");
     let moves = bibox::plan(&order, choice).expect("the order can be planned");
-    Plan { moves, spare: 0, pad: 0 }.record()
+    Plan::of_moves(&moves).record()
 }
 
 /// Seconds that the proved planner takes for one of the orders: the best of some rounds over all of them.

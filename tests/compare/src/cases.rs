@@ -16,7 +16,7 @@ pub fn random_case<Sample, Damage: Copy>(
     random: &mut Random,
     damages: &[Damage],
     random_sound: fn(&mut Random) -> Sample,
-    damaged: fn(&mut Random, &Sample, Damage) -> Option<Case>,
+    damaged: impl Fn(&mut Random, &Sample, Damage) -> Option<Case>,
 ) -> (Damage, Case) {
     loop {
         let sound = random_sound(random);

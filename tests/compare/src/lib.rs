@@ -16,7 +16,8 @@
 //! | `short_orders` | short orders, and damage                                         |
 //! | `racks`      | an arrangement, random moves and random steps on it                |
 //! | `cases`      | an order and a record for it, sound or damaged                     |
-//! | `plans`      | plans, and damage                                                  |
+//! | `plans`      | plans in both editions, and damage                                 |
+//! | `readers`    | every function that reads a plan, on one that is refused           |
 //! | `cancelling` | plans made to cancel                                               |
 //! | `timetables` | timetables, and damage                                             |
 //! | `programs`   | the programs, run on an input                                      |
@@ -35,6 +36,7 @@ pub mod programs;
 pub mod proved;
 pub mod racks;
 pub mod random;
+pub mod readers;
 pub mod rings;
 pub mod short_orders;
 pub mod tally;

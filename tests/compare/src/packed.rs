@@ -21,7 +21,7 @@ pub fn nothing<T>(answer: Answer<T>) -> u64 {
     pack(answer, |_| 0)
 }
 
-/// Plan check and planner: moves. Timetable maker: steps.
+/// Plan check, planner, shortener and converter: moves. Timetable maker: steps.
 pub fn count(answer: Answer<u32>) -> u64 {
     pack(answer, u64::from)
 }

@@ -1,4 +1,4 @@
-//! Random plans, and damage to them.
+//! Random plans in both editions, and damage to them.
 
 use crate::cases::{self, Case};
 use crate::floors::{self, Floor};
@@ -6,7 +6,7 @@ use crate::orders;
 use crate::packed::refused;
 use crate::racks::{nonempty, only, Racks};
 use crate::random::Random;
-use crate::write::{Move, Order, Plan};
+use crate::write::{Drive, Edition, Move, Order, Plan, EDITIONS};
 
 /// An order and a plan that is accepted, by their fields: racks are moved at random, and their goals are
 /// where they then stand.
@@ -18,8 +18,19 @@ pub struct Sample {
 }
 
 impl Sample {
-    pub fn plan(&self) -> Plan {
-        Plan { moves: self.moves.clone(), spare: 0, pad: 0 }
+    pub fn plan(&self, edition: Edition) -> Plan {
+        Plan::new(edition, self.drives())
+    }
+
+    /// Each move with the rack that it moves.
+    pub fn drives(&self) -> Vec<Drive> {
+        let mut racks = Racks::new(&self.floor, &self.order.starts);
+        let drive = |&one: &Move| {
+            let rack = racks.rack_at[usize::from(one.0)];
+            racks.make(&[one]);
+            (one, rack)
+        };
+        self.moves.iter().map(drive).collect()
     }
 
     /// The arrangement before the move of this index.
@@ -79,6 +90,7 @@ kinds! {
         Extended,
         CountChanged,
         SpareSet,
+        EditionChanged,
         PadSet,
         BitFlipped,
         Noise,
@@ -90,11 +102,26 @@ kinds! {
         FromVacant,
         FromVacantIntoStanding,
         IntoStanding,
+        RackWrong,
+        RackAboveM,
         MoveRepeated,
         MoveLeftOut,
         GoalsExchanged,
         GoalElsewhere,
     }
+}
+
+impl Damage {
+    /// Whether a plan of this edition can have it: in edition one no rack is written.
+    pub fn fits(self, edition: Edition) -> bool {
+        edition == Edition::Two || !matches!(self, Damage::RackWrong | Damage::RackAboveM)
+    }
+}
+
+/// Every damage in each edition that can have it.
+pub fn kinds() -> Vec<(Edition, Damage)> {
+    let all = EDITIONS.iter().flat_map(|&edition| DAMAGES.map(|damage| (edition, damage)));
+    all.filter(|(edition, damage)| damage.fits(*edition)).collect()
 }
 
 /// The damages that make a move illegal at its turn, and the number that it then meets. Of two that apply to
@@ -123,17 +150,72 @@ kinds! {
     }
 }
 
-/// The plan with one more move at the place, illegal for the reason, and if `later` names a reason another one
-/// behind it. The first decides. At times a goal is not reached either, which comes after both.
-pub fn with_illegal_moves(
+/// The rack that is written with a move: in edition one none, in edition two the one at the position left,
+/// another, or one that the order has not. Where no rack stands, none is right.
+#[derive(Clone, Copy, Debug, PartialEq, Eq)]
+pub enum Written {
+    Unwritten,
+    Right,
+    Wrong,
+    AboveM,
+}
+
+/// The rack of this kind that is written with a move from the position left, if there is one.
+fn written_rack(random: &mut Random, racks: &Racks, left: u8, written: Written) -> Option<u8> {
+    let there = racks.rack_at[usize::from(left)];
+    let m = racks.occupied.count_ones() as usize;
+    let such: Vec<u8> = match written {
+        Written::Unwritten => vec![1], // of which no bit stands in the record
+        Written::Right => (1..=64).filter(|&rack| rack == there).collect(),
+        Written::Wrong => (1..=m as u8).filter(|&rack| rack != there).collect(),
+        Written::AboveM => (m as u8 + 1..=64).collect(),
+    };
+    nonempty(such.len() as u64)?;
+    Some(random.pick(&such))
+}
+
+/// A move that is not as it has to be: illegal at its turn for a reason, or with a rack written that is not the one
+/// there, or both.
+#[derive(Clone, Copy, Debug)]
+pub struct Bad {
+    pub reason: Option<Damage>,
+    pub written: Written,
+}
+
+impl Bad {
+    /// The number that it meets: 36 is tested after all reasons "for the same move".
+    pub fn number(self) -> u8 {
+        self.reason.map_or(36, illegal_number)
+    }
+
+    pub fn edition(self) -> Edition {
+        match self.written {
+            Written::Unwritten => Edition::One,
+            _ => Edition::Two,
+        }
+    }
+
+    /// Such a move on the arrangement, with its rack.
+    fn drive(self, random: &mut Random, racks: &Racks) -> Option<Drive> {
+        let one = match self.reason {
+            Some(reason) => illegal_move(random, racks, reason)?,
+            None => racks.random_move(random)?,
+        };
+        Some((one, written_rack(random, racks, one.0, self.written)?))
+    }
+}
+
+/// The plan with one more move at the place, a bad one, and if `later` is there another behind it. The first
+/// decides. A goal that is missed too comes after both.
+pub fn with_bad_moves(
     random: &mut Random,
     sound: &Sample,
     place: Place,
-    first: Damage,
-    later: Option<Damage>,
+    (first, later): (Bad, Option<Bad>),
+    goal_missed: bool,
 ) -> Option<Case> {
-    let (mut order, mut plan) = (sound.order.clone(), sound.plan());
-    let k = plan.moves.len();
+    let (mut order, mut plan) = (sound.order.clone(), sound.plan(first.edition()));
+    let k = plan.drives.len();
     nonempty(k.saturating_sub(1) as u64)?; // there is a middle
     let index = match place {
         Place::First => 0,
@@ -142,29 +224,33 @@ pub fn with_illegal_moves(
     };
     if let Some(later) = later {
         let behind = if random.one_in(2) { k } else { random.between(index, k) };
-        let other = illegal_move(random, &sound.before(behind), later)?;
-        plan.moves.insert(behind, other);
+        plan.drives.insert(behind, later.drive(random, &sound.before(behind))?);
     }
-    let one = illegal_move(random, &sound.before(index), first)?;
-    plan.moves.insert(index, one);
-    if random.one_in(2) {
+    plan.drives.insert(index, first.drive(random, &sound.before(index))?);
+    if goal_missed {
         let exchange = random.one_in(2);
         damage_goals(random, &mut order, exchange)?;
     }
-    let answer = Some(refused(illegal_number(first), index as u32 + 1));
+    let answer = Some(refused(first.number(), index as u32 + 1));
     Some(Case { order: order.record(), record: plan.record(), answer })
 }
 
-/// A case with a random damage.
-pub fn random_case(random: &mut Random) -> (Damage, Case) {
-    cases::random_case(random, &DAMAGES, random_sound, damaged)
+/// A case with a random damage, in either edition.
+pub fn random_case(random: &mut Random) -> ((Edition, Damage), Case) {
+    let edition = random.pick(&EDITIONS);
+    let damaged = |random: &mut Random, sound: &Sample, damage: Damage| match damage.fits(edition) {
+        true => damaged(random, sound, edition, damage),
+        false => None,
+    };
+    let (damage, case) = cases::random_case(random, &DAMAGES, random_sound, damaged);
+    ((edition, damage), case)
 }
 
-/// The plan with the damage, if it has what is to be damaged.
-pub fn damaged(random: &mut Random, sound: &Sample, damage: Damage) -> Option<Case> {
+/// The plan in this edition with the damage, if it has what is to be damaged.
+pub fn damaged(random: &mut Random, sound: &Sample, edition: Edition, damage: Damage) -> Option<Case> {
     let mut order = sound.order.clone();
-    let mut plan = sound.plan();
-    let k = plan.moves.len();
+    let mut plan = sound.plan(edition);
+    let k = plan.drives.len();
     let accepted = (k as u64) << 8;
     let answer = match damage {
         Damage::None => accepted,
@@ -178,18 +264,22 @@ pub fn damaged(random: &mut Random, sound: &Sample, damage: Damage) -> Option<Ca
             change_count(random, &mut record, k);
             return Some(Case { order: order.record(), record, answer: Some(30) });
         }
-        Damage::SpareSet => {
-            plan.spare = random.between(1, 3) as u8;
-            31
+        Damage::SpareSet => set_spare(random, &mut plan),
+        Damage::EditionChanged => {
+            plan.spare = edition.other().spare();
+            match k {
+                0 => accepted, // no moves are as long in both
+                _ => 30,
+            }
         }
         Damage::PadSet => {
-            plan.pad = random.between(1, 15) as u8;
-            nonempty((k % 2) as u64)?; // there is a pad
+            nonempty(plan.pad_width() as u64)?;
+            plan.pad = random.between(1, (1 << plan.pad_width()) - 1) as u8;
             31
         }
         Damage::MoveChanged => {
             nonempty(k as u64)?;
-            plan.moves[random.below(k)] = (random.below(64) as u8, random.below(64) as u8);
+            plan.drives[random.below(k)].0 = (random.below(64) as u8, random.below(64) as u8);
             return Some(Case { order: order.record(), record: plan.record(), answer: None });
         }
         Damage::OutOfRange
@@ -200,28 +290,42 @@ pub fn damaged(random: &mut Random, sound: &Sample, damage: Damage) -> Option<Ca
         | Damage::FromVacantIntoStanding
         | Damage::IntoStanding => {
             let index = random.between(0, k);
-            let one = illegal_move(random, &sound.before(index), damage)?;
+            // the rack written is any, at times the one there
+            let one = (illegal_move(random, &sound.before(index), damage)?, random.between(1, 64) as u8);
             match index < k && random.one_in(2) {
-                true => plan.moves[index] = one,
-                false => plan.moves.insert(index, one),
+                true => plan.drives[index] = one,
+                false => plan.drives.insert(index, one),
             }
-            if random.one_in(16) {
-                plan.spare = 1; // the lower number
-                31
-            } else {
-                refused(illegal_number(damage), index as u32 + 1)
+            match random.one_in(16) {
+                true => set_spare(random, &mut plan), // the lower number
+                false => refused(illegal_number(damage), index as u32 + 1),
+            }
+        }
+        Damage::RackWrong | Damage::RackAboveM => {
+            nonempty(k as u64)?;
+            let index = random.below(k);
+            let written = if damage == Damage::RackWrong { Written::Wrong } else { Written::AboveM };
+            let (left, _) = plan.drives[index].0;
+            plan.drives[index].1 = written_rack(random, &sound.before(index), left, written)?;
+            match random.below(16) {
+                0 => set_spare(random, &mut plan), // the lower number
+                1..=4 => {
+                    damage_goals(random, &mut order, false)?;
+                    refused(36, index as u32 + 1) // the goals come after it
+                }
+                _ => refused(36, index as u32 + 1),
             }
         }
         Damage::MoveRepeated => {
             nonempty(k as u64)?;
             let index = random.below(k);
-            plan.moves.insert(index, plan.moves[index]);
+            plan.drives.insert(index, plan.drives[index]);
             refused(34, index as u32 + 2) // its rack stands where it enters, so 35 applies too
         }
         Damage::MoveLeftOut => {
             nonempty(k as u64)?;
             let last = sound.before(k - 1);
-            let (left, _) = plan.moves.pop()?;
+            let ((left, _), _) = plan.drives.pop()?;
             refused(33, u32::from(last.rack_at[usize::from(left)]))
         }
         Damage::GoalsExchanged | Damage::GoalElsewhere => {
@@ -230,6 +334,16 @@ pub fn damaged(random: &mut Random, sound: &Sample, damage: Damage) -> Option<Ca
         }
     };
     Some(Case { order: order.record(), record: plan.record(), answer: Some(answer) })
+}
+
+/// Sets the spare bits to 10 or 11: the number that the plan then meets. "10 or 11 meet 31, their length being
+/// judged by 30 as edition one."
+fn set_spare(random: &mut Random, plan: &mut Plan) -> u64 {
+    plan.spare = random.between(2, 3) as u8;
+    match plan.edition == Edition::One || plan.drives.is_empty() {
+        true => 31,
+        false => 30,
+    }
 }
 
 /// Damage to a record's bytes, and the number it then meets, where that is certain.
@@ -255,7 +369,7 @@ fn damage_bytes(random: &mut Random, mut bytes: Vec<u8>, damage: Damage) -> (Vec
     }
 }
 
-/// Writes another count over the first 22 bits.
+/// Writes another count over the first 22 bits, and leaves the spare bits as they are.
 pub fn change_count(random: &mut Random, bytes: &mut [u8], count: usize) {
     let other = match random.below(4) {
         0 => count + 1,
@@ -264,7 +378,8 @@ pub fn change_count(random: &mut Random, bytes: &mut [u8], count: usize) {
         _ => random.below(1 << 22),
     };
     let other = if other & 0x3F_FFFF == count { count + 1 } else { other };
-    bytes[..3].copy_from_slice(&((other as u32) << 2).to_be_bytes()[1..]);
+    let head = (other as u32) << 2 | u32::from(bytes[2] & 0b11);
+    bytes[..3].copy_from_slice(&head.to_be_bytes()[1..]);
 }
 
 /// A move that is illegal on the arrangement, for this reason.

@@ -25,6 +25,14 @@ mod symbols {
             buffer: *mut u8,
             buffer_length: usize,
         ) -> u64;
+        pub fn wichteab_plan_convert(
+            order: *const u8,
+            order_length: usize,
+            plan: *const u8,
+            plan_length: usize,
+            buffer: *mut u8,
+            buffer_length: usize,
+        ) -> u64;
         pub fn wichteab_timetable_check(
             order: *const u8,
             order_length: usize,
@@ -103,6 +111,19 @@ pub fn plan_make(order: &[u8], buffer: &mut [u8]) -> u64 {
 pub fn plan_shorten(order: &[u8], plan: &[u8], buffer: &mut [u8]) -> u64 {
     unsafe {
         symbols::wichteab_plan_shorten(
+            order.as_ptr(),
+            order.len(),
+            plan.as_ptr(),
+            plan.len(),
+            buffer.as_mut_ptr(),
+            buffer.len(),
+        )
+    }
+}
+
+pub fn plan_convert(order: &[u8], plan: &[u8], buffer: &mut [u8]) -> u64 {
+    unsafe {
+        symbols::wichteab_plan_convert(
             order.as_ptr(),
             order.len(),
             plan.as_ptr(),

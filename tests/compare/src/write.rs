@@ -93,22 +93,85 @@ impl ShortOrder {
     }
 }
 
-/// The fields of a plan record.
-#[derive(Clone, Default)]
+kinds! {
+    /// The two forms of a plan record.
+    pub enum Edition in EDITIONS {
+        One,
+        Two,
+    }
+}
+
+impl Edition {
+    /// The edition of an accepted record, by its spare bits.
+    pub fn of(record: &[u8]) -> Edition {
+        EDITIONS[usize::from(record[2] & 3)]
+    }
+
+    pub fn other(self) -> Edition {
+        EDITIONS[1 - self as usize]
+    }
+
+    /// The bits of a move.
+    pub fn width(self) -> usize {
+        [12, 18][self as usize]
+    }
+
+    /// The spare bits of a sound record: 00 or 01.
+    pub fn spare(self) -> u8 {
+        self as u8
+    }
+
+    /// The length of the record of k moves.
+    pub fn length(self, k: usize) -> usize {
+        3 + (self.width() * k).div_ceil(8)
+    }
+
+    /// The bits of the pad behind k moves.
+    pub fn pad_width(self, k: usize) -> usize {
+        8 * self.length(k) - 24 - self.width() * k
+    }
+}
+
+/// A move, and the rack that edition two writes with it, from 1 to 64.
+pub type Drive = (Move, u8);
+
+/// The fields of a plan record. Edition one leaves the racks out.
+#[derive(Clone)]
 pub struct Plan {
-    pub moves: Vec<Move>,
+    pub edition: Edition,
+    pub drives: Vec<Drive>,
     pub spare: u8,
     pub pad: u8,
 }
 
 impl Plan {
+    /// With the edition's spare bits and no bit of the pad set.
+    pub fn new(edition: Edition, drives: Vec<Drive>) -> Plan {
+        Plan { edition, drives, spare: edition.spare(), pad: 0 }
+    }
+
+    /// In edition one, which names no racks.
+    pub fn of_moves(moves: &[Move]) -> Plan {
+        Plan::new(Edition::One, moves.iter().map(|&one| (one, 1)).collect())
+    }
+
     pub fn record(&self) -> Vec<u8> {
         let mut bits = Bits::default();
-        bits.put(self.moves.len(), 22);
+        bits.put(self.drives.len(), 22);
         bits.put(usize::from(self.spare), 2);
-        bits.put_moves(&self.moves);
+        for &(one, rack) in &self.drives {
+            bits.put_moves(&[one]);
+            if self.edition == Edition::Two {
+                bits.put(usize::from(rack) - 1, 6);
+            }
+        }
         bits.pad(self.pad);
         bits.bytes
+    }
+
+    /// The bits of its pad.
+    pub fn pad_width(&self) -> usize {
+        self.edition.pad_width(self.drives.len())
     }
 }
 

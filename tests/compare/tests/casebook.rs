@@ -6,7 +6,7 @@ use compare::packed;
 use compare::proved;
 use second::answer::{Answer, Refusal};
 use second::timetable::{Counts, Part};
-use second::{floor, making, order, plan, planning, timetable};
+use second::{converting, floor, making, order, plan, planning, shortening, timetable};
 
 /// The bytes that the words give in hexadecimal.
 fn hex(text: &str) -> Vec<u8> {
@@ -48,14 +48,34 @@ fn timetable_step(timetable: &str, number: u64) -> Answer<(usize, usize)> {
     answer.map(|Part { offset, length }| (offset, length))
 }
 
-/// The answer, and the buffer afterwards, which was all AA.
-fn timetable_make(order: &str, plan: &str, length: usize) -> (Answer<u32>, Vec<u8>) {
+/// What came of a function that reads an order and a plan and writes to a buffer: the answer, and the buffer
+/// afterwards, which was all AA.
+type Made = (Answer<u32>, Vec<u8>);
+
+fn made(
+    proved: fn(&[u8], &[u8], &mut [u8]) -> u64,
+    second: fn(&[u8], &[u8], &mut [u8]) -> Answer<u32>,
+    [order, plan]: [&str; 2],
+    length: usize,
+) -> Made {
     let mut buffer = vec![0xAA; length];
-    let answer = making::make(&hex(order), &hex(plan), &mut buffer);
+    let answer = second(&hex(order), &hex(plan), &mut buffer);
     let mut of_proved = vec![0xAA; length];
-    let packed = proved::timetable_make(&hex(order), &hex(plan), &mut of_proved);
+    let packed = proved(&hex(order), &hex(plan), &mut of_proved);
     assert_eq!((packed, &of_proved), (packed::count(answer), &buffer), "{order}, {plan}");
     (answer, buffer)
+}
+
+fn timetable_make(order: &str, plan: &str, length: usize) -> Made {
+    made(proved::timetable_make, making::make, [order, plan], length)
+}
+
+fn plan_shorten(order: &str, plan: &str, length: usize) -> Made {
+    made(proved::plan_shorten, shortening::shorten, [order, plan], length)
+}
+
+fn plan_convert(order: &str, plan: &str, length: usize) -> Made {
+    made(proved::plan_convert, converting::convert, [order, plan], length)
 }
 
 fn floor_check(order: &str) -> Answer<()> {
@@ -76,6 +96,8 @@ fn plan_make(order: &str, buffer_length: usize) -> Answer<()> {
 /// The order of "Programs": the floor F, rack 1 from 0 to 3, rack 2 from 3 to 0.
 const ORDER: &str = "08 0A 08 00 10 02 04 20 43 08 30 03 0C 00";
 const PLAN: &str = "00 00 10 00 10 C2 08 00 43";
+/// The same in edition two: 0>1 rack 1, 3>2 rack 2, 2>0 rack 2, 1>3 rack 1.
+const PLAN_TWO: &str = "00 00 11 00 10 03 08 10 80 04 10 C0";
 const TIMETABLE: &str = "00 00 08 02 00 10 C2 02 04 30 80";
 const FULL_F: &str = "08 0A 10 00 10 02 04 20 43 08 30 01 08 30 01 08 30"; // each rack at its goal
 const TWO: &str = "04 02 04 00 10 01"; // two positions, one edge, rack 1 from 0 to 1
@@ -90,8 +112,8 @@ fn case_1_the_plan_and_its_timetable() {
     assert_eq!(timetable_check(ORDER, TIMETABLE), Ok((2, 4)));
 }
 
-/// The maker's refusal: the buffer is as it was.
-fn refused_make(number: u8, length: usize) -> (Answer<u32>, Vec<u8>) {
+/// A refusal by number alone: the buffer is as it was.
+fn refused_make(number: u8, length: usize) -> Made {
     (refused(number, 0), vec![0xAA; length])
 }
 
@@ -114,27 +136,27 @@ fn case_3_a_ring_and_a_swap_have_no_leader() {
 #[test]
 fn case_4_a_ring_and_too_many_racks() {
     assert_eq!(plan_make("06 06 04 00 10 02 04 20 01", 0), refused(23, 0));
-    assert_eq!(plan_make("06 06 04 00 10 02 04 20 01", 326), refused(23, 0));
-    assert_eq!(plan_make("06 06 04 00 10 02 04 20 01", 327), Ok(()));
+    assert_eq!(plan_make("06 06 04 00 10 02 04 20 01", 488), refused(23, 0));
+    assert_eq!(plan_make("06 06 04 00 10 02 04 20 01", 489), Ok(()));
     assert_eq!(floor_check("06 06 04 00 10 02 04 20 01"), Ok(()));
     // three racks on a ring of four: turned by one place, and the other way round
     assert_eq!(floor_check("08 08 0C 00 10 03 04 20 83 00 10 81 08 30"), Ok(()));
     assert_eq!(floor_check("08 08 0C 00 10 03 04 20 83 00 10 82 04 00"), refused(24, 0));
     assert_eq!(plan_make("08 08 0C 00 10 03 04 20 83 00 10 82 04 00", 0), refused(24, 0));
-    assert_eq!(plan_make("08 0A 0C 00 10 02 04 20 43 08 30 01 08 10 80", 771), refused(20, 0));
+    assert_eq!(plan_make("08 0A 0C 00 10 02 04 20 43 08 30 01 08 10 80", 1155), refused(20, 0));
     assert_eq!(floor_check(ORDER), Ok(()));
 }
 
 #[test]
 fn case_5_paths() {
-    assert_eq!(plan_make("08 06 04 00 10 42 08 30 03", 771), refused(21, 0));
-    assert_eq!(plan_make("06 04 08 00 10 42 00 10 42", 771), refused(20, 0));
+    assert_eq!(plan_make("08 06 04 00 10 42 08 30 03", 1155), refused(21, 0));
+    assert_eq!(plan_make("06 04 08 00 10 42 00 10 42", 1155), refused(20, 0));
 }
 
 #[test]
 fn case_6_the_plan_buffer() {
-    assert_eq!(plan_make(ORDER, 770), refused(23, 0));
-    assert_eq!(plan_make(ORDER, 771), Ok(()));
+    assert_eq!(plan_make(ORDER, 1154), refused(23, 0));
+    assert_eq!(plan_make(ORDER, 1155), Ok(()));
 }
 
 #[test]
@@ -188,7 +210,8 @@ fn plans_refused() {
     assert_eq!(plan_check(TWO, "00 00"), refused(30, 0));
     assert_eq!(plan_check(TWO, "00 00 04"), refused(30, 0)); // its move is missing
     assert_eq!(plan_check(TWO, "00 00 04 00 10 00"), refused(30, 0)); // a byte too many
-    assert_eq!(plan_check(TWO, "00 00 05 00 10"), refused(31, 0)); // spare bit
+    assert_eq!(plan_check(TWO, "00 00 06 00 10"), refused(31, 0)); // spare bits 10
+    assert_eq!(plan_check(TWO, "00 00 07 00 10"), refused(31, 0)); // 11
     assert_eq!(plan_check(TWO, "00 00 04 00 11"), refused(31, 0)); // pad bit
     assert_eq!(plan_check(TWO, "00 00 04 00 00"), refused(32, 1)); // 0>0
     assert_eq!(plan_check(TWO, "00 00 04 04 10"), refused(32, 1)); // 1>1, where no rack is
@@ -205,6 +228,63 @@ fn plans_refused() {
     assert_eq!(plan_check(TWO, "00 00 04 00 10"), Ok(1));
     assert_eq!(plan_check(FULL_F, "00 00 00"), Ok(0)); // a full floor
     assert_eq!(plan_check(FULL_F, "00 00 04 00 10"), refused(35, 1)); // where no rack can move
+}
+
+#[test]
+fn plans_of_edition_two() {
+    assert_eq!(plan_check(ORDER, PLAN_TWO), Ok(4));
+    assert_eq!(timetable_make(ORDER, PLAN_TWO, 15), timetable_make(ORDER, PLAN, 15));
+    assert_eq!(plan_check(FULL_F, "00 00 01"), Ok(0)); // no moves
+    assert_eq!(plan_check(FULL_F, "00 00 02"), refused(31, 0)); // spare bits 10
+    assert_eq!(plan_check(FULL_F, "00 00 03"), refused(31, 0)); // 11
+    assert_eq!(plan_check(ORDER, "00 00 01"), refused(33, 1));
+    assert_eq!(plan_check(TWO, "00 00 05 00 10 00"), Ok(1)); // 0>1 rack 1
+    assert_eq!(plan_check(TWO, "00 00 05 00 10"), refused(30, 0)); // as long as in edition one
+    assert_eq!(plan_check(TWO, "00 00 04 00 10 00"), refused(30, 0)); // and the other way round
+    assert_eq!(plan_check(TWO, "00 00 06 00 10 00"), refused(30, 0)); // spare bits 10: its length is edition one's
+    assert_eq!(plan_check(TWO, "00 00 07 00 10 00"), refused(30, 0)); // 11
+    assert_eq!(plan_check(TWO, "00 00 05 00 10 20"), refused(31, 0)); // the first of 6 bits of pad
+    assert_eq!(plan_check(TWO, "00 00 05 00 10 01"), refused(31, 0)); // the last
+    assert_eq!(plan_check(TWO, "00 00 05 00 10 40"), refused(36, 1)); // rack 2, and there is none
+    assert_eq!(plan_check(TWO, "00 00 05 00 1F C0"), refused(36, 1)); // rack 64
+    assert_eq!(plan_check(ORDER, "00 00 05 00 10 40"), refused(36, 1)); // rack 2, which stands at 3
+    assert_eq!(plan_check(ORDER, "00 00 05 00 30 40"), refused(32, 1)); // 0>3 rack 2: no edge, and 35, and 36
+    assert_eq!(plan_check(ORDER, "00 00 05 04 20 00"), refused(34, 1)); // 1>2 rack 1, from a vacant position
+    assert_eq!(plan_check(ORDER, "00 00 09 00 10 01 0C 10"), refused(35, 2)); // 0>1 rack 1, 1>3 rack 2: 36 too
+    assert_eq!(plan_check(ORDER, "00 00 09 00 10 41 0C 00"), refused(36, 1)); // 0>1 rack 2, then 1>3 into rack 2
+    assert_eq!(plan_check(TWO, "00 00 09 00 10 01 00 00"), refused(33, 1)); // 0>1, 1>0, both rack 1
+    assert_eq!(plan_check(TWO, "00 00 09 00 10 01 00 10"), refused(36, 2)); // the latter rack 2
+    assert_eq!(plan_check(TWO, "00 00 09 00 10 01 00 01"), refused(31, 0)); // the last of 4 bits of pad
+}
+
+#[test]
+fn the_other_edition() {
+    let (no_moves, no_moves_two) = ("00 00 00", "00 00 01");
+    assert_eq!(plan_convert(ORDER, PLAN, 12), (Ok(4), hex(PLAN_TWO)));
+    assert_eq!(plan_convert(ORDER, PLAN, 11), refused_make(38, 11));
+    assert_eq!(plan_convert(ORDER, PLAN, 14), (Ok(4), hex(&format!("{PLAN_TWO} AA AA"))));
+    assert_eq!(plan_convert(ORDER, PLAN_TWO, 9), (Ok(4), hex(PLAN)));
+    assert_eq!(plan_convert(ORDER, PLAN_TWO, 8), refused_make(38, 8));
+    assert_eq!(plan_convert(FULL_F, no_moves, 4), (Ok(0), hex("00 00 01 AA")));
+    assert_eq!(plan_convert(FULL_F, no_moves_two, 3), (Ok(0), hex(no_moves)));
+    assert_eq!(plan_convert(FULL_F, no_moves, 2), refused_make(38, 2));
+    // The plan's refusal comes before the buffer's.
+    assert_eq!(plan_convert(ORDER, no_moves, 0), (refused(33, 1), vec![]));
+    assert_eq!(plan_convert(TWO, "00 00 05 00 10 40", 0), (refused(36, 1), vec![]));
+    assert_eq!(plan_convert(TWO, "00 00 07 00 10", 4), refused_make(31, 4));
+    assert_eq!(plan_convert("00 00 00", PLAN, 20), refused_make(11, 20));
+}
+
+#[test]
+fn the_shortener_writes_the_edition_it_read() {
+    // 0>1 1>0, both rack 1: nothing is left
+    let home = "04 02 04 00 10 00";
+    assert_eq!(plan_shorten(home, "00 00 08 00 10 40", 6), (Ok(0), hex("00 00 00 AA AA AA")));
+    assert_eq!(plan_shorten(home, "00 00 09 00 10 01 00 00", 8), (Ok(0), hex("00 00 01 AA AA AA AA AA")));
+    // 37 in the bytes of the plan given
+    assert_eq!(plan_shorten(home, "00 00 08 00 10 40", 5), refused_make(37, 5));
+    assert_eq!(plan_shorten(home, "00 00 09 00 10 01 00 00", 7), refused_make(37, 7));
+    assert_eq!(plan_shorten(ORDER, PLAN_TWO, 12), (Ok(4), hex(PLAN_TWO)));
 }
 
 #[test]
@@ -279,7 +359,7 @@ fn small_floors() {
 
 /// What is wrong with a planner that answers this and leaves this buffer, which was all AA; "" if nothing is.
 fn planner_fault(order: &str, answer: Answer<u32>, plan: &str) -> String {
-    let before = vec![0xAA; 771];
+    let before = vec![0xAA; 1155];
     let mut after = before.clone();
     after[..hex(plan).len()].copy_from_slice(&hex(plan));
     planning::fault(&hex(order), &before, &after, answer).unwrap_or_default()
@@ -289,18 +369,21 @@ fn planner_fault(order: &str, answer: Answer<u32>, plan: &str) -> String {
 fn a_planners_output() {
     let path = "08 06 04 00 10 42 08 30 03";
     let home = "08 0A 04 00 10 02 04 20 43 08 30 00"; // F, rack 1 from 0 to 0
-    assert_eq!(planner_fault(ORDER, Ok(4), PLAN), "");
-    assert_eq!(planner_fault(ORDER, Ok(4), &format!("{PLAN} 00")), "a byte behind the record changed");
-    assert_eq!(planner_fault(ORDER, Ok(3), PLAN), "a byte behind the record changed"); // it has 4 moves
-    assert!(planner_fault(ORDER, Ok(5), PLAN).contains("number: 30"));
-    assert!(planner_fault(ORDER, Ok(0), "00 00 00").contains("number: 33"));
+    assert_eq!(planner_fault(ORDER, Ok(4), PLAN_TWO), "");
+    assert_eq!(planner_fault(ORDER, Ok(4), &format!("{PLAN_TWO} 00")), "a byte behind the record changed");
+    assert_eq!(planner_fault(ORDER, Ok(3), PLAN_TWO), "a byte behind the record changed"); // it has 4 moves
+    assert!(planner_fault(ORDER, Ok(5), PLAN_TWO).contains("number: 30"));
+    assert!(planner_fault(ORDER, Ok(4), PLAN).contains("number: 30")); // three bytes of AA are behind edition one
+    assert!(planner_fault(ORDER, Ok(4), "00 00 11 00 10 43 08 10 80 04 10 C0").contains("number: 36"));
+    assert!(planner_fault(ORDER, Ok(0), "00 00 01").contains("number: 33"));
     assert!(planner_fault(ORDER, Ok(0), "").contains("number: 30")); // never written
-    assert!(planner_fault(ORDER, Ok(513), PLAN).contains("too many"));
+    assert!(planner_fault(ORDER, Ok(513), PLAN_TWO).contains("too many"));
     assert!(planner_fault(ORDER, refused(23, 0), "").contains("a plan is owed"));
     assert_eq!(planner_fault(path, refused(21, 0), ""), "");
     assert_eq!(planner_fault(path, refused(21, 0), "00"), "refused, and the buffer changed");
     assert!(planner_fault(path, refused(20, 0), "").contains("not Refusal { number: 21"));
     assert!(planner_fault(path, Ok(0), "").contains("not Refusal { number: 21"));
-    assert_eq!(planner_fault(home, Ok(0), "00 00 00"), "");
-    assert!(planner_fault(home, Ok(2), "00 00 08 00 10 40").contains("each start is its goal"));
+    assert_eq!(planner_fault(home, Ok(0), "00 00 01"), "");
+    assert_eq!(planner_fault(home, Ok(0), "00 00 00"), "not edition two");
+    assert!(planner_fault(home, Ok(2), "00 00 09 00 10 01 00 00").contains("each start is its goal"));
 }

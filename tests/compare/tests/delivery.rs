@@ -9,6 +9,7 @@ use compare::packed;
 use compare::proved;
 use compare::random::Random;
 use compare::tally::Hex;
+use compare::write::Edition;
 use second::answer::Answer;
 
 /// The order of "Programs".
@@ -34,7 +35,7 @@ fn in_turn(order: &[u8], plan: &mut [u8], timetable: &mut [u8]) -> Outcome {
     let planned = packed::to_count(proved::plan_make(order, plan));
     assert_eq!(second::planning::fault(order, &before, plan, planned), None, "{}", Hex(order));
     let Ok(moves) = planned else { return [told(planned), NOT_REACHED, NOT_REACHED] };
-    let plan = &plan[..second::plan::length(moves as usize)];
+    let plan = &plan[..Edition::Two.length(moves as usize)];
 
     let mut other = timetable.to_vec();
     let made = packed::to_count(proved::timetable_make(order, plan, timetable));
@@ -84,7 +85,7 @@ fn plan_then_timetable_then_check() {
         }
         let m = random.between(0, n - 2);
         let order = orders::order_on(&mut random, &floor, m).record();
-        let mut plan = random.bytes(12 * n.pow(3) + 3);
+        let mut plan = random.bytes(18 * n.pow(3) + 3);
         let mut timetable = random.bytes(3 * moves_of(&order, &plan) + 3);
         let [[planned, moves, _], [made, steps, _], checked] = in_turn(&order, &mut plan, &mut timetable);
         assert_eq!([planned, made], [0, 0], "{}", Hex(&order));
@@ -113,7 +114,7 @@ fn the_function_over_the_three_calls() {
             true => orders::damaged_often(&mut random, &fields),
             false => fields.record(),
         };
-        let length = (12 * floor.n.pow(3) + 3 + random.below(20)).saturating_sub(random.below(8));
+        let length = (18 * floor.n.pow(3) + 3 + random.below(20)).saturating_sub(random.below(8));
         let plan = random.bytes(length);
         let length = (3 * moves_of(&order, &plan) + 3 + random.below(20)).saturating_sub(random.below(20));
         let timetable = random.bytes(length);
@@ -139,12 +140,12 @@ fn the_function_over_the_three_calls() {
 #[test]
 fn the_case_books_order() {
     let mut random = Random::new(0x5EED_8003);
-    let plan = random.bytes(771);
+    let plan = random.bytes(1155);
     let k = moves_of(&CASE_BOOK, &plan);
     assert!(k > 0);
     let moves = [0, k as u64, 0];
     let timetable = random.bytes(3 * k + 3);
-    assert_eq!(compare(&CASE_BOOK, &plan[..770], &timetable), [[23, 0, 0], NOT_REACHED, NOT_REACHED]);
+    assert_eq!(compare(&CASE_BOOK, &plan[..1154], &timetable), [[23, 0, 0], NOT_REACHED, NOT_REACHED]);
     assert_eq!(compare(&CASE_BOOK, &plan, &timetable[..3 * k + 2]), [moves, [44, 0, 0], NOT_REACHED]);
     let [planned, [made, steps, _], checked] = compare(&CASE_BOOK, &plan, &timetable);
     assert_eq!([planned, checked], [moves, [0, steps, k as u64]]);

@@ -1,6 +1,7 @@
 //! What a person and a C programmer are given, held to sources that are not the product: the header's numbers to
-//! the faults of the code, the order in examples/ to its fields, and what the examples are expected to print to
-//! the second implementation. Where an expectation is out of date, the failure prints the text that is due.
+//! the faults of the code, the orders and plans in examples/ to their fields, and what the examples are expected
+//! to print to the second implementation. Where an expectation is out of date, the failure prints the text that is
+//! due.
 
 use std::collections::BTreeMap;
 use std::fs;
@@ -9,7 +10,7 @@ use std::path::{Path, PathBuf};
 use compare::floors::{self, Floor};
 use compare::packed;
 use compare::proved;
-use compare::write::{Order, ShortOrder};
+use compare::write::{Drive, Edition, Order, Plan, ShortOrder};
 use second::program::timetable_program;
 
 /// A file of the repository.
@@ -51,7 +52,7 @@ fn the_headers_numbers_are_the_faults_of_the_code() {
     let mut expected: BTreeMap<String, u32> =
         faults.iter().map(|(name, &number)| (upper_snake(name), number)).collect();
     expected.insert("ACCEPTED".to_string(), 0);
-    assert!(faults.len() >= 22, "only {} faults were found", faults.len());
+    assert!(faults.len() >= 28, "only {} faults were found", faults.len());
     assert_eq!(numbers(&text("include/wichteab.h"), "WICHTEAB_", " = "), expected);
 }
 
@@ -59,6 +60,13 @@ fn the_headers_numbers_are_the_faults_of_the_code() {
 fn casebook() -> Order {
     let edges = vec![(0, 1), (0, 2), (1, 2), (1, 3), (2, 3)];
     Order { n: 4, edges, starts: vec![0, 3], goals: vec![3, 0], spare: 0, pad: 0 }
+}
+
+/// The moves of the case book's plan, each with the rack that it moves.
+const CASEBOOK_DRIVES: [Drive; 4] = [((0, 1), 1), ((3, 2), 2), ((2, 0), 2), ((1, 3), 1)];
+
+fn casebook_plan(edition: Edition) -> Plan {
+    Plan::new(edition, CASEBOOK_DRIVES.to_vec())
 }
 
 /// 4 by 4 positions, numbered row by row, side neighbours joined. Racks 1 to 14 stand at 0 to 13; 14 and 15 are vacant.
@@ -88,20 +96,22 @@ fn depot_in_full() -> Order {
 }
 
 #[test]
-fn the_orders_in_examples_are_the_records_of_their_fields() {
+fn the_orders_and_plans_in_examples_are_the_records_of_their_fields() {
     assert_eq!(file("examples/casebook.order"), casebook().record());
+    assert_eq!(file("examples/casebook.plan"), casebook_plan(Edition::One).record());
+    assert_eq!(file("examples/casebook_two.plan"), casebook_plan(Edition::Two).record());
     assert_eq!(file("examples/four_by_four.order"), four_by_four().record());
     assert_eq!(file("examples/depot.short"), depot().record());
     assert_eq!(second::models::expand(&depot().record(), 576), Ok(depot_in_full().record()));
 }
 
-/// The proved planner's plan, judged by the second implementation.
-fn plan(order: &[u8]) -> Vec<u8> {
-    let before = vec![0x55; 65_536];
+/// The proved planner's plan in a buffer of this length, judged by the second implementation.
+fn plan(order: &[u8], lent: usize) -> Vec<u8> {
+    let before = vec![0x55; lent];
     let mut buffer = before.clone();
     let answer = packed::to_count(proved::plan_make(order, &mut buffer));
     assert_eq!(second::planning::fault(order, &before, &buffer, answer), None);
-    buffer.truncate(second::plan::length(answer.expect("planned") as usize));
+    buffer.truncate(Edition::Two.length(answer.expect("planned") as usize));
     buffer
 }
 
@@ -116,17 +126,46 @@ fn described(order: &Order) -> String {
     lines
 }
 
+/// What examples/delivery.c prints, which lends as much as the floor asks for.
+fn delivered(order: &Order) -> String {
+    let record = order.record();
+    let plan = plan(&record, 18 * order.n.pow(3) + 3);
+    let k = second::plan::check(&record, &plan).expect("accepted");
+    let mut timetable = vec![0; 3 * k as usize + 3];
+    let s = second::making::make(&record, &plan, &mut timetable).expect("made");
+    let end = second::timetable::length(&timetable).expect("whole");
+    let counts = second::timetable::check(&record, &timetable[..end]).expect("accepted");
+    format!(
+        "plan: moves {k} bytes {}\ntimetable: steps {s} bytes {end}\nchecked: steps {} moves {}\n",
+        plan.len(),
+        counts.steps,
+        counts.moves
+    )
+}
+
+/// What a name, an order and the programs print: the plan program lends 65,536 bytes.
+fn planned_and_timed(name: &str, order: &Order) -> String {
+    let record = order.record();
+    let timetable = timetable_program(&[record.clone(), plan(&record, 65_536)].concat());
+    format!("{name}\n{}\n{timetable}", described(order))
+}
+
 #[test]
 fn what_examples_run_prints() {
-    let one = |name: &str, order: &Order| {
-        let record = order.record();
-        let timetable = timetable_program(&[record.clone(), plan(&record)].concat());
-        format!("{name}\n{}\n{timetable}", described(order))
+    let stored_plan = |name: &str, edition: Edition| {
+        let input = [casebook().record(), casebook_plan(edition).record()].concat();
+        format!("{name}\n{}", timetable_program(&input))
     };
     let expected = [
-        one("examples/casebook.order", &casebook()),
-        one("examples/four_by_four.order", &four_by_four()),
-        one("examples/depot.short", &depot_in_full()),
+        planned_and_timed("examples/casebook.order", &casebook()),
+        stored_plan("examples/casebook.plan", Edition::One),
+        stored_plan("examples/casebook_two.plan", Edition::Two),
+        planned_and_timed("examples/depot.short", &depot_in_full()),
+        format!(
+            "examples/four_by_four.order\n{}\n{}",
+            described(&four_by_four()),
+            delivered(&four_by_four())
+        ),
     ]
     .join("\n");
     assert!(text("examples/run.expected") == expected, "examples/run.expected is due to read:\n{expected}");
@@ -134,21 +173,22 @@ fn what_examples_run_prints() {
 
 #[test]
 fn what_the_delivery_example_prints() {
-    let order = four_by_four().record();
-    let plan = plan(&order);
-    let k = second::plan::check(&order, &plan).expect("accepted");
-    let mut timetable = vec![0; 3 * k as usize + 3];
-    let s = second::making::make(&order, &plan, &mut timetable).expect("made");
-    let end = second::timetable::length(&timetable).expect("whole");
-    let counts = second::timetable::check(&order, &timetable[..end]).expect("accepted");
-    let expected = format!(
-        "plan: moves {k} bytes {}\ntimetable: steps {s} bytes {end}\nchecked: steps {} moves {}\n",
-        plan.len(),
-        counts.steps,
-        counts.moves
-    );
+    let expected = delivered(&four_by_four());
     assert!(
         text("examples/delivery.expected") == expected,
         "examples/delivery.expected is due to read:\n{expected}"
+    );
+}
+
+/// A line for each move: its number, its rack and its positions.
+#[test]
+fn what_the_screen_example_prints() {
+    let line = |(number, ((left, entered), rack)): (usize, &Drive)| {
+        format!("{} rack {rack} {left}>{entered}\n", number + 1)
+    };
+    let expected: String = CASEBOOK_DRIVES.iter().enumerate().map(line).collect();
+    assert!(
+        text("examples/screen.expected") == expected,
+        "examples/screen.expected is due to read:\n{expected}"
     );
 }

@@ -8,7 +8,7 @@ use compare::plans;
 use compare::random::Random;
 use compare::tally::{Hex, Tally};
 use compare::timetables;
-use compare::write::{Move, Order};
+use compare::write::{Move, Order, EDITIONS};
 use second::breakdown;
 use std::fmt::Debug;
 
@@ -31,7 +31,7 @@ fn answered_as_made<Damage: Debug>(
 
 #[test]
 fn plans_are_answered_as_they_were_made() {
-    let numbers = [0, 10, 11, 12, 13, 14, 30, 31, 32, 33, 34, 35];
+    let numbers = [0, 10, 11, 12, 13, 14, 30, 31, 32, 33, 34, 35, 36];
     answered_as_made(Tally::new("plans"), 0x5EED_1001, &numbers, plans::random_case, |order, plan| {
         packed::count(second::plan::check(order, plan))
     });
@@ -168,7 +168,8 @@ fn made_timetables_are_accepted() {
         let order = sample.order.record();
         let k = sample.moves.len();
         let mut buffer = random.bytes(3 * k + 3);
-        let s = second::making::make(&order, &sample.plan().record(), &mut buffer).unwrap();
+        let edition = random.pick(&EDITIONS);
+        let s = second::making::make(&order, &sample.plan(edition).record(), &mut buffer).unwrap();
         let end = (1..=s).fold(3, |at, _| at + second::timetable::step_length(buffer[at]));
         let counts = second::timetable::check(&order, &buffer[..end]).unwrap();
         assert_eq!((counts.steps, counts.moves), (s, k as u32));

@@ -62,7 +62,7 @@ fn every_short_order_that_may_be_planned_is() {
                 let short = short_order(&mut random, model, n, m).record();
                 let lent = full_length(rows, columns, m);
                 let order = compare(&mut tally, &mut random, &short, lent).expect("a sound short order");
-                let before = random.bytes(12 * n.pow(3) + 3);
+                let before = random.bytes(18 * n.pow(3) + 3);
                 let mut plan = before.clone();
                 let answer = packed::to_count(proved::plan_make(&order, &mut plan));
                 let fault = second::planning::fault(&order, &before, &plan, answer);

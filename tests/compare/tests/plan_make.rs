@@ -6,6 +6,7 @@ use compare::packed;
 use compare::proved;
 use compare::random::Random;
 use compare::tally::{Hex, Tally};
+use compare::write::Edition;
 
 const NUMBERS: [u8; 10] = [0, 10, 11, 12, 13, 14, 20, 21, 23, 24];
 
@@ -22,7 +23,7 @@ fn judge(tally: &mut Tally, order: &[u8], buffer: &mut [u8]) -> usize {
 
 /// The buffer length that is enough for n positions.
 fn enough(n: usize) -> usize {
-    12 * n.pow(3) + 3
+    18 * n.pow(3) + 3
 }
 
 /// A size that is often small, since a plan for a large floor takes long.
@@ -88,7 +89,7 @@ fn refusals() {
 fn judge_every_buffer(tally: &mut Tally, random: &mut Random, order: &[u8], length: usize) {
     let mut first = vec![0; length];
     let moves = judge(tally, order, &mut first);
-    let plan = &first[..second::plan::length(moves)];
+    let plan = &first[..Edition::Two.length(moves)];
     let changed = first.iter().map(|byte| !byte).collect();
     let more = random.below(1_000);
     for mut buffer in [changed, vec![0xFF; length + 1], random.bytes(length + 2), random.bytes(length + more)]
@@ -131,7 +132,7 @@ fn every_order_of_two_racks_on_every_floor_of_four_positions() {
                     spare: 0,
                     pad: 0,
                 };
-                judge(&mut tally, &order.record(), &mut [0x55; 771]);
+                judge(&mut tally, &order.record(), &mut [0x55; 1155]);
             }
         }
     }

@@ -12,7 +12,7 @@ use std::collections::HashMap;
 
 /// The buffer length that is enough for n positions.
 fn enough(n: usize) -> usize {
-    12 * n.pow(3) + 3
+    18 * n.pow(3) + 3
 }
 
 /// Plans the order and judges what came of it: the moves, or the number that refuses it.

@@ -7,6 +7,7 @@ use compare::plans::{self, Sample};
 use compare::proved;
 use compare::random::Random;
 use compare::tally::Hex;
+use compare::write::{Edition, EDITIONS};
 use second::shortest::Kept;
 use second::{order, plan};
 
@@ -31,8 +32,8 @@ fn small_plan(random: &mut Random) -> Sample {
 }
 
 /// The count of steps that the proved maker answers; the record that it writes keeps routes and visits.
-fn steps_made(sample: &Sample, kept: &Kept) -> u32 {
-    let (order, plan) = (sample.order.record(), sample.plan().record());
+fn steps_made(sample: &Sample, edition: Edition, kept: &Kept) -> u32 {
+    let (order, plan) = (sample.order.record(), sample.plan(edition).record());
     let mut buffer = vec![0; 3 * sample.moves.len() + 3];
     let steps = packed::to_count(proved::timetable_make(&order, &plan, &mut buffer)).expect("a sound plan");
     let end = second::timetable::length(&buffer).expect("a timetable was written");
@@ -43,8 +44,8 @@ fn steps_made(sample: &Sample, kept: &Kept) -> u32 {
 }
 
 /// The fewest steps that keep routes and visits, and the fewest that keep the routes alone.
-fn searched(sample: &Sample) -> (Kept, u32, u32) {
-    let (order, plan) = (sample.order.record(), sample.plan().record());
+fn searched(sample: &Sample, edition: Edition) -> (Kept, u32, u32) {
+    let (order, plan) = (sample.order.record(), sample.plan(edition).record());
     let order = order::read(&order).expect("a sound order");
     let kept = Kept::by_plan(&order, plan::read(&plan).expect("a sound plan"));
     let fewest = kept.fewest_steps(&order).expect("the plan itself, one move in each step");
@@ -59,9 +60,10 @@ fn none_is_shorter_on_small_floors() {
     let mut by_steps = [0; 7];
     for _ in 0..40_000 {
         let sample = small_plan(&mut random);
-        let (kept, fewest, of_routes) = searched(&sample);
-        let made = steps_made(&sample, &kept);
-        assert_eq!(made, fewest, "{}| {}", Hex(&sample.order.record()), Hex(&sample.plan().record()));
+        let edition = random.pick(&EDITIONS);
+        let (kept, fewest, of_routes) = searched(&sample, edition);
+        let made = steps_made(&sample, edition, &kept);
+        assert_eq!(made, fewest, "{}| {}", Hex(&sample.order.record()), Hex(&sample.plan(edition).record()));
         assert!(of_routes <= fewest);
         plans += 1;
         parallel += u32::from((made as usize) < sample.moves.len());
@@ -82,8 +84,10 @@ fn with_other_visits_fewer_steps_may_do() {
     sample.order.starts = vec![0, 3];
     sample.order.goals = vec![0, 3];
     sample.moves = vec![(0, 2), (2, 1), (1, 0), (3, 1), (1, 3)];
-    let (kept, fewest, of_routes) = searched(&sample);
-    assert_eq!(kept.routes, [vec![0, 2, 1, 0], vec![3, 1, 3]]);
-    assert_eq!(kept.visits, [vec![1, 1], vec![1, 2], vec![1], vec![2, 2]]);
-    assert_eq!((steps_made(&sample, &kept), fewest, of_routes), (4, 4, 3));
+    for edition in EDITIONS {
+        let (kept, fewest, of_routes) = searched(&sample, edition);
+        assert_eq!(kept.routes, [vec![0, 2, 1, 0], vec![3, 1, 3]]);
+        assert_eq!(kept.visits, [vec![1, 1], vec![1, 2], vec![1], vec![2, 2]]);
+        assert_eq!((steps_made(&sample, edition, &kept), fewest, of_routes), (4, 4, 3));
+    }
 }

@@ -1,4 +1,5 @@
-//! The proved timetable maker against the second one: the answer, and every byte of the buffer.
+//! The proved timetable maker against the second one: the answer, and every byte of the buffer. The timetable of a
+//! plan is the same in both editions.
 
 use compare::floors;
 use compare::packed;
@@ -6,8 +7,9 @@ use compare::plans;
 use compare::proved;
 use compare::random::Random;
 use compare::tally::Tally;
+use compare::write::EDITIONS;
 
-const NUMBERS: [u8; 13] = [0, 10, 11, 12, 13, 14, 30, 31, 32, 33, 34, 35, 44];
+const NUMBERS: [u8; 14] = [0, 10, 11, 12, 13, 14, 30, 31, 32, 33, 34, 35, 36, 44];
 
 /// Makes the timetable twice, in equal buffers, and holds answers and buffers to each other.
 fn compare(tally: &mut Tally, order: &[u8], plan: &[u8], buffer: &mut [u8]) -> u64 {
@@ -34,7 +36,7 @@ fn random_length(random: &mut Random, k: usize) -> usize {
 fn sound_and_damaged_plans_with_buffers_around_the_limit() {
     let mut random = Random::new(0x5EED_5001);
     let mut tally = Tally::new("timetable_make");
-    for _ in 0..200_000 {
+    for _ in 0..250_000 {
         let (_, case) = plans::random_case(&mut random);
         let k =
             case.record.get(..3).map_or(0, |head| u32::from_be_bytes([0, head[0], head[1], head[2]]) >> 2);
@@ -43,7 +45,7 @@ fn sound_and_damaged_plans_with_buffers_around_the_limit() {
         let mut buffer = random.bytes(length);
         compare(&mut tally, &case.order, &case.record, &mut buffer);
     }
-    tally.finish(200_000, &NUMBERS);
+    tally.finish(250_000, &NUMBERS);
 }
 
 #[test]
@@ -52,13 +54,17 @@ fn sound_plans_whatever_the_buffer_held() {
     let mut tally = Tally::new("timetable_make, sound plans");
     for _ in 0..30_000 {
         let sample = plans::random_sound(&mut random);
-        let (order, plan) = (sample.order.record(), sample.plan().record());
+        let order = sample.order.record();
+        let plans = EDITIONS.map(|edition| sample.plan(edition).record());
         let length = 3 * sample.moves.len() + 3 + random.below(20);
-        for mut buffer in [vec![0; length], vec![0xFF; length], random.bytes(length)] {
-            compare(&mut tally, &order, &plan, &mut buffer);
+        for before in [vec![0; length], vec![0xFF; length], random.bytes(length)] {
+            let mut buffers = [before.clone(), before];
+            let answers = [0, 1].map(|index| compare(&mut tally, &order, &plans[index], &mut buffers[index]));
+            assert_eq!(answers[0], answers[1]);
+            assert!(buffers[0] == buffers[1], "the editions differ: {:02X?} | {:02X?}", order, plans);
         }
     }
-    tally.finish(90_000, &[0]);
+    tally.finish(180_000, &[0]);
 }
 
 #[test]
@@ -68,11 +74,13 @@ fn long_plans() {
     for (m, k) in [(1, 10_000), (1, 4_096), (1, 4_097), (20, 100_000), (62, 100_000), (63, 100_000)] {
         for floor in [floors::grid(8, 8), floors::bi_connected(&mut random, 64)] {
             let sample = plans::sound_on(&mut random, floor, m, k);
-            let mut buffer = random.bytes(3 * k + 10);
-            compare(&mut tally, &sample.order.record(), &sample.plan().record(), &mut buffer);
+            for edition in EDITIONS {
+                let mut buffer = random.bytes(3 * k + 10);
+                compare(&mut tally, &sample.order.record(), &sample.plan(edition).record(), &mut buffer);
+            }
         }
     }
-    tally.close(12);
+    tally.close(24);
 }
 
 #[test]
@@ -81,6 +89,9 @@ fn the_limit_of_the_longest_plan() {
     let sample = plans::to_and_fro(most);
     let mut tally = Tally::new("timetable_make, 4194303 moves and a buffer one byte short");
     let mut buffer = vec![0xAA; 3 * most + 2];
-    assert_eq!(compare(&mut tally, &sample.order.record(), &sample.plan().record(), &mut buffer), 44);
-    tally.close(1);
+    for edition in EDITIONS {
+        let plan = sample.plan(edition).record();
+        assert_eq!(compare(&mut tally, &sample.order.record(), &plan, &mut buffer), 44);
+    }
+    tally.close(2);
 }

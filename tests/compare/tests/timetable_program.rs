@@ -18,8 +18,9 @@ fn hex(text: &str) -> Vec<u8> {
 
 /// The order of "Programs": the floor F, rack 1 from 0 to 3, rack 2 from 3 to 0.
 const ORDER: &str = "08 0A 08 00 10 02 04 20 43 08 30 03 0C 00";
-/// The plan of "Programs".
+/// The plan of "Programs", and the same in edition two: racks 1, 2, 2 and 1.
 const PLAN: &str = "00 00 10 00 10 C2 08 00 43";
+const PLAN_TWO: &str = "00 00 11 00 10 03 08 10 80 04 10 C0";
 
 /// The order of "Programs", followed by these bytes in hexadecimal.
 fn followed_by(plan: &str) -> Vec<u8> {
@@ -32,7 +33,7 @@ fn order(n: usize, edges: &[Move], starts: &[u8], goals: &[u8]) -> Vec<u8> {
 }
 
 fn plan(moves: Vec<Move>) -> Vec<u8> {
-    Plan { moves, spare: 0, pad: 0 }.record()
+    Plan::of_moves(&moves).record()
 }
 
 /// A rack that goes to and fro k times between two positions.
@@ -43,12 +44,14 @@ fn to_and_fro(k: usize) -> Vec<Move> {
 #[test]
 fn the_worked_example() {
     assert_eq!(printed(&followed_by(PLAN)), "steps 2 moves 4\n1 0>1 3>2\n2 1>3 2>0\n");
+    assert_eq!(printed(&followed_by(PLAN_TWO)), "steps 2 moves 4\n1 0>1 3>2\n2 1>3 2>0\n");
 }
 
 #[test]
 fn no_moves() {
     let still = order(4, &[(0, 1)], &[0, 2], &[0, 2]);
-    assert_eq!(printed(&[still, hex("00 00 00")].concat()), "steps 0 moves 0\n");
+    assert_eq!(printed(&[still.clone(), hex("00 00 00")].concat()), "steps 0 moves 0\n");
+    assert_eq!(printed(&[still, hex("00 00 01")].concat()), "steps 0 moves 0\n");
 }
 
 #[test]
@@ -68,17 +71,24 @@ fn each_refusal() {
     assert_eq!(printed(&hex("08 0A 08 00 10 02 04 20 43 08 30 03 0C 01")), "refused 12 0 order\n");
     assert_eq!(printed(&order(2, &[(1, 0)], &[], &[])), "refused 13 0 order\n");
     assert_eq!(printed(&order(3, &[], &[1, 1], &[1, 2])), "refused 14 0 order\n");
-    // a plan of two bytes; of one move too few, by its length; with a spare bit; with a pad bit
+    // a plan of two bytes; of one move too few, by its length; with spare bits 10 and 11; with a pad bit
     assert_eq!(printed(&followed_by("00 00")), "refused 30 0 plan\n");
     assert_eq!(printed(&followed_by("00 00 10 00 10 C2 08 00")), "refused 30 0 plan\n");
-    assert_eq!(printed(&followed_by("00 00 01")), "refused 31 0 plan\n");
+    assert_eq!(printed(&followed_by("00 00 02")), "refused 31 0 plan\n");
+    assert_eq!(printed(&followed_by("00 00 03")), "refused 31 0 plan\n");
     assert_eq!(printed(&followed_by("00 00 04 00 11")), "refused 31 0 plan\n");
     // 0>3, where no edge is; 1>2, where no rack is; 0>1, then 1>3, where rack 2 stands
     assert_eq!(printed(&followed_by("00 00 04 00 30")), "refused 32 1 plan\n");
     assert_eq!(printed(&followed_by("00 00 04 04 20")), "refused 34 1 plan\n");
     assert_eq!(printed(&followed_by("00 00 08 00 10 43")), "refused 35 2 plan\n");
+    // in edition two: a move of 12 bits; a pad bit; 0>1 with rack 2 written, and with rack 64
+    assert_eq!(printed(&followed_by("00 00 05 00 10")), "refused 30 0 plan\n");
+    assert_eq!(printed(&followed_by("00 00 05 00 10 20")), "refused 31 0 plan\n");
+    assert_eq!(printed(&followed_by("00 00 05 00 10 40")), "refused 36 1 plan\n");
+    assert_eq!(printed(&followed_by("00 00 05 00 1F C0")), "refused 36 1 plan\n");
     // the empty plan: rack 1 stays; a plan that brings rack 1 to its goal alone
     assert_eq!(printed(&followed_by("00 00 00")), "refused 33 1 plan\n");
+    assert_eq!(printed(&followed_by("00 00 01")), "refused 33 1 plan\n");
     let edges = [(0, 1), (0, 2), (1, 2), (1, 3), (2, 3)];
     let one_of_two = [order(4, &edges, &[0, 1], &[3, 2]), plan(vec![(0, 2), (2, 3)])].concat();
     assert_eq!(printed(&one_of_two), "refused 33 2 plan\n");

@@ -18,7 +18,7 @@ fn accepted(order: &Order) {
     for choice in [Choice::Nearest, Choice::First] {
         let moves = bibox::plan(&read, choice).unwrap_or_else(|| panic!("no plan for {}", Hex(&record)));
         let count = moves.len() as u32;
-        let plan = Plan { moves, spare: 0, pad: 0 }.record();
+        let plan = Plan::of_moves(&moves).record();
         assert_eq!(second::plan::check(&record, &plan), Ok(count), "{choice:?}, {}", Hex(&record));
     }
 }

@@ -9,22 +9,24 @@
 //! | `record`    | Records: fields, pads, lengths    |                    |
 //! | `order`     | Records, the order                | 10 to 14           |
 //! | `motion`    | Legal moves and steps             |                    |
-//! | `plan`      | Records, the plan; request (c)    | 30 to 35           |
+//! | `plan`      | Records, the plan; (c) and (h)    | 30 to 36           |
 //! | `timetable` | Records, the timetable            | 40 to 43, 45       |
 //! | `making`    | Making the timetable              | 44                 |
 //! | `floor`     | The floor, request (d)            | 20, 21, 24         |
 //! | `breakdown` | Breakdown and planning            |                    |
-//! | `planning`  | Breakdown and planning, demand 3  | 23                 |
+//! | `planning`  | Breakdown and planning, demand 3, (h) | 23             |
 //! | `program`   | Programs                          |                    |
 //! | `models`    | request (a), floors by model code | 50, 51, 14, 52     |
 //! | `clearing`  | request (b), the nearest vacancy  |                    |
-//! | `shortening` | request (e), shorter plans       | 37                 |
+//! | `shortening` | requests (e) and (h), shorter plans | 37              |
+//! | `converting` | request (h), the other edition   | 38                 |
 //! | `shortest`  | request (g), no shorter timetable |                    |
 #![forbid(unsafe_code)]
 
 pub mod answer;
 pub mod breakdown;
 pub mod clearing;
+pub mod converting;
 pub mod floor;
 pub mod making;
 pub mod models;

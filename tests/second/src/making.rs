@@ -4,7 +4,7 @@ use crate::answer::{refuse, Answer};
 use crate::motion::Arrangement;
 use crate::order::{self, Order};
 use crate::plan::{self, Plan};
-use crate::record::{pack, pair, positions};
+use crate::record::{pack, positions};
 use crate::timetable::step_length;
 
 /// The timetable maker: the plan checker's refusals and 44, else s, with the record "written at the
@@ -35,7 +35,7 @@ fn steps(order: &Order, plan: Plan<'_>) -> Vec<u32> {
     let mut last_left = [0; 64]; // the step of the latest move that left each position
     let mut step_of = Vec::with_capacity(plan.k);
     for index in 0..plan.k {
-        let (left, entered) = positions(pair(plan.moves, index));
+        let (left, entered) = positions(plan.pair(index));
         let rack = usize::from(now.rack_at(left));
         // A rack or a position with no earlier move has 0, which makes the greater at least 1.
         let step = u32::max(last_of_rack[rack] + 1, last_left[entered]);
@@ -62,7 +62,7 @@ fn write(s: u32, step_of: &[u32], plan: Plan<'_>, buffer: &mut [u8]) {
     for (index, &step) in step_of.iter().enumerate().rev() {
         let slot = &mut next[step as usize];
         *slot -= 1;
-        sorted[*slot] = pair(plan.moves, index);
+        sorted[*slot] = plan.pair(index);
     }
     buffer[..3].copy_from_slice(&(s << 2).to_be_bytes()[1..]);
     let mut rest = &mut buffer[3..];
@@ -71,7 +71,7 @@ fn write(s: u32, step_of: &[u32], plan: Plan<'_>, buffer: &mut [u8]) {
         moves.sort_unstable(); // by position left, which is the pair's upper half
         let (step, after) = rest.split_at_mut(step_length(moves.len() as u8));
         step[0] = moves.len() as u8;
-        pack(moves, &mut step[1..]);
+        pack(moves.iter().copied(), &mut step[1..]);
         rest = after;
     }
 }

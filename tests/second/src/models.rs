@@ -58,7 +58,7 @@ fn full(rows: usize, columns: usize, racks: Vec<u16>) -> Vec<u8> {
     pairs.extend(racks);
     let mut record = vec![0; 3 + packed_length(pairs.len())];
     record[..3].copy_from_slice(&(head as u32).to_be_bytes()[1..]);
-    pack(&pairs, &mut record[3..]);
+    pack(pairs, &mut record[3..]);
     record
 }
 

@@ -4,14 +4,19 @@
 use crate::answer::{refuse, Answer};
 use crate::floor;
 use crate::order::{self, Order};
-use crate::plan;
+use crate::plan::{self, Edition};
+
+/// The length of a plan buffer that is enough on a floor of n positions.
+pub fn enough(n: usize) -> usize {
+    18 * n.pow(3) + 3
+}
 
 /// The planner's refusal, the first of 10 to 14, 20, 21, 24 and 23 that applies, else the order to plan.
 pub fn judge_call(order: &[u8], buffer_length: usize) -> Answer<Order> {
     let order = order::read(order)?;
     floor::judge(&order)?;
-    // 23: "plan buffer shorter than 12 × n × n × n + 3 bytes"
-    if buffer_length < 12 * order.floor.n.pow(3) + 3 {
+    // "The planner writes edition two, needs 18 × n × n × n + 3 bytes, and 23 uses that size"
+    if buffer_length < enough(order.floor.n) {
         return refuse(23);
     }
     Ok(order)
@@ -40,12 +45,15 @@ fn fault_of_plan(read: &Order, order: &[u8], before: &[u8], after: &[u8], k: usi
     }
     // "After acceptance the buffer holds the plan record first, other bytes unchanged, and the answer
     // gives the count of its moves."
-    let length = plan::length(k);
+    let length = plan::length(Edition::Two, k);
     if before.len() != after.len() || before[length..] != after[length..] {
         return Some("a byte behind the record changed".to_string());
     }
-    match plan::check(order, &after[..length]) {
-        Ok(_) => None,
-        Err(refusal) => Some(format!("the plan checker answers {refusal:?}")),
+    // "In demand 2, an edition-two plan with a wrong rack is no solution": the checker's 36.
+    let record = &after[..length];
+    match (plan::check(order, record), plan::read(record)) {
+        (Err(refusal), _) => Some(format!("the plan checker answers {refusal:?}")),
+        (_, Ok(plan)) if plan.edition == Edition::Two => None,
+        _ => Some("not edition two".to_string()),
     }
 }

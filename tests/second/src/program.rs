@@ -11,7 +11,8 @@ use crate::timetable::step_length;
 
 /// "Each program reads at most 65,536 bytes and judges those."
 const READ: usize = 65_536;
-/// "The plan program … lends 65,536 bytes (so n up to 17)"; "The timetable program … lends 65,536 bytes".
+/// "The plan program … lends 65,536 bytes", and "now serves n up to 15"; "The timetable program … lends 65,536
+/// bytes".
 const LENT: usize = 65_536;
 
 /// The family word: "10 to 19 order, 20 to 29 floor, 30 to 39 plan, 40 to 49 timetable". Any other number is of none.

@@ -7,7 +7,7 @@ use crate::answer::{refuse, Answer};
 use crate::motion::Arrangement;
 use crate::order::{self, Order};
 use crate::plan::{self, Plan};
-use crate::record::{pack, pair, positions};
+use crate::record::positions;
 
 /// A move with the rack that it moves.
 #[derive(Clone, Copy)]
@@ -42,8 +42,7 @@ fn first_pair(drives: &[Drive]) -> Option<(usize, usize)> {
 fn by_the_rule(order: &Order, plan: Plan<'_>) -> Vec<u16> {
     let mut now = Arrangement::starting(order);
     let mut drives = Vec::with_capacity(plan.k);
-    for index in 0..plan.k {
-        let (left, entered) = positions(pair(plan.moves, index));
+    for (left, entered) in plan.pairs().map(positions) {
         drives.push(Drive { rack: now.rack_at(left), left, entered });
         now.make_move(left, entered);
     }
@@ -62,12 +61,9 @@ fn in_one_pass(_: &Order, plan: Plan<'_>) -> Vec<u16> {
     let mut before = vec![[NONE; 2]; plan.k];
     let mut kept = vec![false; plan.k];
     for index in 0..plan.k {
-        let (left, entered) = positions(pair(plan.moves, index));
+        let (left, entered) = positions(plan.pair(index));
         let last = latest[left];
-        if last != NONE
-            && last == latest[entered]
-            && positions(pair(plan.moves, last as usize)) == (entered, left)
-        {
+        if last != NONE && last == latest[entered] && positions(plan.pair(last as usize)) == (entered, left) {
             kept[last as usize] = false;
             [latest[entered], latest[left]] = before[last as usize];
             continue;
@@ -77,7 +73,7 @@ fn in_one_pass(_: &Order, plan: Plan<'_>) -> Vec<u16> {
         latest[left] = index as u32;
         latest[entered] = index as u32;
     }
-    (0..plan.k).filter(|&index| kept[index]).map(|index| pair(plan.moves, index)).collect()
+    (0..plan.k).filter(|&index| kept[index]).map(|index| plan.pair(index)).collect()
 }
 
 /// "The result is written to a second buffer": the count of its moves, or the refusal. "Its input is refused
@@ -104,11 +100,9 @@ fn write(
     if buffer.len() < record.len() {
         return refuse(37);
     }
+    // "the shortener writes the edition it read"
     let moves = shortened(&order, plan);
-    let count = moves.len() as u32;
-    buffer[..3].copy_from_slice(&(count << 2).to_be_bytes()[1..]);
-    pack(&moves, &mut buffer[3..]);
-    Ok(count)
+    Ok(plan::write(&order, plan.edition, moves.into_iter(), buffer))
 }
 
 #[cfg(test)]

@@ -39,8 +39,7 @@ impl Kept {
     pub fn by_plan(order: &Order, plan: Plan<'_>) -> Kept {
         let mut now = Arrangement::starting(order);
         let mut kept = Kept::starting(order);
-        for index in 0..plan.k {
-            let (left, entered) = positions(pair(plan.moves, index));
+        for (left, entered) in plan.pairs().map(positions) {
             kept.comes(now.rack_at(left), entered);
             now.make_move(left, entered);
         }
@@ -137,8 +136,8 @@ impl Kept {
         let mut moves: Vec<u16> = racks.iter().map(next).collect();
         moves.sort_unstable(); // by position left
         let mut packed = vec![0; packed_length(moves.len())];
-        pack(&moves, &mut packed);
-        now.legal_step(&order.floor, &packed, moves.len()).is_some()
+        let count = pack(moves, &mut packed);
+        now.legal_step(&order.floor, &packed, count).is_some()
     }
 }
 

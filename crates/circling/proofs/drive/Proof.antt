@@ -128,8 +128,9 @@ array-write-need c = rack-small c
 move-rack-requires : tie.Need-move-rack-requires Inv-loop μ-loop
 move-rack-requires c κs =
     let held = c .before .before in
-    let turn = held .before .before .before .before in (
-      (driving-movable (state turn) (circled turn) _ (omega arith) (ready turn) .leaves, b-small (held .before .before)),
+    let turn = held .before .before .before .before in
+    let movable = driving-movable (state turn) (circled turn) _ (omega arith) (ready turn) in (
+      (movable .leaves, b-small (held .before .before), movable .held),
       space-less 1 (driving-more (state turn) (circled turn) (place turn) (omega arith) (ready turn))
           (driving-space (state turn) (circled turn) (entry turn .pre .1 .1 .1)),
     )

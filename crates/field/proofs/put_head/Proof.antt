@@ -1,5 +1,5 @@
 -- `field::put_head` meets its contract. Assumes nothing.
-use Prim.Native.Nat.{_/_, _%_, _*_}
+use Prim.Native.Nat.{_/_, _%_, _+_, _*_}
 use native.Mathlib.Omega.{arith}
 use lib.ListN.{length-set}
 use Rattle.field.specs.Head.{headBytes}
@@ -23,6 +23,9 @@ slice-write-s-2 c = rw (length-set (c .args .s .now) 0 (c .args .count / 16384))
 mul-s : tie.Need-mul-s
 mul-s c = search needs
 
+add-s : tie.Need-add-s
+add-s c = search needs
+
 cast-s-3 : tie.Need-cast-s-3
 cast-s-3 c = search needs
 
@@ -34,7 +37,9 @@ same-length c = search needs
 
 returns : tie.Need-returns
 unfolding headBytes
-returns c = written-head (c .args .s .now) (c .args .count / 16384) (c .args .count / 64 % 256) (c .args .count % 64 * 4) (omega arith)
+returns c =
+    written-head (c .args .s .now) (c .args .count / 16384) (c .args .count / 64 % 256) (c .args .count % 64 * 4 + c .args .spare)
+    (omega arith)
 
 pub put-head-spec : {M : Type 1} → statement M
 put-head-spec =
@@ -45,6 +50,7 @@ put-head-spec =
     cast-s-2
     slice-write-s-2
     mul-s
+    add-s
     cast-s-3
     slice-write-s-3
     same-length

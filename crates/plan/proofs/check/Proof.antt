@@ -68,36 +68,42 @@ returns-2 c =
     (ap orderAnswerOf (sym (told .below .given .1)) ∙ read .read .ensures) (plan-read .read-record .ensures)
     (ap answerOf (c .enum-told2 .given .1))
 
+names-racks-requires : tie.Need-names-racks-requires
+names-racks-requires c κs = of-record c .fit .head-there
+
 sub-judge : tie.Need-sub-judge
-sub-judge c = of-order c .head-there
+sub-judge c = of-order (c .before) .head-there
 
 part-judge-start : tie.Need-part-judge-start
-part-judge-start c = of-order c .head-there
+part-judge-start c = of-order (c .before) .head-there
 
 sub-judge-2 : tie.Need-sub-judge-2
-sub-judge-2 c = of-record (c .before) .fit .head-there
+sub-judge-2 c = of-record (c .before .before) .fit .head-there
 
 part-judge-start-2 : tie.Need-part-judge-start-2
-part-judge-start-2 c = of-record (c .before) .fit .head-there
+part-judge-start-2 c = of-record (c .before .before) .fit .head-there
 
 judge-requires : tie.Need-judge-requires
 judge-requires c κs =
-    let read = c .before .before in
+    let edition = c .before .before in
+    let read = edition .before in
     let n = given read in
     let gave = of-order read in
     let record-is = of-record read in
     let k = read .before .head .given .0 .0 in
-    let room = plan-room (o read) (n .positions) (n .edges) (n .racks) gave (p read) k record-is in
+    let room = plan-room (o read) (n .positions) (n .edges) (n .racks) gave (p read) k record-is (edition .names-racks .result)
+    (edition .names-racks .ensures) in
     ((gave .few-edges, gave .few-racks, gave .room), (record-is .count-below, room))
 
 returns-3 : tie.Need-returns-3
 returns-3 c =
-    let read = c .before .before .before in
+    let edition = c .before .before .before in
+    let read = edition .before in
     let n = given read in
     let k = read .before .head .given .0 .0 in
     c .judge .ensures
-    ∙ answer-is (o read) (n .positions) (n .edges) (n .racks) (of-order read) (p read) k (of-record read) (order-accepted read)
-    (record-accepted read)
+    ∙ answer-is (o read) (n .positions) (n .edges) (n .racks) (of-order read) (p read) k (of-record read) (edition .names-racks .result)
+    (edition .names-racks .ensures) (order-accepted read) (record-accepted read)
 
 pub check-spec : {M : Type 1} → statement M
 check-spec =
@@ -112,6 +118,7 @@ check-spec =
     (λ c. search needs)
     (λ c. search needs)
     returns-2
+    names-racks-requires
     sub-judge
     part-judge-start
     (λ c. search needs)

@@ -23,10 +23,11 @@ module _ (ran : tie.After-replay) where
 
   told : let a = entry .args in
       JudgeTold Fault.PlanGoal (positions (a .order .now) (6 * (2 * a .e + a .m)) (a .m)) (a .k ∷ []) (a .m) (ran .replay .result)
-      (ran .replay .last .1 .1 .1 .0) (tableAnswer (a .order .now) (a .e) (a .m) (a .plan .now) (a .k))
+      (ran .replay .last .1 .1 .1 .1 .0) (tableAnswer (a .order .now) (a .e) (a .m) (a .plan .now) (a .named) (a .k))
   told =
       let a = entry .args in
-      table-told (a .order .now) (a .e) (a .m) (a .plan .now) (a .k) _ _ (marked .mark-edges .ensures) (placed .place-racks .ensures)
+      table-told (a .order .now) (a .e) (a .m) (a .plan .now) (a .named) (a .k) _ _ (marked .mark-edges .ensures)
+      (placed .place-racks .ensures)
       (ran .replay .result) _ (ran .replay .ensures)
 
 returns : tie.Need-returns

@@ -1,31 +1,35 @@
 -- `plan::replay` meets its contract. The loop's invariant: what is left to replay decides. Assumes nothing.
 use Prim.Native.Nat.{_-_, _≤_}
 use native.Mathlib.Omega.{arith}
+use Rattle.field.proofs.ListedLaws.{room-at}
 use borrow.Author.Needs.{needs}
 use Rattle.plan.proofs.Turns.{MovesLeft, moves-first, moves-stop, moves-next, moves-none}
 use Rattle.plan.proofs.replay.Statement.{statement}
 use Rattle.plan.proofs.replay.Tie as tie
 
 abbrev Inv-loop : tie.InvT-loop
-Inv-loop tail k matrix racks₀ j₀ racks j = (j ≤ k) × MovesLeft tail k matrix racks₀ racks j
+Inv-loop tail named k matrix racks₀ j₀ racks j = (j ≤ k) × MovesLeft tail named k matrix racks₀ racks j
 
 abbrev μ-loop : tie.MeasureT-loop
-μ-loop tail k matrix racks₀ j₀ racks j = k - j
+μ-loop tail named k matrix racks₀ j₀ racks j = k - j
 
 loop-holds : tie.Need-loop-holds Inv-loop μ-loop
-loop-holds c = (omega arith, moves-first _ _ _ _)
+loop-holds c = (omega arith, moves-first _ _ _ _ _)
 
-pair-number-requires : tie.Need-pair-number-requires Inv-loop μ-loop
-pair-number-requires c κs = omega arith
+listed-at-requires : tie.Need-listed-at-requires Inv-loop μ-loop
+listed-at-requires c κs =
+    let turn = c .before in
+    let entry = turn .before .before in
+    room-at (entry .args .named) (turn .loop .j) (entry .args .k) _ (c .loop-test .taken) (entry .pre .1)
 
 element-copy-out-rack : tie.Need-element-copy-out-rack Inv-loop μ-loop
-element-copy-out-rack c = omega arith
+element-copy-out-rack c = omega (arith, c .listed-at .ensures .left-below)
 
 element-copy-out-move-fault : tie.Need-element-copy-out-move-fault Inv-loop μ-loop
-element-copy-out-move-fault c = omega arith
+element-copy-out-move-fault c = let at = c .before .listed-at .ensures in omega (arith, at .left-below, at .entered-below)
 
 element-copy-out-move-fault-2 : tie.Need-element-copy-out-move-fault-2 Inv-loop μ-loop
-element-copy-out-move-fault-2 c = omega arith
+element-copy-out-move-fault-2 c = let at = c .before .before .listed-at .ensures in omega (arith, at .entered-below)
 
 move-fault-requires : tie.Need-move-fault-requires Inv-loop μ-loop
 move-fault-requires c κs = search needs
@@ -40,8 +44,8 @@ returns c =
     let read = held .before .before in
     let turn = read .before .before in
     let entry = turn .before .before .args in
-    moves-stop (entry .tail .now) (entry .k) (entry .matrix .now) (entry .racks .now) (turn .loop .racks) (turn .loop .j)
-    (read .pair-number .result) (turn .loop .inv .1) (omega arith) (read .pair-number .ensures)
+    moves-stop (entry .tail .now) (entry .named) (entry .k) (entry .matrix .now) (entry .racks .now) (turn .loop .racks) (turn .loop .j)
+    (read .listed-at .result .step) (read .listed-at .result .rack) (turn .loop .inv .1) (omega arith) (read .listed-at .ensures)
     (judged .move-fault .result) (judged .move-fault .ensures)
     _ (c .before .verdict .given .1)
 
@@ -67,9 +71,9 @@ loop-again c =
     let read = held .before .before in
     let turn = read .before .before in
     let entry = turn .before .before .args in
-    let next = moves-next (entry .tail .now) (entry .k) (entry .matrix .now) (entry .racks .now) (turn .loop .racks) (turn .loop .j)
-    (read .pair-number .result) (turn .loop .inv .1) (omega arith) (read .pair-number .ensures)
-    (judged .move-fault .result) (judged .move-fault .ensures)
+    let next = moves-next (entry .tail .now) (entry .named) (entry .k) (entry .matrix .now) (entry .racks .now) (turn .loop .racks)
+    (turn .loop .j) (read .listed-at .result .step) (read .listed-at .result .rack) (turn .loop .inv .1) (omega arith)
+    (read .listed-at .ensures) (judged .move-fault .result) (judged .move-fault .ensures)
     (c .enum-told .given .1) in
     (omega arith, next)
 
@@ -77,7 +81,7 @@ returns-2 : tie.Need-returns-2 Inv-loop μ-loop
 returns-2 c =
     let turn = c .before in
     let entry = turn .before .before .args in
-    moves-none (entry .tail .now) (entry .k) (entry .matrix .now) (entry .racks .now) (turn .loop .racks) (turn .loop .j)
+    moves-none (entry .tail .now) (entry .named) (entry .k) (entry .matrix .now) (entry .racks .now) (turn .loop .racks) (turn .loop .j)
     (turn .loop .inv .1) (omega arith)
 
 pub replay-spec : {M : Type 1} → statement M
@@ -87,7 +91,7 @@ replay-spec =
     Inv-loop
     μ-loop
     loop-holds
-    pair-number-requires
+    listed-at-requires
     element-copy-out-rack
     element-copy-out-move-fault
     element-copy-out-move-fault-2

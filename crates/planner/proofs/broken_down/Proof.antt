@@ -60,11 +60,14 @@ solve-requires c κs =
     let answer = found .break-down .ensures in
     let f = first .fill .ensures in
     let g = second .fill2 .ensures in
-    let room = entry .pre .1 .1 .1 in (
+    let room = entry .pre .1 .1 .1 in
+    let w = t .gave .placed-well .few-positions in
+    let p = t .gave .positions-are in
+    let most = room-racks o (a .n) (a .e) (a .m) (t .gave) (t .can) (entry .pre .1 .1 .0) in (
       rows-right o (a .n) (a .e) (a .m) (t .gave) (t .can) _ (t .rows-are),
       (
         answer .found (broken o (a .n) (a .e) (a .m) (t .gave) (t .can) _ (t .rows-are) (entry .pre .1 .1 .0) _ _ _ _ _ _ answer),
-        (f .0, (g .0, (g .1 .1 .0, record { racks = f .1 .1 .0; room = omega arith }))),
+        (f .0, (g .0, (g .1 .1 .0, record { racks = f .1 .1 .0; few-racks = omega arith; room = omega arith }))),
       ),
     )
 

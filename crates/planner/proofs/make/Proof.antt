@@ -97,7 +97,7 @@ put-head-requires c κs =
     (judged .1 .0) (judged .1 .1) in
     let few = few-moves (bytes k) (lent k) (can k) (told k .positions) (told k .edges) (told k .racks) (read k) (measured .if1 .left) _ _
     (planned .plan-moves .ensures .moves-of (bytes k) t) in
-    (search needs, omega (arith, few))
+    (search needs, omega (arith, few), omega arith)
 
 returns-3 : tie.Need-returns-3
 returns-3 c =

@@ -42,8 +42,11 @@ solve-requires c κs =
     let o = e .pre .0 .order in
     let t = e .pre .0 .tables in
     let made = v .circle .ensures in
-    let three = some e .rings .biConnected .three in (
-      (three, rows (e .pre .0 .order) (e .args .n) (e .args .m) (e .args .rows .now) (e .args .starts) (e .args .goals) (some e) .small),
+    let three = some e .rings .biConnected .three in
+    let less = some e .less in
+    let small =
+    rows (e .pre .0 .order) (e .args .n) (e .args .m) (e .args .rows .now) (e .args .starts) (e .args .goals) (some e) .small in (
+      (three, small),
       (
         (
           e .args .rows .now,
@@ -65,7 +68,7 @@ solve-requires c κs =
                     (v .circle .result) (made .0) (made .1) p q from to .1
                     (ring-order o (e .args .n) (e .args .e) (e .args .m) (t .gave) (t .can) (e .pre .1 .1 .0))),
                 round-room (e .args .n) three _ (e .args .tail .now)
-                    (start-holds o (e .args .n) (e .args .e) (e .args .m) (t .gave) (e .args .starts) (t .starts-are) .size) refl
+                    (start-holds o (e .args .n) (e .args .e) (e .args .m) (t .gave) (e .args .starts) (t .starts-are) .size) (omega arith) refl
                     (e .pre .1 .1 .1),
               ),
             ),

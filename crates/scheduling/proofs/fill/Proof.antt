@@ -1,6 +1,7 @@
 -- `scheduling::fill` meets its contract. The loop's invariant: what is left to pass decides the pass at the end. Assumes nothing.
 use Prim.Native.Nat.{_≤_, _-_}
 use native.Mathlib.Omega.{arith}
+use Rattle.field.proofs.ListedLaws.{room-at}
 use borrow.Author.Needs.{needs}
 use Rattle.scheduling.specs.Rows.{KeepsLeft}
 use Rattle.scheduling.proofs.Passing.{ToPass, pass-first, pass-next, pass-last}
@@ -8,19 +9,22 @@ use Rattle.scheduling.proofs.fill.Statement.{statement}
 use Rattle.scheduling.proofs.fill.Tie as tie
 
 abbrev Inv-loop : tie.InvT-loop
-Inv-loop tail k first window₀ leaving₀ arrived₀ left₀ greatest₀ j₀ window leaving arrived left greatest j =
-    (j ≤ k) × ToPass tail k first window₀ window arrived left greatest j × KeepsLeft window₀ leaving₀ window leaving
+Inv-loop tail named k first window₀ leaving₀ arrived₀ left₀ greatest₀ j₀ window leaving arrived left greatest j =
+    (j ≤ k) × ToPass tail named k first window₀ window arrived left greatest j × KeepsLeft window₀ leaving₀ window leaving
 
 abbrev μ-loop : tie.MeasureT-loop
-μ-loop tail k first window₀ leaving₀ arrived₀ left₀ greatest₀ j₀ window leaving arrived left greatest j = k - j
+μ-loop tail named k first window₀ leaving₀ arrived₀ left₀ greatest₀ j₀ window leaving arrived left greatest j = k - j
 
 loop-holds : tie.Need-loop-holds Inv-loop μ-loop
 loop-holds c =
     let s = c .before .args in
-    (omega arith, pass-first (s .tail .now) (s .k) (s .first) (s .window .now), λ left. left)
+    (omega arith, pass-first (s .tail .now) (s .named) (s .k) (s .first) (s .window .now), λ left. left)
 
-pair-at-requires : tie.Need-pair-at-requires Inv-loop μ-loop
-pair-at-requires c κs = omega arith
+move-at-requires : tie.Need-move-at-requires Inv-loop μ-loop
+move-at-requires c κs =
+    let turn = c .before in
+    let entry = turn .before .before in
+    room-at (entry .args .named) (turn .loop .j) (entry .args .k) _ (c .loop-test .taken) (entry .pre .1)
 
 mul-later : tie.Need-mul-later Inv-loop μ-loop
 mul-later c = omega arith
@@ -29,7 +33,7 @@ array-read-later : tie.Need-array-read-later Inv-loop μ-loop
 array-read-later c = omega arith
 
 add-later : tie.Need-add-later Inv-loop μ-loop
-add-later c = omega (arith, c .before .before .loop .inv .1 .early .arrivals (c .pair-at .result .first))
+add-later c = omega (arith, c .before .before .loop .inv .1 .early .arrivals (c .move-at .result .first))
 
 mul-later-2 : tie.Need-mul-later-2 Inv-loop μ-loop
 mul-later-2 c = omega arith
@@ -66,15 +70,15 @@ loop-less c = omega arith
 
 loop-again : tie.Need-loop-again Inv-loop μ-loop
 loop-again c =
-    let at-note = c .before in let step = at-note .before .before .before in let pair-at = step .before in
-    let turn = pair-at .before .before in let entry = turn .before .before in
+    let at-note = c .before in let step = at-note .before .before .before in let move-at = step .before in
+    let turn = move-at .before .before in let entry = turn .before .before in
     let s = entry .args in
     let l = turn .loop in
-    let pair = pair-at .pair-at in
+    let pair = move-at .move-at in
     let note = at-note .note in (
       omega arith,
-      pass-next (s .tail .now) (s .k) (s .first) (s .window .now) (l .window) (l .arrived) (l .left) (l .greatest) (l .j) (l .inv .1)
-          (omega arith) (pair .result .first) (pair .result .second) (pair .ensures .first-is) (pair .ensures .second-is)
+      pass-next (s .tail .now) (s .named) (s .k) (s .first) (s .window .now) (l .window) (l .arrived) (l .left) (l .greatest) (l .j)
+          (l .inv .1) (omega arith) (pair .result .first) (pair .result .second) (pair .ensures .first-is) (pair .ensures .second-is)
           (step .later .result) (step .later .ensures) (note .last .0) (note .ensures .0) (c .later2 .result) (c .later2 .ensures),
       λ left. note .ensures .1 (l .inv .2 left),
     )
@@ -83,8 +87,8 @@ returns : tie.Need-returns Inv-loop μ-loop
 returns c =
     let s = c .before .before .before .args in
     let l = c .before .loop in (
-      pass-last (s .tail .now) (s .k) (s .first) (s .window .now) (l .window) (l .arrived) (l .left) (l .greatest) (l .j) (l .inv .1)
-          (omega arith),
+      pass-last (s .tail .now) (s .named) (s .k) (s .first) (s .window .now) (l .window) (l .arrived) (l .left) (l .greatest) (l .j)
+          (l .inv .1) (omega arith),
       l .inv .2,
     )
 
@@ -95,7 +99,7 @@ fill-spec =
     Inv-loop
     μ-loop
     loop-holds
-    pair-at-requires
+    move-at-requires
     mul-later
     array-read-later
     add-later

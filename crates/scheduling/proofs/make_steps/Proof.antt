@@ -1,8 +1,9 @@
 -- `scheduling::make_steps` meets its contract. The loop's invariant: the steps of the windows passed are written. Assumes nothing.
-use Prim.Native.Nat.{_≤_, _-_, _+_, _/_}
+use Prim.Native.Nat.{ℕ, _≤_, _-_, _+_, _/_}
+use mathlib.Core.List.{List}
 use native.Mathlib.Omega.{arith}
-use Rattle.field.specs.Bits.{pairs}
-use Rattle.field.proofs.RecordLaws.{length-pairs}
+use Rattle.field.specs.Listed.{movesAt}
+use Rattle.field.proofs.ListedLaws.{length-moves}
 use Rattle.scheduling.specs.Filling.{latest}
 use Rattle.scheduling.proofs.FillingLaws.{latest-few}
 use Rattle.scheduling.proofs.Windowing.{Known, known-first, known-later, known-on, known-last, WroteWindows, windows-none}
@@ -11,25 +12,30 @@ use Rattle.scheduling.proofs.make_steps.Statement.{statement}
 use Rattle.scheduling.proofs.make_steps.Tie as tie
 
 abbrev Inv-loop : tie.InvT-loop
-Inv-loop tail k buffer₀ s₀ at₀ n₀ buffer s at n =
-    (n ≤ latest (pairs tail 0 k) / 4096 + 1) × Known (pairs tail 0 k) s n × WroteWindows (pairs tail 0 k) buffer₀ buffer at n
+Inv-loop tail named k buffer₀ s₀ at₀ n₀ buffer s at n =
+    let ms = movesAt named tail 0 k in
+    (n ≤ latest ms / 4096 + 1) × Known ms s n × WroteWindows ms buffer₀ buffer at n
 
 abbrev μ-loop : tie.MeasureT-loop
-μ-loop tail k buffer₀ s₀ at₀ n₀ buffer s at n = latest (pairs tail 0 k) / 4096 + 1 - n
+μ-loop tail named k buffer₀ s₀ at₀ n₀ buffer s at n = latest (movesAt named tail 0 k) / 4096 + 1 - n
+
+-- the plan's moves
+abbrev moves : tie.Start Inv-loop μ-loop → List (ℕ × ℕ)
+moves entry = movesAt (entry .args .named) (entry .args .tail .now) 0 (entry .args .k)
 
 loop-holds : tie.Need-loop-holds Inv-loop μ-loop
 loop-holds c = (
   omega arith,
-  known-first (pairs (c .before .before .args .tail .now) 0 (c .before .before .args .k)),
-  windows-none (pairs (c .before .before .args .tail .now) 0 (c .before .before .args .k)) (c .before .before .args .buffer .now),
+  known-first (moves (c .before .before)),
+  windows-none (moves (c .before .before)) (c .before .before .args .buffer .now),
 )
 
 mul-loop : tie.Need-mul-loop Inv-loop μ-loop
 mul-loop c = omega (
   arith,
   c .loop .inv .0,
-  latest-few (pairs (c .before .before .before .args .tail .now) 0 (c .before .before .before .args .k)),
-  length-pairs (c .before .before .before .args .tail .now) 0 (c .before .before .before .args .k),
+  latest-few (moves (c .before .before .before)),
+  length-moves (c .before .before .before .args .named) (c .before .before .before .args .tail .now) 0 (c .before .before .before .args .k),
 )
 
 mul-make-window : tie.Need-mul-make-window Inv-loop μ-loop
@@ -38,8 +44,8 @@ mul-make-window c =
     omega (
       arith,
       round .loop .inv .0,
-      latest-few (pairs (entry .args .tail .now) 0 (entry .args .k)),
-      length-pairs (entry .args .tail .now) 0 (entry .args .k),
+      latest-few (moves entry),
+      length-moves (entry .args .named) (entry .args .tail .now) 0 (entry .args .k),
     )
 
 make-window-requires : tie.Need-make-window-requires Inv-loop μ-loop
@@ -47,9 +53,9 @@ make-window-requires c κs =
     let round = c .before .before in let entry = round .before .before .before in (
       omega arith,
       omega arith,
-      windows-room (pairs (entry .args .tail .now) 0 (entry .args .k)) (entry .args .buffer .now) (entry .pre .2) (round .loop .buffer)
+      windows-room (moves entry) (entry .args .buffer .now) (entry .pre .2) (round .loop .buffer)
           (round .loop .at) (round .loop .n) (round .loop .inv .2)
-          (known-on (pairs (entry .args .tail .now) 0 (entry .args .k)) (round .loop .s) (round .loop .n) (round .loop .inv .1)
+          (known-on (moves entry) (round .loop .s) (round .loop .n) (round .loop .inv .1)
           (omega arith)),
     )
 
@@ -60,8 +66,8 @@ add-n c =
     omega (
       arith,
       round .loop .inv .0,
-      latest-few (pairs (entry .args .tail .now) 0 (entry .args .k)),
-      length-pairs (entry .args .tail .now) 0 (entry .args .k),
+      latest-few (moves entry),
+      length-moves (entry .args .named) (entry .args .tail .now) 0 (entry .args .k),
     )
 
 loop-less : tie.Need-loop-less Inv-loop μ-loop
@@ -70,7 +76,7 @@ loop-less c =
     let entry = round .before .before .before in
     omega (
       arith,
-      (known-on (pairs (entry .args .tail .now) 0 (entry .args .k)) (round .loop .s) (round .loop .n) (round .loop .inv .1)
+      (known-on (moves entry) (round .loop .s) (round .loop .n) (round .loop .inv .1)
           (omega arith)),
     )
 
@@ -78,33 +84,33 @@ loop-again : tie.Need-loop-again Inv-loop μ-loop
 loop-again c =
     let make-window = c .before .before in let round = make-window .before .before .before in
     let entry = round .before .before .before in (
-      (known-on (pairs (entry .args .tail .now) 0 (entry .args .k)) (round .loop .s) (round .loop .n) (round .loop .inv .1)
+      (known-on (moves entry) (round .loop .s) (round .loop .n) (round .loop .inv .1)
           (omega arith)),
-      known-later (pairs (entry .args .tail .now) 0 (entry .args .k)) (make-window .make-window .result .steps) (round .loop .n)
+      known-later (moves entry) (make-window .make-window .result .steps) (round .loop .n)
           (make-window .make-window .ensures .0),
-      windows-more (pairs (entry .args .tail .now) 0 (entry .args .k)) (entry .args .buffer .now) (entry .pre .2) (round .loop .buffer)
+      windows-more (moves entry) (entry .args .buffer .now) (entry .pre .2) (round .loop .buffer)
           (round .loop .at) (round .loop .n) (round .loop .inv .2)
-          (known-on (pairs (entry .args .tail .now) 0 (entry .args .k)) (round .loop .s) (round .loop .n) (round .loop .inv .1)
+          (known-on (moves entry) (round .loop .s) (round .loop .n) (round .loop .inv .1)
           (omega arith))
-          (make-window .make-window .result .next) (make-window .make-window .last .1 .1 .1 .0) (make-window .make-window .ensures .1),
+          (make-window .make-window .result .next) (make-window .make-window .last .1 .1 .1 .1 .0) (make-window .make-window .ensures .1),
     )
 
 same-length : tie.Need-same-length Inv-loop μ-loop
 same-length c =
     let round = c .before in let entry = round .before .before .before in
-    windows-length (pairs (entry .args .tail .now) 0 (entry .args .k)) (entry .args .buffer .now) (entry .pre .2) (round .loop .buffer)
+    windows-length (moves entry) (entry .args .buffer .now) (entry .pre .2) (round .loop .buffer)
     (round .loop .at) (round .loop .n) (round .loop .inv .2) (round .loop .inv .0)
 
 returns : tie.Need-returns Inv-loop μ-loop
 returns c =
     let round = c .before in let entry = round .before .before .before in (
-      (known-last (pairs (entry .args .tail .now) 0 (entry .args .k)) (round .loop .s) (round .loop .n) (round .loop .inv .1)
+      (known-last (moves entry) (round .loop .s) (round .loop .n) (round .loop .inv .1)
           (omega arith)),
-      windows-all (pairs (entry .args .tail .now) 0 (entry .args .k)) (entry .args .buffer .now) (entry .pre .2) (round .loop .buffer)
+      windows-all (moves entry) (entry .args .buffer .now) (entry .pre .2) (round .loop .buffer)
           (round .loop .at) (round .loop .n) (round .loop .inv .2) (round .loop .inv .0)
           (omega (
             arith,
-            (known-last (pairs (entry .args .tail .now) 0 (entry .args .k)) (round .loop .s) (round .loop .n) (round .loop .inv .1)
+            (known-last (moves entry) (round .loop .s) (round .loop .n) (round .loop .inv .1)
                 (omega arith)),
           )),
     )

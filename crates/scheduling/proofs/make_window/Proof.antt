@@ -1,8 +1,8 @@
 -- `scheduling::make_window` meets its contract. Assumes nothing.
 use native.Mathlib.Omega.{arith}
 use borrow.Author.Needs.{needs}
-use Rattle.field.specs.Bits.{pairs}
-use Rattle.field.proofs.RecordLaws.{pairs-lt}
+use Rattle.field.specs.Listed.{movesAt}
+use Rattle.field.proofs.ListedLaws.{moves-at-below}
 use Rattle.scheduling.specs.Filling.{emptyWindow}
 use Rattle.scheduling.proofs.Leaving.{left-empty}
 use Rattle.scheduling.proofs.Windowing.{filled-few, filled-fit, filled-room, filled-wrote}
@@ -21,7 +21,7 @@ write-window-requires c κs =
     let rows-of = c .before .before .before in let filled = rows-of .before in let window = filled .before .before in
     let entry = window .before .before .before in
     let n = rows-of .rows-of in
-    let ms = pairs (entry .args .tail .now) 0 (entry .args .k) in
+    let ms = movesAt (entry .args .named) (entry .args .tail .now) 0 (entry .args .k) in
     let f = filled .fill in (
       (
         filled-few ms (entry .args .first) (f .result) _ (f .ensures .0) (n .result) (n .ensures),
@@ -29,7 +29,8 @@ write-window-requires c κs =
             (entry .args .buffer .now) (entry .pre .2),
       ),
       (
-        filled-fit ms (entry .args .first) (f .result) _ (f .ensures .0) (pairs-lt (entry .args .tail .now) 0 (entry .args .k)),
+        filled-fit ms (entry .args .first) (f .result) _ (f .ensures .0)
+            (moves-at-below (entry .args .named) (entry .args .tail .now) 0 (entry .args .k)),
         f .ensures .1 left-empty,
       ),
     )
@@ -44,8 +45,9 @@ returns c =
     let filled = rows-of .before in let window = filled .before .before in let entry = window .before .before .before in
     let n = rows-of .rows-of in
     let f = filled .fill in
-    filled-wrote (pairs (entry .args .tail .now) 0 (entry .args .k)) (entry .args .first) (f .result) _ (f .ensures .0) (n .result)
-    (n .ensures) (entry .args .at) (write .write-window .result) (entry .args .buffer .now) _ (write .write-window .ensures)
+    filled-wrote (movesAt (entry .args .named) (entry .args .tail .now) 0 (entry .args .k)) (entry .args .first) (f .result) _
+    (f .ensures .0) (n .result) (n .ensures) (entry .args .at) (write .write-window .result) (entry .args .buffer .now) _
+    (write .write-window .ensures)
 
 pub make-window-spec : {M : Type 1} → statement M
 make-window-spec =

@@ -1,22 +1,22 @@
 -- `shortening::look_back` meets its contract. The loop's invariant: from the index that is reached on no kept move touches a position of
 -- `ends`, and the sets still cover what is kept. Assumes nothing.
-use Prim.Native.Nat.{_≤_}
+use Prim.Native.Nat.{_+_, _-_, _≤_}
 use mathlib.Core.Path.{_≡_, refl, _∙_}
 use native.Mathlib.Nat.{le-refl}
 use native.Mathlib.Omega.{arith}
 use lib.ListN.{length}
-use Rattle.shortening.specs.Looking.{ClearFrom, Looked}
-use Rattle.shortening.proofs.LookingLaws.{clear-down, never, found-at, found-none, looked-after}
+use Rattle.shortening.specs.Looking.{listedOf, ClearFrom, Looked}
+use Rattle.shortening.proofs.LookingLaws.{room-fewer, clear-down, never, found-at, found-none, looked-after}
 use Rattle.shortening.proofs.look_back.Statement.{statement}
 use Rattle.shortening.proofs.look_back.Tie as tie
 
 abbrev Inv-loop : tie.InvT-loop
-Inv-loop tail marks blocks₀ groups₀ from ends at₀ blocks groups at =
-    (at ≤ from) × Looked tail marks blocks groups × ClearFrom tail marks ends at × (length blocks ≡ length blocks₀)
-    × (length groups ≡ length groups₀)
+Inv-loop tail named marks blocks₀ groups₀ from ends at₀ blocks groups at =
+    (at ≤ from) × Looked (listedOf named tail) marks blocks groups × ClearFrom (listedOf named tail) marks ends at
+    × (length blocks ≡ length blocks₀) × (length groups ≡ length groups₀)
 
 abbrev μ-loop : tie.MeasureT-loop
-μ-loop tail marks blocks₀ groups₀ from ends at₀ blocks groups at = at
+μ-loop tail named marks blocks₀ groups₀ from ends at₀ blocks groups at = at
 
 loop-holds : tie.Need-loop-holds Inv-loop μ-loop
 loop-holds c =
@@ -27,7 +27,12 @@ sub-touching : tie.Need-sub-touching Inv-loop μ-loop
 sub-touching c = omega arith
 
 touching-requires : tie.Need-touching-requires Inv-loop μ-loop
-touching-requires c κs = omega arith
+touching-requires c κs =
+    let turn = c .before in
+    let start = turn .before .before .before .before .before in
+    let at = turn .loop .at in
+    let room = room-fewer (start .args .named) (at - 1 + 1) (start .args .from) _ (omega (arith, turn .loop .inv .0)) (start .pre .0 .0) in
+    (room, omega arith)
 
 same-length : tie.Need-same-length Inv-loop μ-loop
 same-length c = c .before .before .before .loop .inv .3
@@ -40,8 +45,9 @@ returns c =
     let call = c .before in
     let turn = call .before .before in
     let entry = turn .before .before .before .before .before .args in
+    let moves = listedOf (entry .named) (entry .tail .now) in
     let inv = turn .loop .inv in (
-      found-at (entry .tail .now) (entry .marks .now) (entry .ends) (entry .from) (turn .loop .at) (inv .0) (inv .2)
+      found-at moves (entry .marks .now) (entry .ends) (entry .from) (turn .loop .at) (inv .0) (inv .2)
           (call .touching .ensures .0 (c .if1 .taken)),
       inv .1,
     )
@@ -70,12 +76,13 @@ loop-again c =
     let call = tested .before in
     let turn = call .before .before in
     let entry = turn .before .before .before .before .before .args in
+    let moves = listedOf (entry .named) (entry .tail .now) in
     let inv = turn .loop .inv in
-    let down = clear-down (entry .tail .now) (entry .marks .now) (entry .ends) (turn .loop .at) (call .before .loop-test .taken)
+    let down = clear-down moves (entry .marks .now) (entry .ends) (turn .loop .at) (call .before .loop-test .taken)
     (λ t. never (call .touching .result) (tested .if1 .left) (call .touching .ensures .1 t)) (inv .2) in
-    let low = went .back .ensures .1 (entry .tail .now) (inv .1) down in (
+    let low = went .back .ensures .1 moves (inv .1) down in (
       omega (arith, inv .0, went .back .ensures .0),
-      looked-after (entry .tail .now) (entry .marks .now) (entry .ends) (went .back .result) (inv .1) low
+      looked-after moves (entry .marks .now) (entry .ends) (went .back .result) (inv .1) low
           (blocked .forget-block .ensures) (grouped .forget-group .ensures),
       low,
       blocked .forget-block .kept .0 ∙ inv .3,
@@ -92,8 +99,9 @@ returns-2 : tie.Need-returns-2 Inv-loop μ-loop
 returns-2 c =
     let turn = c .before in
     let entry = turn .before .before .before .before .before .args in
+    let moves = listedOf (entry .named) (entry .tail .now) in
     let inv = turn .loop .inv in
-    (found-none (entry .tail .now) (entry .marks .now) (entry .ends) (entry .from) (turn .loop .at) (omega arith) (inv .2), inv .1)
+    (found-none moves (entry .marks .now) (entry .ends) (entry .from) (turn .loop .at) (omega arith) (inv .2), inv .1)
 
 pub look-back-spec : {M : Type 1} → statement M
 look-back-spec =

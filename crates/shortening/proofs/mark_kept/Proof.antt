@@ -1,33 +1,36 @@
 -- `shortening::mark_kept` meets its contract. The loop's invariant: the pass has come to the next move. Assumes nothing.
-use Prim.Native.Nat.{_≤_, _-_}
+use Prim.Native.Nat.{_+_, _-_, _≤_}
 use mathlib.Core.Path.{_≡_, refl, _∙_}
 use native.Mathlib.Omega.{arith}
 use lib.ListN.{length}
-use Rattle.shortening.specs.Looking.{Going}
+use Rattle.shortening.specs.Looking.{listedOf, Going}
+use Rattle.shortening.proofs.LookingLaws.{room-fewer}
 use Rattle.shortening.proofs.MarkLaws.{going-first}
 use Rattle.shortening.proofs.mark_kept.Statement.{statement}
 use Rattle.shortening.proofs.mark_kept.Tie as tie
 
 abbrev Inv-loop : tie.InvT-loop
-Inv-loop tail k marks₀ blocks₀ groups₀ bounds₀ lefts₀ enters₀ j₀ marks blocks groups bounds lefts enters j =
-    (j ≤ k) × Going tail j marks blocks groups bounds lefts enters × (length marks ≡ length marks₀) × (length blocks ≡ length blocks₀)
-    × (length groups ≡ length groups₀)
+Inv-loop tail named k marks₀ blocks₀ groups₀ bounds₀ lefts₀ enters₀ j₀ marks blocks groups bounds lefts enters j =
+    (j ≤ k) × Going (listedOf named tail) j marks blocks groups bounds lefts enters × (length marks ≡ length marks₀)
+    × (length blocks ≡ length blocks₀) × (length groups ≡ length groups₀)
 
 abbrev μ-loop : tie.MeasureT-loop
-μ-loop tail k marks₀ blocks₀ groups₀ bounds₀ lefts₀ enters₀ j₀ marks blocks groups bounds lefts enters j = k - j
+μ-loop tail named k marks₀ blocks₀ groups₀ bounds₀ lefts₀ enters₀ j₀ marks blocks groups bounds lefts enters j = k - j
 
 loop-holds : tie.Need-loop-holds Inv-loop μ-loop
 loop-holds c =
     let entry = c .before .before .before .before in
-    (omega arith, going-first (entry .args .tail .now) (entry .args .marks .now) _ _ (entry .pre .1 .1), refl, refl, refl)
+    let moves = listedOf (entry .args .named) (entry .args .tail .now) in
+    (omega arith, going-first moves (entry .args .marks .now) _ _ (entry .pre .1 .1), refl, refl, refl)
 
 take-move-requires : tie.Need-take-move-requires Inv-loop μ-loop
 take-move-requires c κs =
     let turn = c .before .before .before .before .before .before .before in
     let inv = turn .loop .inv in
-    let room = turn .before .before .before .before .before .pre .1 .0 in (
+    let start = turn .before .before .before .before .before in
+    let room = start .pre .1 .0 in (
       (
-        omega arith,
+        room-fewer (start .args .named) (turn .loop .j + 1) (start .args .k) _ (omega arith) (start .pre .0 .1),
         record {
           for-marks = omega (arith, inv .2, room .for-marks);
           for-blocks = omega (arith, inv .3, room .for-blocks);
@@ -48,7 +51,7 @@ loop-again c =
     let took = c .before .before .before .before .before .before in
     let turn = took .before .before .before .before .before .before .before .before in
     let inv = turn .loop .inv in
-    let kept = took .take-move .kept .1 .1 in
+    let kept = took .take-move .kept .1 .1 .1 in
     (omega arith, took .take-move .ensures, kept .0 ∙ inv .2, kept .1 .0 ∙ inv .3, kept .1 .1 .0 ∙ inv .4)
 
 same-length : tie.Need-same-length Inv-loop μ-loop

@@ -3,12 +3,12 @@
 use Prim.Native.Nat.{ℕ}
 use mathlib.Core.Path.{_≡_, ap, sym, _∙_}
 use mathlib.Core.List.{List, [], _∷_}
-use native.Mathlib.Omega.{arith}
 use Rattle.answers.specs.Answer.{accepted}
 use Rattle.answers.proofs.AnswerLaws.{passed-up}
 use Rattle.plan.specs.Plan.{planAnswer}
 use Rattle.plan.specs.Verdict.{answerOf as planAnswerOf}
-use Rattle.shortening.proofs.ShortenerLaws.{shortener-refused, count-below, head-there, tail-fits, shortener-short}
+use Rattle.plan.proofs.Accepted.{count-below, head-there, tail-fits}
+use Rattle.shortening.proofs.ShortenerLaws.{shortener-refused, shortener-short}
 use Rattle.shortening.proofs.ShortenerLaws.{part-head, part-back, part-room, few-kept, shortener-made}
 use borrow.Author.Needs.{needs}
 use Rattle.shortening.proofs.shorten.Statement.{statement}
@@ -62,24 +62,27 @@ returns-2 c =
     let told = c .before in
     shortener-short (order told) (plan told) (lent told) (count told) (read told) (c .if1 .taken)
 
+names-racks-requires : tie.Need-names-racks-requires
+names-racks-requires c κs = let told = c .before in head-there (order told) (plan told) (count told) (read told)
+
 sub-shorten-moves : tie.Need-sub-shorten-moves
-sub-shorten-moves c = let told = c .before in head-there (order told) (plan told) (lent told) (count told) (read told)
+sub-shorten-moves c = let told = c .before .before in head-there (order told) (plan told) (count told) (read told)
 
 part-shorten-moves-start : tie.Need-part-shorten-moves-start
-part-shorten-moves-start c = let told = c .before in head-there (order told) (plan told) (lent told) (count told) (read told)
+part-shorten-moves-start c = let told = c .before .before in head-there (order told) (plan told) (count told) (read told)
 
 part-shorten-moves-end : tie.Need-part-shorten-moves-end
 part-shorten-moves-end c = search needs
 
 sub-shorten-moves-2 : tie.Need-sub-shorten-moves-2
 sub-shorten-moves-2 c =
-    let else = c .before in
+    let else = c .before .before in
     let told = else .before in
     part-head (order told) (plan told) (lent told) (count told) (read told) (else .if1 .left)
 
 part-shorten-moves-start-2 : tie.Need-part-shorten-moves-start-2
 part-shorten-moves-start-2 c =
-    let else = c .before in
+    let else = c .before .before in
     let told = else .before in
     part-head (order told) (plan told) (lent told) (count told) (read told) (else .if1 .left)
 
@@ -88,21 +91,26 @@ part-shorten-moves-end-2 c = search needs
 
 shorten-moves-requires : tie.Need-shorten-moves-requires
 shorten-moves-requires c κs =
-    let else = c .before .before in
-    let told = else .before in (
-      count-below (order told) (plan told) (lent told) (count told) (read told),
-      tail-fits (order told) (plan told) (lent told) (count told) (read told),
-      part-room (order told) (plan told) (lent told) (count told) (read told) (else .if1 .left),
+    let named = c .before .before in
+    let else = named .before in
+    let told = else .before in
+    let edition = named .names-racks in (
+      (
+        count-below (order told) (plan told) (count told) (read told),
+        tail-fits (order told) (plan told) (count told) (read told) (edition .result) (edition .ensures),
+      ),
+      part-room (order told) (plan told) (lent told) (count told) (read told) (else .if1 .left) (edition .result) (edition .ensures),
     )
 
 put-head-requires : tie.Need-put-head-requires
 put-head-requires c κs =
-    let wrote = c .before .before .before in
-    let else = wrote .before .before .before in
+    let wrote = c .before .before .before .before in
+    let named = wrote .before .before .before in
+    let else = named .before in
     let told = else .before in
-    let few = few-kept (order told) (plan told) (lent told) (count told) (read told) (else .if1 .left) (wrote .shorten-moves .result)
-    (wrote .shorten-moves .last .1 .1 .0) (wrote .shorten-moves .ensures) in
-    (part-back (order told) (plan told) (lent told) (count told) (read told) (else .if1 .left) _, omega (arith, few))
+    let few = few-kept (order told) (plan told) (lent told) (count told) (read told) (else .if1 .left) (named .names-racks .result)
+    (named .names-racks .ensures) (wrote .shorten-moves .result) (wrote .shorten-moves .last .1 .1 .1 .0) (wrote .shorten-moves .ensures) in
+    (part-back (order told) (plan told) (lent told) (count told) (read told) (else .if1 .left) _, few, c .spare-bits .ensures .1)
 
 same-length : tie.Need-same-length
 same-length c = search needs
@@ -110,11 +118,14 @@ same-length c = search needs
 returns-3 : tie.Need-returns-3
 returns-3 c =
     let put = c .before .before in
-    let wrote = put .before .before .before .before in
-    let else = wrote .before .before .before in
+    let spare = put .before in
+    let wrote = spare .before .before .before .before in
+    let named = wrote .before .before .before in
+    let else = named .before in
     let told = else .before in
-    shortener-made (order told) (plan told) (lent told) (count told) (read told) (else .if1 .left) (wrote .shorten-moves .result)
-    (wrote .shorten-moves .last .1 .1 .0) (wrote .shorten-moves .ensures) (put .put-head .last .0) (put .put-head .ensures)
+    shortener-made (order told) (plan told) (lent told) (count told) (read told) (else .if1 .left) (named .names-racks .result)
+    (named .names-racks .ensures) (wrote .shorten-moves .result) (wrote .shorten-moves .last .1 .1 .1 .0) (wrote .shorten-moves .ensures)
+    (spare .spare-bits .result) (spare .spare-bits .ensures .0) (put .put-head .last .0) (put .put-head .ensures)
 
 pub shorten-spec : {M : Type 1} → statement M
 shorten-spec =
@@ -126,6 +137,7 @@ shorten-spec =
     passed-up-requires
     returns
     returns-2
+    names-racks-requires
     sub-shorten-moves
     part-shorten-moves-start
     part-shorten-moves-end
@@ -133,6 +145,7 @@ shorten-spec =
     part-shorten-moves-start-2
     part-shorten-moves-end-2
     shorten-moves-requires
+    (λ c κs. search needs)
     put-head-requires
     same-length
     returns-3)

@@ -8,8 +8,8 @@ use mir.Syntax.{w64}
 use mir.Val.{Fits}
 use native.Mathlib.Omega.{arith}
 use lib.ListN.{getD, set}
-use Rattle.shortening.specs.Looking.{ClearFrom, Marks, Unmarks, TakesIn, linkOf, Going}
-use Rattle.shortening.proofs.LookingLaws.{never, move-is}
+use Rattle.shortening.specs.Looking.{listedOf, ClearFrom, Marks, Unmarks, TakesIn, linkOf, Going}
+use Rattle.shortening.proofs.LookingLaws.{never, move-is, room-fewer, few-moves}
 use Rattle.shortening.proofs.MarkLaws.{Ends, ends-are, from-clear, from-low, room-less, going-off, going-on}
 use borrow.Author.Needs.{needs}
 use Rattle.shortening.proofs.take_move.Statement.{statement}
@@ -26,25 +26,29 @@ at-with c = c .before .before .before .before .before .before
 abbrev start : tie.After-with → tie.Start
 start c = let read = c .before .before in read .before .before .before .before .before
 
+-- the moves of the plan's tail
+abbrev moves : tie.Start → ℕ → ℕ × ℕ × ℕ
+moves c = listedOf (c .args .named) (c .args .tail .now)
+
 -- what is known there
 
 both-ends : (c : tie.After-with)
-    → Ends (c .before .before .pair-at .result .first) (c .before .before .pair-at .result .second) (c .with .result)
+    → Ends (c .before .before .move-at .result .first) (c .before .before .move-at .result .second) (c .with .result)
 both-ends c = ends-are _ _ (c .before .only .result) _ (c .before .only .ensures) (c .with .ensures)
 
 begins-low : (c : tie.After-later) → c .later .result ≤ start (at-with c) .args .j
 begins-low c =
     let at = at-with c in
     let entry = start at in
-    from-low _ _ _ (both-ends at) (entry .args .tail .now) (entry .args .j) _ _ _ _ _ _ (entry .pre .1) (c .later .result)
+    from-low _ _ _ (both-ends at) (moves entry) (entry .args .j) _ _ _ _ _ _ (entry .pre .1) (c .later .result)
     (c .later .ensures)
 
 begins-clear : (c : tie.After-later)
-    → ClearFrom (start (at-with c) .args .tail .now) (start (at-with c) .args .marks .now) (at-with c .with .result) (c .later .result)
+    → ClearFrom (moves (start (at-with c))) (start (at-with c) .args .marks .now) (at-with c .with .result) (c .later .result)
 begins-clear c =
     let at = at-with c in
     let entry = start at in
-    from-clear _ _ _ (both-ends at) (entry .args .tail .now) (entry .args .j) _ _ _ _ _ _ (entry .pre .1) (c .later .result)
+    from-clear _ _ _ (both-ends at) (moves entry) (entry .args .j) _ _ _ _ _ _ (entry .pre .1) (c .later .result)
     (c .later .ensures)
 
 module _ (c : tie.After-undone) where
@@ -58,10 +62,10 @@ module _ (c : tie.After-undone) where
   entry = start at
 
   abbrev a : ℕ
-  a = at .before .before .pair-at .result .first
+  a = at .before .before .move-at .result .first
 
   abbrev b : ℕ
-  b = at .before .before .pair-at .result .second
+  b = at .before .before .move-at .result .second
 
   abbrev found : ℕ
   found = back .look-back .result
@@ -70,38 +74,38 @@ module _ (c : tie.After-undone) where
       → x ≡ linkOf (entry .args .enters .now) (entry .args .j) (found - 1)
       → y ≡ linkOf (entry .args .lefts .now) (entry .args .j) (found - 1)
       → (l : List ℕ) → l ≡ set (set (entry .args .bounds .now) a x) b y
-      → Going (entry .args .tail .now) (entry .args .j + 1) marks′ (back .look-back .last .1 .1 .0) (back .look-back .last .1 .1 .1 .0) l
+      → Going (moves entry) (entry .args .j + 1) marks′ (back .look-back .last .1 .1 .1 .0) (back .look-back .last .1 .1 .1 .1 .0) l
       (entry .args .lefts .now) (entry .args .enters .now)
   goes-off t marks′ less x y x-is y-is l l-is =
-      let pair = at .before .before .pair-at .ensures in
+      let pair = at .before .before .move-at .ensures in
       let undone = c .undone .ensures .0 t in
       rw (l-is, x-is, y-is)
-      (going-off a b _ (both-ends at) (entry .args .tail .now) (entry .args .j) (entry .args .marks .now) (entry .args .blocks .now)
+      (going-off a b _ (both-ends at) (moves entry) (entry .args .j) (entry .args .marks .now) (entry .args .blocks .now)
       (entry .args .groups .now) (entry .args .bounds .now) (entry .args .lefts .now) (entry .args .enters .now) (entry .pre .1)
-      (move-is _ _ _ _ pair) (back .before .later .result) found (begins-low (back .before)) (back .look-back .ensures .0)
+      (move-is _ _ _ _ _ pair) (back .before .later .result) found (begins-low (back .before)) (back .look-back .ensures .0)
       (pair .first-below, pair .second-below) _ _ (back .look-back .ensures .1) (undone .0) (undone .1) marks′ less)
 
   goes-on : c .undone .result ≡ false → (marks′ blocks′ groups′ : List ℕ) → Marks (entry .args .marks .now) (entry .args .j) marks′
-      → TakesIn (back .look-back .last .1 .1 .0) (entry .args .j / 256) a b blocks′
-      → TakesIn (back .look-back .last .1 .1 .1 .0) (entry .args .j / 16384) a b groups′ → (x y : ℕ)
+      → TakesIn (back .look-back .last .1 .1 .1 .0) (entry .args .j / 256) a b blocks′
+      → TakesIn (back .look-back .last .1 .1 .1 .1 .0) (entry .args .j / 16384) a b groups′ → (x y : ℕ)
       → x ≡ min (getD (entry .args .bounds .now) a 0) found → y ≡ min (getD (entry .args .bounds .now) b 0) found → (l m n : List ℕ)
       → l ≡ set (set (entry .args .bounds .now) a (entry .args .j + 1)) b (entry .args .j + 1)
       → m ≡ set (entry .args .lefts .now) (entry .args .j % 512) x → n ≡ set (entry .args .enters .now) (entry .args .j % 512) y
-      → Going (entry .args .tail .now) (entry .args .j + 1) marks′ blocks′ groups′ l m n
+      → Going (moves entry) (entry .args .j + 1) marks′ blocks′ groups′ l m n
   goes-on t marks′ blocks′ groups′ more in-blocks in-groups x y x-is y-is l m n l-is m-is n-is =
-      let pair = at .before .before .pair-at .ensures in
+      let pair = at .before .before .move-at .ensures in
       rw (l-is, m-is, n-is, x-is, y-is)
-      (going-on a b _ (both-ends at) (entry .args .tail .now) (entry .args .j) (entry .args .marks .now) (entry .args .blocks .now)
+      (going-on a b _ (both-ends at) (moves entry) (entry .args .j) (entry .args .marks .now) (entry .args .blocks .now)
       (entry .args .groups .now) (entry .args .bounds .now) (entry .args .lefts .now) (entry .args .enters .now) (entry .pre .1)
-      (move-is _ _ _ _ pair) (back .before .later .result) found (begins-low (back .before)) (back .look-back .ensures .0)
+      (move-is _ _ _ _ _ pair) (back .before .later .result) found (begins-low (back .before)) (back .look-back .ensures .0)
       (pair .first-below, pair .second-below) _ _ (back .look-back .ensures .1) (λ q. never _ t (c .undone .ensures .1 q)) marks′ blocks′
       groups′ more in-blocks in-groups)
 
   positions-below : (a < 64) × (b < 64)
-  positions-below = let pair = at .before .before .pair-at .ensures in (pair .first-below, pair .second-below)
+  positions-below = let pair = at .before .before .move-at .ensures in (pair .first-below, pair .second-below)
 
   next-fits : Fits w64 (entry .args .j + 1)
-  next-fits = omega (arith, entry .pre .0 .0, entry .good)
+  next-fits = omega (arith, few-moves (entry .args .named) (entry .args .j + 1) _ (entry .pre .0 .0), entry .good)
 
   -- the move that is taken off comes before
   before-it : c .undone .result ≡ true → found - 1 < entry .args .j
@@ -119,13 +123,20 @@ look-back-requires : tie.Need-look-back-requires
 look-back-requires c κs =
     let entry = start (at-with c) in
     let low = begins-low c in
-    let less : c .later .result ≤ entry .args .j + 1 = omega (arith, low) in
-    ((omega (arith, low, entry .pre .0 .0), room-less less (entry .pre .0 .1)), (entry .pre .1 .looked, begins-clear c))
+    let less : c .later .result ≤ entry .args .j + 1 = omega (arith, low) in (
+      (
+        room-fewer (entry .args .named) (c .later .result) (entry .args .j + 1) _ less (entry .pre .0 .0),
+        room-less less (entry .pre .0 .1),
+      ),
+      (entry .pre .1 .looked, begins-clear c),
+    )
 
 undone-requires : tie.Need-undone-requires
 undone-requires c κs =
     let back = c .before .before .before .before in
-    omega (arith, begins-low (back .before), back .look-back .ensures .0 .below, start (at-with (back .before)) .pre .0 .0)
+    let entry = start (at-with (back .before)) in
+    room-fewer (entry .args .named) (back .look-back .result) (entry .args .j + 1) _
+    (omega (arith, begins-low (back .before), back .look-back .ensures .0 .below)) (entry .pre .0 .0)
 
 sub-gone : tie.Need-sub-gone
 sub-gone c = c .before .undone .ensures .0 (c .if1 .taken) .0
@@ -162,13 +173,13 @@ take-in-requires : tie.Need-take-in-requires
 take-in-requires c κs =
     let at = c .before .before .before .before .before .before in
     let below = positions-below at in
-    (omega (arith, looked-back at .look-back .kept .1 .1 .0, entry at .pre .0 .1 .for-blocks), below .0, below .1)
+    (omega (arith, looked-back at .look-back .kept .1 .1 .1 .0, entry at .pre .0 .1 .for-blocks), below .0, below .1)
 
 take-in-requires-2 : tie.Need-take-in-requires-2
 take-in-requires-2 c κs =
     let at = c .before .before .before .before .before .before .before .before .before .before in
     let below = positions-below at in
-    (omega (arith, looked-back at .look-back .kept .1 .1 .1 .0, entry at .pre .0 .1 .for-groups), below .0, below .1)
+    (omega (arith, looked-back at .look-back .kept .1 .1 .1 .1 .0, entry at .pre .0 .1 .for-groups), below .0, below .1)
 
 add-set-two : tie.Need-add-set-two
 add-set-two c = next-fits (kept-at c)

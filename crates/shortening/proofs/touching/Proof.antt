@@ -1,5 +1,6 @@
 -- `shortening::touching` meets its contract. Assumes nothing.
-use Rattle.shortening.proofs.LookingLaws.{touching-not, touching-first, touching-second}
+use Rattle.shortening.specs.Looking.{listedOf}
+use Rattle.shortening.proofs.LookingLaws.{move-is, touching-not, touching-first, touching-second}
 use borrow.Author.Needs.{needs}
 use Rattle.shortening.proofs.touching.Statement.{statement}
 use Rattle.shortening.proofs.touching.Tie as tie
@@ -17,10 +18,11 @@ returns : tie.Need-returns
 returns c =
     let call = c .before in
     let entry = call .before .before .before .before .args in
-    touching-not (entry .tail .now) (entry .marks .now) (entry .ends) (entry .i) (call .has .result) (call .has .ensures) (c .if1 .taken)
+    let moves = listedOf (entry .named) (entry .tail .now) in
+    touching-not moves (entry .marks .now) (entry .ends) (entry .i) (call .has .result) (call .has .ensures) (c .if1 .taken)
 
-pair-at-requires : tie.Need-pair-at-requires
-pair-at-requires c κs = search needs
+move-at-requires : tie.Need-move-at-requires
+move-at-requires c κs = search needs
 
 has-requires-2 : tie.Need-has-requires-2
 has-requires-2 c κs = search needs
@@ -31,8 +33,9 @@ returns-2 c =
     let tested = read .before in
     let call = tested .before in
     let entry = call .before .before .before .before .args in
-    touching-first (entry .tail .now) (entry .marks .now) (entry .ends) (entry .i) (call .has .result) (call .has .ensures)
-    (tested .if1 .left) (read .pair-at .result .first) (read .pair-at .result .second) (read .pair-at .ensures)
+    let moves = listedOf (entry .named) (entry .tail .now) in
+    touching-first moves (entry .marks .now) (entry .ends) (entry .i) (call .has .result) (call .has .ensures)
+    (tested .if1 .left) (read .move-at .result .first) (read .move-at .result .second) (move-is _ _ _ _ _ (read .move-at .ensures))
     (c .before .has2 .ensures .0 (c .if2 .taken))
 
 has-requires-3 : tie.Need-has-requires-3
@@ -45,9 +48,10 @@ returns-3 c =
     let tested = read .before in
     let call = tested .before in
     let entry = call .before .before .before .before .args in
-    touching-second (entry .tail .now) (entry .marks .now) (entry .ends) (entry .i) (call .has .result) (call .has .ensures)
-    (tested .if1 .left) (read .pair-at .result .first) (read .pair-at .result .second) (read .pair-at .ensures) (second .has2 .result)
-    (c .has3 .result) (second .has2 .ensures) (c .before .if2 .left) (c .has3 .ensures)
+    let moves = listedOf (entry .named) (entry .tail .now) in
+    touching-second moves (entry .marks .now) (entry .ends) (entry .i) (call .has .result) (call .has .ensures)
+    (tested .if1 .left) (read .move-at .result .first) (read .move-at .result .second) (move-is _ _ _ _ _ (read .move-at .ensures))
+    (second .has2 .result) (c .has3 .result) (second .has2 .ensures) (c .before .if2 .left) (c .has3 .ensures)
 
 pub touching-spec : {M : Type 1} → statement M
 touching-spec =
@@ -57,7 +61,7 @@ touching-spec =
     shared-slice-read-has
     has-requires
     returns
-    pair-at-requires
+    move-at-requires
     has-requires-2
     returns-2
     has-requires-3

@@ -1,5 +1,8 @@
 -- `shortening::undone` meets its contract. Assumes nothing.
-use Rattle.shortening.proofs.LookingLaws.{undone-first, undone-other, undone-is}
+use Prim.Native.Nat.{_+_, _-_}
+use native.Mathlib.Omega.{arith}
+use Rattle.shortening.specs.Looking.{listedOf}
+use Rattle.shortening.proofs.LookingLaws.{move-is, room-fewer, undone-first, undone-other, undone-is}
 use borrow.Author.Needs.{needs}
 use Rattle.shortening.proofs.undone.Statement.{statement}
 use Rattle.shortening.proofs.undone.Tie as tie
@@ -7,27 +10,33 @@ use Rattle.shortening.proofs.undone.Tie as tie
 returns : tie.Need-returns
 returns c =
     let entry = c .before .before .args in
-    undone-first (entry .tail .now) (entry .at) (entry .a) (entry .b) (c .if1 .taken)
+    let moves = listedOf (entry .named) (entry .tail .now) in
+    undone-first moves (entry .at) (entry .a) (entry .b) (c .if1 .taken)
 
-sub-pair-at : tie.Need-sub-pair-at
-sub-pair-at c = search needs
+sub-move-at : tie.Need-sub-move-at
+sub-move-at c = search needs
 
-pair-at-requires : tie.Need-pair-at-requires
-pair-at-requires c κs = search needs
+move-at-requires : tie.Need-move-at-requires
+move-at-requires c κs =
+    let start = c .before .before in
+    let entry = start .args in
+    room-fewer (entry .named) (entry .at - 1 + 1) (entry .at) _ (omega (arith, c .if1 .left)) (start .pre)
 
 returns-2 : tie.Need-returns-2
 returns-2 c =
     let read = c .before .before in
     let entry = read .before .before .before .args in
-    undone-other (entry .tail .now) (entry .at) (entry .a) (entry .b) (read .before .if1 .left) (read .pair-at .result .first)
-    (read .pair-at .result .second) (read .pair-at .ensures) (c .if2 .taken)
+    let moves = listedOf (entry .named) (entry .tail .now) in
+    undone-other moves (entry .at) (entry .a) (entry .b) (read .before .if1 .left) (read .move-at .result .first)
+    (read .move-at .result .second) (move-is _ _ _ _ _ (read .move-at .ensures)) (c .if2 .taken)
 
 returns-3 : tie.Need-returns-3
 returns-3 c =
     let read = c .before .before .before in
     let entry = read .before .before .before .args in
-    undone-is (entry .tail .now) (entry .at) (entry .a) (entry .b) (read .before .if1 .left) (read .pair-at .result .first)
-    (read .pair-at .result .second) (read .pair-at .ensures) (c .before .if2 .left)
+    let moves = listedOf (entry .named) (entry .tail .now) in
+    undone-is moves (entry .at) (entry .a) (entry .b) (read .before .if1 .left) (read .move-at .result .first)
+    (read .move-at .result .second) (move-is _ _ _ _ _ (read .move-at .ensures)) (c .before .if2 .left)
 
 pub undone-spec : {M : Type 1} → statement M
-undone-spec = tie.close (tie.spec returns sub-pair-at pair-at-requires returns-2 returns-3)
+undone-spec = tie.close (tie.spec returns sub-move-at move-at-requires returns-2 returns-3)

@@ -1,7 +1,8 @@
 -- `shortening::write_one` meets its contract. Assumes nothing.
+use Prim.Native.Nat.{_+_}
 use native.Mathlib.Omega.{arith}
 use borrow.Author.Tests.{not-true, not-false}
-use Rattle.shortening.proofs.LookingLaws.{never, move-is}
+use Rattle.shortening.proofs.LookingLaws.{never, listed-is, rack-fits, bytes-fewer}
 use Rattle.shortening.proofs.WritingLaws.{write-skipped, write-kept}
 use borrow.Author.Needs.{needs}
 use Rattle.shortening.proofs.write_one.Statement.{statement}
@@ -20,14 +21,20 @@ returns : tie.Need-returns
 returns c =
     let call = c .before in
     let entry = call .before .before .before .before .before .args in
-    λ B same p. write-skipped (entry .tail .now) (entry .marks .now) (entry .i) B (entry .count) (entry .room .now) p
+    λ B same p. write-skipped (entry .named) (entry .tail .now) (entry .marks .now) (entry .i) B (entry .count) (entry .room .now) p
     (λ k. never (call .has .result) (not-true _ (c .if1 .taken)) (call .has .ensures .1 k))
 
-pair-at-requires : tie.Need-pair-at-requires
-pair-at-requires c κs = search needs
+listed-at-requires : tie.Need-listed-at-requires
+listed-at-requires c κs = search needs
 
-put-pair-requires : tie.Need-put-pair-requires
-put-pair-requires c κs = search needs
+put-listed-requires : tie.Need-put-listed-requires
+put-listed-requires c κs =
+    let read = c .before .listed-at .ensures in
+    let start = c .before .before .before .before .before .before .before .before in
+    let entry = start .args in (
+      (read .left-below, read .entered-below, rack-fits _ _ _ _ _ _ read),
+      bytes-fewer (entry .named) (entry .count + 1) (entry .i + 1) _ (omega (arith, start .pre .1 .0)) (start .pre .1 .1),
+    )
 
 add-result : tie.Need-add-result
 add-result c = search needs
@@ -43,11 +50,11 @@ returns-2 c =
     let call = tested .before in
     let start = call .before .before .before .before .before in
     let entry = start .args in
-    let pair = read .pair-at in
-    λ B same p. write-kept (entry .tail .now) (entry .marks .now) (entry .i) B (entry .count) (entry .room .now) p
-    (call .has .ensures .0 (not-false _ (tested .if1 .left))) (pair .result .first) (pair .result .second)
-    (move-is (entry .tail .now) (entry .i) (pair .result .first) (pair .result .second) (pair .ensures))
-    (omega (arith, same, start .pre)) (put .put-pair .last .0) (put .put-pair .ensures)
+    let is = listed-is (entry .named) (entry .tail .now) (entry .i) _ _ _ (read .listed-at .ensures) in
+    λ B same p. write-kept (entry .named) (entry .tail .now) (entry .marks .now) (entry .i) B (entry .count) (entry .room .now) p
+    (call .has .ensures .0 (not-false _ (tested .if1 .left))) _ is
+    (bytes-fewer (entry .named) (entry .count + 1) (entry .i + 1) _ (omega (arith, start .pre .1 .0)) (rw same at (start .pre .1 .1)))
+    (put .put-listed .last .0) (put .put-listed .ensures)
 
 pub write-one-spec : {M : Type 1} → statement M
 write-one-spec =
@@ -57,8 +64,8 @@ write-one-spec =
     shared-slice-read-has
     has-requires
     returns
-    pair-at-requires
-    put-pair-requires
+    listed-at-requires
+    put-listed-requires
     add-result
     same-length
     returns-2)

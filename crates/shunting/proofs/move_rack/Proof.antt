@@ -1,8 +1,12 @@
 -- `shunting::move_rack` meets its contract.
 -- Assumes nothing.
-use mathlib.Core.Path.{refl}
+use Prim.Native.Nat.{ℕ, zero, suc, _+_, _≤_}
+use mathlib.Core.Path.{refl, sym, ap, _∙_}
+use mathlib.Core.Logic.{_≢_}
 use native.Mathlib.Omega.{arith}
 use borrow.Author.Needs.{needs}
+use Rattle.shunting.specs.Journey.{putMove}
+use Rattle.shunting.proofs.JourneyLaws.{move-bytes}
 use Rattle.shunting.proofs.move_rack.Statement.{statement}
 use Rattle.shunting.proofs.move_rack.Tie as tie
 
@@ -24,8 +28,23 @@ returns c =
     let t = c .if1 .taken in
     record { table = refl; reals = refl; real = λ l. absurd (omega arith); stand-in = λ l. (refl, refl) }
 
-put-pair-requires : tie.Need-put-pair-requires
-put-pair-requires c κs = search needs
+put-listed-requires : tie.Need-put-listed-requires
+put-listed-requires c κs =
+    let branch = c .before in
+    let after-wide = branch .before in
+    let entry = after-wide .before .before .before in
+    let asked = entry .pre .0 in
+    let space = entry .pre .1 in
+    let w = after-wide .wide .ensures .0 in
+    let low = branch .if1 .left in
+    let few = space .few-racks in
+    let room = space .room in
+    let bytes = move-bytes (entry .args .written + 1) in
+    ((asked .0, asked .1, λ e. (rack-some (after-wide .wide .result) (λ z. asked .2 (sym w ∙ z)), omega arith)), omega arith)
+  where
+    rack-some : (r : ℕ) → r ≢ 0 → 1 ≤ r
+    rack-some zero n = absurd (n refl)
+    rack-some (suc r) n = omega arith
 
 add-result : tie.Need-add-result
 add-result c = search needs
@@ -37,12 +56,15 @@ returns-2 : tie.Need-returns-2
 returns-2 c =
     let put = c .before .before in
     let branch = put .before .before in
-    let w = branch .before .wide .ensures .0 in
+    let after-wide = branch .before in
+    let args = after-wide .before .before .before .args in
+    let w = after-wide .wide .ensures .0 in
     let t = branch .if1 .left in
+    let named = ap (λ (r : ℕ). putMove (args .tail .now) (args .written) (args .a, args .b, r)) w in
     record {
       table = refl;
       reals = refl;
-      real = λ l. (put .put-pair .ensures, refl);
+      real = λ l. (put .put-listed .ensures ∙ named, refl);
       stand-in = λ l. absurd (omega arith);
     }
 
@@ -55,7 +77,7 @@ move-rack-spec =
     element-write-racks-2
     wide-requires
     returns
-    put-pair-requires
+    put-listed-requires
     add-result
     same-length
     returns-2)

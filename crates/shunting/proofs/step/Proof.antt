@@ -26,7 +26,7 @@ move-rack-requires c κs =
     let entry = c .before .before .before in
     let can = entry .pre .0 in
     let fits = entry .pre .1 in
-    ((can .leaves, can .enters), record { racks = fits .racks; room = fits .room })
+    ((can .leaves, can .enters, can .held), record { racks = fits .racks; few-racks = fits .few-racks; room = fits .room })
 
 add-t10 : tie.Need-add-t10
 add-t10 c = search needs

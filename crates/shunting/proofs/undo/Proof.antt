@@ -53,7 +53,7 @@ move-rack-requires c κs =
     let a = after-first-of .first-of .ensures in
     let b = after-second-of .second-of .ensures in
     let space = space-relogged 0 (entry .pre .1 .1) in
-    ((omega arith, omega arith), taking-space (turn .loop .inv) (omega arith) (entry .pre .1 .0) space)
+    ((omega arith, omega arith, λ z. omega arith), taking-space (turn .loop .inv) (omega arith) (entry .pre .1 .0) space)
 
 loop-less : tie.Need-loop-less Inv-loop μ-loop
 loop-less c = omega arith

@@ -1,0 +1,71 @@
+-- `controller::wichteab_plan_convert` meets its contract: the verdict's answer, packed, and the buffer as the
+-- converter leaves it. Assumes nothing.
+use mathlib.Core.Path.{ap, sym, _∙_}
+use native.Mathlib.Omega.{arith}
+use lib.ListN.{length}
+use Rattle.converting.specs.Converter.{answerOf}
+use Rattle.converting.proofs.Converting.{moves-small}
+use Rattle.controller.specs.Packed.{packed, oneCount}
+use Rattle.controller.proofs.AnswerSizes.{converter-sized}
+use Rattle.controller.proofs.PackedLaws.{tells, plan-moves-pack}
+use borrow.Author.Needs.{needs}
+use Rattle.controller.proofs.wichteab_plan_convert.Statement.{statement}
+use Rattle.controller.proofs.wichteab_plan_convert.Tie as tie
+
+convert-requires : tie.Need-convert-requires
+convert-requires c κs = search needs
+
+enum-known-moves : tie.Need-enum-known-moves
+enum-known-moves c = search needs
+
+mul-result : tie.Need-mul-result
+mul-result c =
+    let match = c .before .before in let call = match .before .before .before in
+    let shared-slice-known2 = call .before .before .before in let entry = shared-slice-known2 .before .before in
+    omega (
+      arith,
+      moves-small (entry .args .order .now) (entry .args .plan .now) (length (entry .args .buffer .now)) (c .before .moves .given .0 .0)
+          (ap answerOf (sym (c .before .moves .given .1)) ∙ call .convert .ensures .0),
+    )
+
+enum-known-fault : tie.Need-enum-known-fault
+enum-known-fault c = search needs
+
+refusal-requires : tie.Need-refusal-requires
+refusal-requires c κs = search needs
+
+same-length : tie.Need-same-length
+same-length c = search needs
+
+returns : tie.Need-returns
+returns c =
+    let match = c .before .before in let call = match .before .before .before in
+    let done = call .convert .ensures in
+    let told = ap answerOf (sym (c .before .moves .given .1)) ∙ done .0 in
+    (tells plan-moves-pack (converter-sized _ _ _) (ap (packed oneCount) told), done .1)
+
+same-length-2 : tie.Need-same-length-2
+same-length-2 c = search needs
+
+returns-2 : tie.Need-returns-2
+returns-2 c =
+    let fault = c .before .before in let buffer = fault .before .before .before in let call = buffer .before in
+    let done = call .convert .ensures in (
+      tells plan-moves-pack (converter-sized _ _ _)
+          (c .refusal .ensures ∙ ap (packed oneCount) (ap answerOf (sym (fault .fault .given .1)) ∙ done .0)),
+      done .1,
+    )
+
+pub wichteab-plan-convert-spec : {M : Type 1} → statement M
+wichteab-plan-convert-spec =
+    tie.close
+    (tie.spec
+    convert-requires
+    enum-known-moves
+    mul-result
+    enum-known-fault
+    refusal-requires
+    same-length
+    returns
+    same-length-2
+    returns-2)

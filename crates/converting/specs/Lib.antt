@@ -1,0 +1,3 @@
+pub mod Converter
+pub mod Theorems
+pub mod Listing
