@@ -1,6 +1,6 @@
 -- Records of positions, the shape that an order and a plan share (document 01, "Records"): a head of three bytes that ends in two spare
--- bits, zero in an order, while a plan's tell its edition; positions of 6 bits, and the pad. The position is the unit: an edge and a move are two each, and a move that names its rack is
--- three.
+-- bits, zero in an order, while a plan's tell its edition; positions of 6 bits, and the pad. The position is the unit: an edge and a move
+-- are two each, and a move that names its rack is three.
 --
 --     recordLength q     the length in bytes of a record of q positions
 --     misfits s q        s is under 3 bytes, or its length is not that of a record of q positions
