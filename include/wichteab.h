@@ -53,10 +53,13 @@ extern "C" {
  * and asks for a longer buffer, which wichteab_plan_buffer_length gives; wichteab_plan_length takes the
  * edition. The moves of a plan are read by wichteab_plan_move, in either edition. Plans of edition one are read
  * as before, and wichteab_plan_convert writes a plan of edition two as one of edition one.
+ *
+ * Since version 2.1 a train has at most WICHTEAB_TRAIN_LONGEST moves. A timetable stored earlier with a longer one
+ * is refused with 42; wichteab_timetable_make makes a new one of its plan.
  */
-#define WICHTEAB_VERSION "2.0.0"
+#define WICHTEAB_VERSION "2.1.0"
 #define WICHTEAB_VERSION_MAJOR 2
-#define WICHTEAB_VERSION_MINOR 0
+#define WICHTEAB_VERSION_MINOR 1
 #define WICHTEAB_VERSION_PATCH 0
 
 /*
@@ -94,6 +97,9 @@ extern "C" {
 
 /* The length of the longest order that there can be, in bytes. */
 #define WICHTEAB_ORDER_LONGEST 576
+
+/* How many moves a train may have, from its last rack to its leader. */
+#define WICHTEAB_TRAIN_LONGEST 8
 
 /*
  * Answers
@@ -251,8 +257,9 @@ uint64_t wichteab_plan_convert(const uint8_t *order, size_t order_length, const 
  * Takes an order, on a floor of any shape, and a timetable; both are only read. A step is legal if its moves
  * ascend strictly by position left; both positions of each are below n and joined by an edge; each position
  * left holds a rack; no position is entered twice; and each move belongs to a train with a leader: followed
- * from rack to rack, its chain ends at a move into a position that was vacant before the step. Accepted:
- * every step is legal at its turn, after the last one every rack stands at its goal, and
+ * from rack to rack, its chain ends at a move into a position that was vacant before the step, and has at most
+ * WICHTEAB_TRAIN_LONGEST moves from the mover to the leader, both counted. A step may have several trains.
+ * Accepted: every step is legal at its turn, after the last one every rack stands at its goal, and
  * wichteab_timetable_steps and wichteab_timetable_moves give the counts. Refused: 10 to 14 and 40 to 43; the
  * place of 42 is the step, that of 43 the rack.
  */
@@ -265,11 +272,12 @@ uint64_t wichteab_timetable_check(const uint8_t *order, size_t order_length, con
  * Takes an order and a plan of either edition, which are only read, and a buffer of at least 3 bytes more than
  * three for each move of the plan (see wichteab_timetable_buffer_length), whatever it holds. The moves are taken
  * in plan order. A move's step is the greater of one more than the step of the same rack's previous move, and
- * the step of the latest earlier move that left the position now entered; with neither, it is 1. Accepted:
- * wichteab_timetable_steps gives the greatest step, or 0 with no moves; the timetable is at the front of the
- * buffer, as long as wichteab_timetable_length says, and wichteab_timetable_check accepts it with these
- * steps and the plan's moves. Both editions of a plan give one timetable. Refused: as wichteab_plan_check, and
- * then 44, place 0; the buffer is as it was.
+ * the step of the latest earlier move that left the position now entered; with neither, it is 1. A move that
+ * would be ninth in its train goes one step later, where it leads. Accepted: wichteab_timetable_steps gives the
+ * greatest step, or 0 with no moves; the timetable is at the front of the buffer, as long as
+ * wichteab_timetable_length says, and wichteab_timetable_check accepts it with these steps and the plan's moves.
+ * Both editions of a plan give one timetable. Refused: as wichteab_plan_check, and then 44, place 0; the buffer
+ * is as it was.
  */
 uint64_t wichteab_timetable_make(const uint8_t *order, size_t order_length, const uint8_t *plan,
                                  size_t plan_length, uint8_t *buffer, size_t buffer_length);
@@ -422,7 +430,8 @@ static inline const char *wichteab_reason(uint32_t number)
         return "A spare or pad bit of the timetable is set; all of them have to be 0.";
     case WICHTEAB_TIMETABLE_STEP:
         return "This step of the timetable is not legal: its moves do not ascend, do not follow edges, leave a "
-               "vacant position, meet in one position, or follow each other with no leader into a vacant one.";
+               "vacant position, meet in one position, follow each other with no leader into a vacant one, or "
+               "make a train of more than 8.";
     case WICHTEAB_TIMETABLE_GOAL:
         return "This rack is not at its goal after the timetable.";
     case WICHTEAB_TIMETABLE_BUFFER:

@@ -6,12 +6,11 @@
 --     legal-nothing      the step of no moves is legal, and changes nothing
 --     legal-move         a move of a legal step leaves a position other than the one that it enters
 -- Assumes nothing.
-use Prim.Native.Nat.{ℕ}
+use Prim.Native.Nat.{ℕ, _-_}
 use mathlib.Core.Path.{_≡_, refl, ap}
 use mathlib.Core.Bool.{Bool, true, false, _&&_}
 use mathlib.Core.Logic.{_↔_, _≢_}
 use mathlib.Core.List.{List, [], _∷_, List·Memᴰ, List·Memᴰ·not-nil, Pairwise·nil}
-use lib.ListN.{length}
 use lib.Dec.{T}
 use mir.Facts.{and-yes, yes-and}
 use Rattle.order.specs.Floor.{Floor}
@@ -20,8 +19,8 @@ use Rattle.motion.specs.Move.{onFloor, goesTo, after}
 use Rattle.motion.specs.Step.{every, ascends, enteredOnce, led, legalStep}
 use Rattle.motion.specs.StepTests.{Ascends}
 use Rattle.motion.proofs.StepTestsLaws.{ascends-iff, every-iff, onFloor-iff, occupied-iff, enteredOnce-iff}
-use Rattle.motion.proofs.Trains.{led-iff, train-moves}
-use Rattle.motion.specs.LegalStep.{LegalStep}
+use Rattle.motion.proofs.Trains.{led-at-most, train-moves}
+use Rattle.motion.specs.LegalStep.{longestTrain, LegalStep}
 
 -- five tests, all passed
 all-five : (a b c d e : Bool) → T (a && b && c && d && e) ↔ (T a × T b × T c × T d × T e)
@@ -40,7 +39,7 @@ module _ (F : Floor) (A : Arrangement) (ms : List (ℕ × ℕ)) where
   unfolding legalStep
   legalStep-iff =
       let hold : ℕ × ℕ → Bool = λ m. occupied A (m .0) in
-      let lead : ℕ × ℕ → Bool = λ m. led (length ms) ms A (m .1) in
+      let lead : ℕ × ℕ → Bool = λ m. led (longestTrain - 1) ms A (m .1) in
       let five = all-five (ascends ms) (every (onFloor F) ms) (every hold ms) (enteredOnce ms) (every lead ms) in (
         λ t.
             let f = five .0 t in
@@ -50,7 +49,7 @@ module _ (F : Floor) (A : Arrangement) (ms : List (ℕ × ℕ)) where
               joins = λ m k. onFloor-iff F m .0 (every-iff (onFloor F) ms .0 (f .1) m k);
               held = λ m k. occupied-iff A (m .0) .0 (every-iff hold ms .0 (f .2) m k);
               once = enteredOnce-iff ms .0 (f .3);
-              trains = λ m k. led-iff A ms up k .0 (every-iff lead ms .0 (f .4) m k);
+              trains = λ m k. led-at-most A ms up (longestTrain - 1) k .0 (every-iff lead ms .0 (f .4) m k);
             },
         λ s.
             five .1 (
@@ -58,7 +57,7 @@ module _ (F : Floor) (A : Arrangement) (ms : List (ℕ × ℕ)) where
               every-iff (onFloor F) ms .1 (λ m k. onFloor-iff F m .1 (s .joins m k)),
               every-iff hold ms .1 (λ m k. occupied-iff A (m .0) .1 (s .held m k)),
               enteredOnce-iff ms .1 (s .once),
-              every-iff lead ms .1 (λ m k. led-iff A ms (s .ascending) k .1 (s .trains m k)),
+              every-iff lead ms .1 (λ m k. led-at-most A ms (s .ascending) (longestTrain - 1) k .1 (s .trains m k)),
             ),
       )
 
@@ -70,7 +69,7 @@ module _ (F : Floor) (A : Arrangement) (ms : List (ℕ × ℕ)) where
       is-true false t = absurd t
 
   pub legal-move : LegalStep F A ms → {m : ℕ × ℕ} → List·Memᴰ m ms → m .0 ≢ m .1
-  legal-move s {m} k = train-moves A ms (s .ascending) (s .held) (s .trains m k .1)
+  legal-move s {m} k = train-moves A ms (s .ascending) (s .held) (s .trains m k .2)
 
 pub after-nothing : (A : Arrangement) → after A [] ≡ A
 unfolding after goesTo

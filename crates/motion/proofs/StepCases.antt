@@ -17,11 +17,18 @@
 --     case-3-swap          racks at 0, 1, 2: a first step 0>1, 1>0 is not legal
 --     meeting              a step of two racks into one position is not legal
 --     full                 four racks on the four positions: a full floor
+--     lane                 eleven positions in a row
+--     train p k            the moves of the k racks from position p on, each to the next position
+--     eight-legal          a train of eight on it is legal
+--     eight-change         and it is a change that Definition 2 allows, in short chains
+--     nine-not             one of nine is not
+--     nine-led             though it has a leader: the cap alone refuses it
+--     side-by-side         nine moves are legal where one of them is a train of its own: the cap is on a train, not on a step
 -- Assumes nothing.
 use Prim.Native.Nat.{ℕ, zero, suc, _≤_, _<_}
 use mathlib.Core.Path.{_≡_, refl}
-use mathlib.Core.Bool.{false}
-use mathlib.Core.List.{List, [], _∷_, List·Memᴰ, List·Memᴰ·head, List·Memᴰ·tail}
+use mathlib.Core.Bool.{true, false}
+use mathlib.Core.List.{List, [], _∷_, _++_, List·Memᴰ, List·Memᴰ·head, List·Memᴰ·tail}
 use native.Mathlib.Omega.{arith}
 use lib.Dec.{T}
 use Rattle.order.specs.Floor.{Floor, some, isPair, joined}
@@ -30,14 +37,14 @@ use Rattle.motion.specs.Move.{onFloor, goesTo, after}
 use Rattle.motion.specs.Step.{every, ascends, leaves, enters, enteredOnce, led, legalStep}
 use Rattle.motion.specs.Replay.{Replayed, ended, stopped, replayFrom, unlessLegal, stepFault, replaySteps, trace}
 use Rattle.motion.specs.Problem.{UniquelyInvertible, Instance}
-use Rattle.motion.specs.ParallelPathFinding.{Solution}
+use Rattle.motion.specs.TrainCap.{InShortChains, CappedSolution}
 use Rattle.motion.proofs.Trains.{led-closed}
 use Rattle.motion.specs.LegalStep.{Train, leader, follows, LegalStep}
 use Rattle.motion.proofs.StepDecision.{by-test, legalStep?}
 use Rattle.motion.proofs.LegalStepLaws.{legalStep-iff}
 use Rattle.motion.proofs.Racks.{separate, isValid, isValid-iff}
 use Rattle.motion.specs.StepOf.{moved, insert, sort, stepOf}
-use Rattle.motion.proofs.StepChange.{Change, legal-change}
+use Rattle.motion.proofs.StepChange.{Change, legal-change, legal-short}
 use Rattle.motion.specs.StepSolutions.{stepsThrough, stepsBetween}
 use Rattle.motion.proofs.StepSolutionsLaws.{solution-instance, replay-solution}
 use Rattle.motion.proofs.StepLimits.{no-turn}
@@ -62,12 +69,12 @@ pub case-1 : replaySteps (legalStep? floorF) starts timetable ≡ ended goals
 unfolding steps-open
 case-1 = refl
 
-pub case-1-solution : Solution floorF 2 starts goals 2 (starts ∷ (1 ∷ 2 ∷ []) ∷ goals ∷ [])
+pub case-1-solution : CappedSolution floorF 2 starts goals 2 (starts ∷ (1 ∷ 2 ∷ []) ∷ goals ∷ [])
 unfolding trace after goesTo
 case-1-solution = replay-solution floorF 2 starts goals starts-valid timetable case-1
 
 pub case-1-instance : Instance floorF 2 starts goals
-case-1-instance = solution-instance case-1-solution
+case-1-instance = solution-instance (case-1-solution .solution)
 
 pub case-1-steps : stepsBetween (starts ∷ (1 ∷ 2 ∷ []) ∷ goals ∷ []) ≡ timetable
 unfolding stepsBetween stepsThrough stepOf sort insert moved
@@ -136,3 +143,40 @@ meeting = refl
 pub full : UniquelyInvertible floorF 4 (2 ∷ 0 ∷ 3 ∷ 1 ∷ [])
 unfolding isValid separate every vacant occupied some
 full = isValid-iff floorF (2 ∷ 0 ∷ 3 ∷ 1 ∷ []) .0 tt
+
+-- trains on a row of positions
+
+unfoldable pub train : ℕ → ℕ → List (ℕ × ℕ)
+train p zero = []
+train p (suc k) = (p, suc p) ∷ train (suc p) k
+
+abbrev pub lane : Floor
+lane = record {
+  positions = 11;
+  edges = (0, 1) ∷ (1, 2) ∷ (2, 3) ∷ (3, 4) ∷ (4, 5) ∷ (5, 6) ∷ (6, 7) ∷ (7, 8) ∷ (8, 9) ∷ (9, 10) ∷ [];
+}
+
+abbrev pub eight : Arrangement
+eight = 0 ∷ 1 ∷ 2 ∷ 3 ∷ 4 ∷ 5 ∷ 6 ∷ 7 ∷ []
+
+pub eight-legal : LegalStep lane eight (train 0 8)
+unfolding train legalStep ascends every onFloor joined some isPair occupied enteredOnce enters led leaves vacant goesTo
+eight-legal = legalStep-iff lane eight (train 0 8) .0 tt
+
+pub eight-change : Change lane 8 eight (1 ∷ 2 ∷ 3 ∷ 4 ∷ 5 ∷ 6 ∷ 7 ∷ 8 ∷ []) × InShortChains 8 eight (1 ∷ 2 ∷ 3 ∷ 4 ∷ 5 ∷ 6 ∷ 7 ∷ 8 ∷ [])
+unfolding train isValid separate every vacant occupied some after goesTo
+eight-change =
+    let valid : UniquelyInvertible lane 8 eight = isValid-iff lane eight .0 tt in
+    (legal-change valid eight-legal, legal-short valid eight-legal)
+
+pub nine-not : legalStep lane (0 ∷ 1 ∷ 2 ∷ 3 ∷ 4 ∷ 5 ∷ 6 ∷ 7 ∷ 8 ∷ []) (train 0 9) ≡ false
+unfolding train legalStep ascends every onFloor joined some isPair occupied enteredOnce enters led leaves vacant goesTo
+nine-not = refl
+
+pub nine-led : led 8 (train 0 9) (0 ∷ 1 ∷ 2 ∷ 3 ∷ 4 ∷ 5 ∷ 6 ∷ 7 ∷ 8 ∷ []) 1 ≡ true
+unfolding train led leaves some vacant occupied goesTo
+nine-led = refl
+
+pub side-by-side : legalStep lane (0 ∷ 1 ∷ 2 ∷ 3 ∷ 4 ∷ 5 ∷ 6 ∷ 7 ∷ 9 ∷ []) (train 0 8 ++ (9, 10) ∷ []) ≡ true
+unfolding train legalStep ascends every onFloor joined some isPair occupied enteredOnce enters led leaves vacant goesTo
+side-by-side = refl

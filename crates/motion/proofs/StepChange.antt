@@ -1,13 +1,16 @@
 -- One step: the legal steps on a valid arrangement are exactly the changes of arrangement that Definition 2 allows between two
--- time steps, and for each change there is one step.
+-- time steps, with chains of at most eight racks, and for each change there is one step.
 --
 --     Change F m A B     points (i), (iii) and (iv) of Definition 2, between a valid arrangement A and the next, B
 --     legal-takes        a legal step takes the rack at a position left to the position entered
 --     legal-others       and leaves every other rack where it is
 --     legal-valid        arrangements stay valid over legal steps
 --     legal-change       a legal step makes a change that Definition 2 allows
+--     legal-short        in chains of at most eight racks
 --     legal-stepOf       and it is the step between the two arrangements
---     change-legal       the step between two arrangements is legal, if Definition 2 allows the change
+--     chain-same         the chain of a rack that moves has one length
+--     short-iff          so if one is short then all are
+--     change-legal       the step between two arrangements is legal, if Definition 2 allows the change and chains are short
 --     change-after       and it leads from the one to the other
 --     step-iff           all of this as one equivalence
 -- Assumes nothing.
@@ -26,11 +29,12 @@ use Rattle.motion.specs.Arrangement.{Arrangement, stands}
 use Rattle.motion.specs.Move.{goesTo, after}
 use Rattle.motion.specs.Problem.{IsRack, UniquelyInvertible, AlongEdges}
 use Rattle.motion.specs.ParallelPathFinding.{RackChain, InChains}
+use Rattle.motion.specs.TrainCap.{InShortChains}
 use Rattle.motion.proofs.ListLaws.{keys-same}
 use Rattle.motion.proofs.StepTestsLaws.{left, vacant-iff, Goes, taken, stays, goesTo-cases, goesTo-takes, goesTo-stays, entered}
 use Rattle.motion.specs.StepTests.{Ascends, EnteredOnce, OnFloor}
-use Rattle.motion.proofs.Trains.{train-member}
-use Rattle.motion.specs.LegalStep.{Train, leader, follows, LegalStep}
+use Rattle.motion.proofs.Trains.{train-member, train-length}
+use Rattle.motion.specs.LegalStep.{longestTrain, Train, leader, follows, LegalStep}
 use Rattle.motion.proofs.LegalStepLaws.{legal-move}
 use Rattle.motion.proofs.Racks.{own, stands-in, same-positions, stands-after, valid-same, valid-rack, valid-below, valid-nodup}
 use Rattle.motion.proofs.MoveLaws.{after-length}
@@ -44,16 +48,17 @@ pub record Change (F : Floor) (m : ℕ) (A B : Arrangement) : Type 0 where
 
 -- chains of racks
 
--- A chain whose leader enters a position that no rack held, the leader's own included. That its racks are distinct follows.
-record Lead (m : ℕ) (A B : Arrangement) (a : ℕ) : Type 0 where
+-- A chain of k racks whose leader enters a position that no rack held, the leader's own included. That its racks are distinct follows.
+record Lead (m : ℕ) (A B : Arrangement) (a k : ℕ) : Type 0 where
   last : ℕ
+  counted : suc last ≡ k
   b : ℕ → ℕ
   agents : (i : ℕ) → i ≤ last → IsRack m (b i)
   first : b 0 ≡ a
   leading : (c : ℕ) → IsRack m c → stands A c ≢ stands B (b last)
   following : (i : ℕ) → i < last → stands B (b i) ≡ stands A (b (suc i))
 
-module _ {F : Floor} {m : ℕ} {A B : Arrangement} {a : ℕ} (valid : UniquelyInvertible F m A) (c : Lead m A B a) where
+module _ {F : Floor} {m : ℕ} {A B : Arrangement} {a k : ℕ} (valid : UniquelyInvertible F m A) (c : Lead m A B a k) where
   -- what follows two places with the same rack would be the same, up to the leader, which follows none
   lead-apart : (d i j : ℕ) → i < j → j + d ≡ c .last → c .b i ≢ c .b j
   lead-apart zero i j l e q =
@@ -69,27 +74,37 @@ module _ {F : Floor} {m : ℕ} {A B : Arrangement} {a : ℕ} (valid : UniquelyIn
       dite (decLt i j) (λ l. lead-apart (c .last - j) i j l (omega arith) e)
       (λ l. lead-apart (c .last - i) j i (omega arith) (omega arith) (sym e))
 
-  lead-chain : RackChain m A B a
-  lead-chain =
-      record {
-        last = c .last;
-        b = c .b;
-        agents = c .agents;
-        distinct = lead-distinct;
-        first = c .first;
-        leading = λ x r ne. c .leading x r;
-        following = c .following;
-      }
+  lead-chain : (b : RackChain m A B a) × (suc (b .last) ≡ k)
+  lead-chain = (
+    record {
+      last = c .last;
+      b = c .b;
+      agents = c .agents;
+      distinct = lead-distinct;
+      first = c .first;
+      leading = λ x r ne. c .leading x r;
+      following = c .following;
+    },
+    c .counted,
+  )
 
 -- a rack in front of a sequence
 before : ℕ → (ℕ → ℕ) → ℕ → ℕ
 before a b zero = a
 before a b (suc i) = b i
 
-lead-more : {m : ℕ} {A B : Arrangement} {a a′ : ℕ} → IsRack m a → stands B a ≡ stands A a′ → Lead m A B a′ → Lead m A B a
+lead-more : {m : ℕ} {A B : Arrangement} {a a′ k : ℕ} → IsRack m a → stands B a ≡ stands A a′ → Lead m A B a′ k → Lead m A B a (suc k)
 unfolding before
 lead-more {m} {A} {B} {a} r e c =
-    record { last = suc (c .last); b = before a (c .b); agents = agents; first = refl; leading = c .leading; following = following }
+    record {
+      last = suc (c .last);
+      counted = ap suc (c .counted);
+      b = before a (c .b);
+      agents = agents;
+      first = refl;
+      leading = c .leading;
+      following = following;
+    }
   where
     agents : (i : ℕ) → i ≤ suc (c .last) → IsRack m (before a (c .b) i)
     agents zero h = r
@@ -131,8 +146,8 @@ module _ {F : Floor} {m : ℕ} {A : Arrangement} {ms : List (ℕ × ℕ)} (valid
     where
       on : Goes ms p → Goes ms q → p ≡ q
       on (taken x n f g) (taken x′ n′ f′ g′) = sym f ∙ ap left (keys-same entered ms (s .once) n n′ (sym g ∙ e ∙ g′)) ∙ f′
-      on (taken x n f g) (stays h g′) = absurd (stayed-alone (s .trains x n .1) l h (sym g ∙ e ∙ g′))
-      on (stays h g) (taken x n f g′) = absurd (stayed-alone (s .trains x n .1) k h (sym g′ ∙ sym e ∙ g))
+      on (taken x n f g) (stays h g′) = absurd (stayed-alone (s .trains x n .2) l h (sym g ∙ e ∙ g′))
+      on (stays h g) (taken x n f g′) = absurd (stayed-alone (s .trains x n .2) k h (sym g′ ∙ sym e ∙ g))
       on (stays h g) (stays h′ g′) = sym g ∙ e ∙ g′
 
   pub legal-valid : UniquelyInvertible F m (after A ms)
@@ -150,10 +165,11 @@ module _ {F : Floor} {m : ℕ} {A : Arrangement} {ms : List (ℕ × ℕ)} (valid
       on (taken x n f g) = inr (rw (g, ← f) (s .joins x n .edge))
       on (stays h g) = inl (sym g)
 
-  train-lead : {k : ℕ} {x : ℕ × ℕ} → Train A ms k x → (a : ℕ) → IsRack m a → stands A a ≡ x .0 → Lead m A (after A ms) a
+  train-lead : {k : ℕ} {x : ℕ × ℕ} → Train A ms k x → (a : ℕ) → IsRack m a → stands A a ≡ x .0 → Lead m A (after A ms) a k
   train-lead {x} (leader n t) a r e =
       record {
         last = 0;
+        counted = refl;
         b = λ i. a;
         agents = λ i h. r;
         first = refl;
@@ -164,12 +180,18 @@ module _ {F : Floor} {m : ℕ} {A : Arrangement} {ms : List (ℕ × ℕ)} (valid
       let w = valid-rack valid (s .held y (train-member A ms t)) in
       lead-more r (legal-takes r n e ∙ f ∙ sym (w .2)) (train-lead t (w .0) (w .1) (w .2))
 
-  legal-led : InChains m A (after A ms)
-  legal-led a r ne = lead-chain valid (on (goesTo-cases ms (stands A a)))
+  pub legal-short : InShortChains m A (after A ms)
+  legal-short a r ne = on (goesTo-cases ms (stands A a))
     where
-      on : Goes ms (stands A a) → Lead m A (after A ms) a
-      on (taken x n f g) = train-lead (s .trains x n .1) a r (sym f)
+      on : Goes ms (stands A a) → (b : RackChain m A (after A ms) a) × (b .last < longestTrain)
+      on (taken x n f g) =
+          let t = s .trains x n in
+          let b = lead-chain valid (train-lead (t .2) a r (sym f)) in
+          (b .0, omega (arith, b .1, t .1))
       on (stays h g) = absurd (ne (sym (goes r ∙ g)))
+
+  legal-led : InChains m A (after A ms)
+  legal-led a r ne = legal-short a r ne .0
 
   pub legal-change : Change F m A (after A ms)
   legal-change = record { invertible = legal-valid; along = legal-along; led = legal-led }
@@ -268,23 +290,34 @@ module _ {F : Floor} {m : ℕ} {A B : Arrangement} (valid : UniquelyInvertible F
         follows (in-step (b .agents i (omega arith)) (all-move i (omega arith))) (b .following i (omega arith))
         (chain-train d (suc i) (omega arith))
 
-  trains : (x : ℕ × ℕ) → List·Memᴰ x (stepOf A B) → (k : ℕ) × Train A (stepOf A B) k x
-  trains x k =
-      let t = by k in
-      let b = c .led (t .rack) (taker t) (moves t) in
-      let whole : (stands A (b .b 0), stands B (b .b 0)) ≡ x =
-      λ j. ((ap (stands A) (b .first) ∙ t .from) j, (ap (stands B) (b .first) ∙ t .to) j) in
-      (suc (b .last), subst (Train A (stepOf A B) (suc (b .last))) whole (chain-train (moves t) b (b .last) 0 (omega arith)))
+    whole-train : Train A (stepOf A B) (suc (b .last)) (stands A a, stands B a)
+    whole-train =
+        subst (λ (r : ℕ). Train A (stepOf A B) (suc (b .last)) (stands A r, stands B r)) (b .first)
+        (chain-train (b .last) 0 (omega arith))
 
-  pub change-legal : LegalStep F A (stepOf A B)
-  change-legal =
-      record {
-        ascending = ascending;
-        joins = joins;
-        held = λ x k. let t = by k in Memᴰ·cast (sym (t .from)) (stands-in (t .is));
-        once = once;
-        trains = trains;
-      }
+  held : (x : ℕ × ℕ) → List·Memᴰ x (stepOf A B) → List·Memᴰ (x .0) A
+  held x k = let t = by k in Memᴰ·cast (sym (t .from)) (stands-in (t .is))
+
+  pub chain-same : {a : ℕ} → stands A a ≢ stands B a → (b b′ : RackChain m A B a) → b .last ≡ b′ .last
+  chain-same ne b b′ = omega (arith, train-length A (stepOf A B) ascending held (whole-train ne b) (whole-train ne b′))
+
+  pub short-iff : InShortChains m A B
+      ↔ ((a : ℕ) → IsRack m a → stands A a ≢ stands B a → (b : RackChain m A B a) → b .last < longestTrain)
+  short-iff = (
+    λ short a r ne b. let w = short a r ne in omega (arith, chain-same ne (w .0) b, w .1),
+    λ all a r ne. let b = c .led a r ne in (b, all a r ne b),
+  )
+
+  module _ (short : InShortChains m A B) where
+    trains : (x : ℕ × ℕ) → List·Memᴰ x (stepOf A B) → (k : ℕ) × (k ≤ longestTrain) × Train A (stepOf A B) k x
+    trains x k =
+        let t = by k in
+        let b = short (t .rack) (taker t) (moves t) in
+        let whole : (stands A (t .rack), stands B (t .rack)) ≡ x = λ j. (t .from j, t .to j) in
+        (suc (b .0 .last), omega (arith, b .1), subst (Train A (stepOf A B) (suc (b .0 .last))) whole (whole-train (moves t) (b .0)))
+
+    pub change-legal : LegalStep F A (stepOf A B)
+    change-legal = record { ascending = ascending; joins = joins; held = held; once = once; trains = trains }
 
   -- a rack that changes place is taken along by its move; one that does not is left alone
   taken-along : {a : ℕ} → IsRack m a → goesTo (stepOf A B) (stands A a) ≡ stands B a
@@ -305,8 +338,12 @@ module _ {F : Floor} {m : ℕ} {A B : Arrangement} (valid : UniquelyInvertible F
       stands-after A (stepOf A B) r′ ∙ taken-along (subst (λ (n : ℕ). IsRack n a) (valid .racks) r′))
 
 pub step-iff : (F : Floor) (m : ℕ) (A B : Arrangement) (ms : List (ℕ × ℕ)) → UniquelyInvertible F m A
-    → (LegalStep F A ms × (after A ms ≡ B)) ↔ (Change F m A B × (ms ≡ stepOf A B))
+    → (LegalStep F A ms × (after A ms ≡ B)) ↔ (Change F m A B × InShortChains m A B × (ms ≡ stepOf A B))
 step-iff F m A B ms valid = (
-  λ w. (subst (Change F m A) (w .1) (legal-change valid (w .0)), legal-stepOf valid (w .0) ∙ ap (stepOf A) (w .1)),
-  λ w. (subst (LegalStep F A) (sym (w .1)) (change-legal valid (w .0)), ap (after A) (w .1) ∙ change-after valid (w .0)),
+  λ w. (
+    subst (Change F m A) (w .1) (legal-change valid (w .0)),
+    subst (λ (C : Arrangement). InShortChains m A C) (w .1) (legal-short valid (w .0)),
+    legal-stepOf valid (w .0) ∙ ap (stepOf A) (w .1),
+  ),
+  λ w. (subst (LegalStep F A) (sym (w .2)) (change-legal valid (w .0) (w .1)), ap (after A) (w .2) ∙ change-after valid (w .0)),
 )

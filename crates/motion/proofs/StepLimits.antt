@@ -10,6 +10,8 @@
 --     no-turn           a ring does not turn by itself: moves from each position of a ring to the next, back to the first
 --     no-swap           two neighbours do not change places
 --     no-meeting        two racks do not enter one position
+--     no-longer-train   no train in a legal step has more than eight moves
+--     no-long-chain     nine moves, each into the position that the next one leaves, are no part of a legal step
 -- Assumes nothing.
 use Prim.Native.Nat.{ℕ, zero, suc, _-_, _≤_, _<_}
 use mathlib.Core.Path.{_≡_, refl, sym, _∙_, ap, subst}
@@ -25,8 +27,8 @@ use Rattle.motion.specs.Move.{after}
 use Rattle.motion.specs.Problem.{UniquelyInvertible}
 use Rattle.motion.proofs.ListLaws.{by-member, pairwise-more, pigeonhole, pigeonhole-below, keys-same, keys-nodup}
 use Rattle.motion.proofs.StepTestsLaws.{left, vacant-iff, left-differ, entered}
-use Rattle.motion.proofs.Trains.{train-member}
-use Rattle.motion.specs.LegalStep.{Train, leader, follows, LegalStep}
+use Rattle.motion.proofs.Trains.{train-member, train-length}
+use Rattle.motion.specs.LegalStep.{longestTrain, Train, leader, follows, LegalStep}
 use Rattle.motion.proofs.LegalStepLaws.{legal-nothing}
 use Rattle.motion.proofs.StepReplay.{StepsLead, replay-none, replay-cons, replay-waiting}
 use Rattle.motion.proofs.Racks.{valid-below, valid-nodup}
@@ -59,7 +61,7 @@ module _ {F : Floor} {A : Arrangement} {ms : List (ℕ × ℕ)} (s : LegalStep F
 
   pub step-positions : {m : ℕ × ℕ} → List·Memᴰ m ms → length ms < F .positions
   step-positions {m} k =
-      let w = train-leader (s .trains m k .1) in
+      let w = train-leader (s .trains m k .2) in
       subst (λ (n : ℕ). n < F .positions) (length-map ms left)
       (one-more (F .positions) (w .0 .1) A (map left ms) (s .joins (w .0) (w .1) .entered-below) (w .2) lefts-nodup lefts-held)
 
@@ -73,7 +75,7 @@ pub full-still : {F : Floor} {v : ℕ} {A : Arrangement} (ms : List (ℕ × ℕ)
     → LegalStep F A ms → ms ≡ []
 full-still [] valid full s = refl
 full-still {F} {v} {A} (m ∷ ms) valid full s =
-    let w = train-leader (s .trains m (List·Memᴰ·head refl) .1) in
+    let w = train-leader (s .trains m (List·Memᴰ·head refl) .2) in
     let fewer : length A < F .positions =
     one-more (F .positions) (w .0 .1) A A (s .joins (w .0) (w .1) .entered-below) (w .2) (valid-nodup valid)
     (λ q k. (k, valid-below valid k)) in
@@ -100,7 +102,7 @@ full-iff F v A G n (ms ∷ steps) valid full = (
 module _ {F : Floor} {A : Arrangement} {ms : List (ℕ × ℕ)} (s : LegalStep F A ms) where
   pub no-ring : (R : ℕ × ℕ → Type 0) → ((m : ℕ × ℕ) → R m → List·Memᴰ m ms)
       → ((m : ℕ × ℕ) → R m → (m′ : ℕ × ℕ) × R m′ × (m .1 ≡ m′ .0)) → (m : ℕ × ℕ) → R m → ⊥
-  no-ring R part next m r = ends (s .trains m (part m r) .1) r
+  no-ring R part next m r = ends (s .trains m (part m r) .2) r
     where
       ends : {k : ℕ} {m : ℕ × ℕ} → Train A ms k m → R m → ⊥
       ends {m} (leader n t) r =
@@ -142,3 +144,20 @@ module _ {F : Floor} {A : Arrangement} {ms : List (ℕ × ℕ)} (s : LegalStep F
 
   pub no-meeting : {m m′ : ℕ × ℕ} → List·Memᴰ m ms → List·Memᴰ m′ ms → m .0 ≢ m′ .0 → m .1 ≢ m′ .1
   no-meeting k l ne e = ne (ap left (keys-same entered ms (s .once) k l e))
+
+  pub no-longer-train : {k : ℕ} {m : ℕ × ℕ} → Train A ms k m → k ≤ longestTrain
+  no-longer-train {m} t =
+      let w = s .trains m (train-member A ms t) in
+      omega (arith, train-length A ms (s .ascending) (s .held) t (w .2), w .1)
+
+  pub no-long-chain : (p : ℕ → ℕ) → ((i : ℕ) → i ≤ longestTrain → List·Memᴰ (p i, p (suc i)) ms) → ⊥
+  no-long-chain p on = let w = s .trains (p 0, p 1) (on 0 (omega arith)) in ends (w .2) p longestTrain refl (w .1) on
+    where
+      -- a train ends within its moves: no move leaves the position that the last of them enters
+      ends : {k : ℕ} {m : ℕ × ℕ} → Train A ms k m → (p : ℕ → ℕ) (b : ℕ) → m .1 ≡ p 1 → k ≤ b
+          → ((i : ℕ) → i ≤ b → List·Memᴰ (p i, p (suc i)) ms) → ⊥
+      ends {m} (leader n t) p b q h on = vacant-iff A (m .1) .0 t (Memᴰ·cast q (s .held (p 1, p 2) (on 1 h)))
+      ends (follows {m′ = m′} n e t) p b q h on =
+          let next : List·Memᴰ (p 1, p 2) ms = on 1 (omega arith) in
+          let same = keys-same left ms (left-differ (s .ascending)) (train-member A ms t) next (sym e ∙ q) in
+          ends t (λ i. p (suc i)) (b - 1) (ap entered same) (omega arith) (λ i l. on (suc i) (omega arith))

@@ -1,6 +1,7 @@
 -- Laws of what specs/StepSolutions.antt defines.
 --
---     Way F m G A S            from A on through S to G, each time by a change that Definition 2 allows
+--     Way F m G A S            from A on through S to G, each time by a change that Definition 2 allows, in chains of at most eight
+--                              racks; a solution is here one that respects this cap
 --     none-iff                 no steps at all are a solution exactly when each start is its goal
 --     solution-way             a solution is such a way
 --     way-solution             such a way is a solution
@@ -26,11 +27,12 @@ use Rattle.motion.specs.Move.{after}
 use Rattle.motion.specs.Replay.{ended, replaySteps, trace}
 use Rattle.motion.specs.Problem.{UniquelyInvertible, Instance, arrangementAt, AlongEdges}
 use Rattle.motion.specs.ParallelPathFinding.{InChains, Solution}
+use Rattle.motion.specs.TrainCap.{InShortChains, CappedSolution}
 use Rattle.motion.proofs.Racks.{valid-fits}
 use Rattle.motion.specs.StepOf.{stepOf}
 use Rattle.motion.proofs.StepDecision.{legalStep?}
 use Rattle.motion.proofs.StepReplay.{StepsLead, replay-none, replay-cons}
-use Rattle.motion.proofs.StepChange.{Change, legal-change, legal-stepOf, legal-valid, change-legal, change-after}
+use Rattle.motion.proofs.StepChange.{Change, legal-change, legal-short, legal-stepOf, legal-valid, change-legal, change-after}
 use Rattle.motion.specs.StepSolutions.{stepsThrough, stepsBetween}
 
 length-stepsThrough : (A : Arrangement) (S : List Arrangement) → length (stepsThrough A S) ≡ length S
@@ -40,7 +42,7 @@ length-stepsThrough A (B ∷ S) = ap suc (length-stepsThrough B S)
 
 pub data Way (F : Floor) (m : ℕ) (G : Arrangement) : Arrangement → List Arrangement → Type 0 where
   there : {A : Arrangement} → A ≡ G → Way F m G A []
-  onward : {A B : Arrangement} {S : List Arrangement} → Change F m A B → Way F m G B S → Way F m G A (B ∷ S)
+  onward : {A B : Arrangement} {S : List Arrangement} → Change F m A B → InShortChains m A B → Way F m G B S → Way F m G A (B ∷ S)
 
 module _ {F : Floor} {m : ℕ} {G : Arrangement} where
   -- a way is a solution, and the other way round
@@ -84,27 +86,42 @@ module _ {F : Floor} {m : ℕ} {G : Arrangement} where
   unfolding arrangementAt
   none-iff valid = (λ s. s .reaches, solution-none valid)
 
-  pub way-solution : {A : Arrangement} {S : List Arrangement} → UniquelyInvertible F m A → Way F m G A S
-      → Solution F m A G (length S) (A ∷ S)
-  way-solution valid (there e) = solution-none valid e
-  way-solution valid (onward c w) = solution-first valid c (way-solution (c .invertible) w)
-
-  pub solution-way : {S⁰ : Arrangement} {ζ : ℕ} (A : Arrangement) (S : List Arrangement) → Solution F m S⁰ G ζ (A ∷ S) → Way F m G A S
+  capped-first : {A B : Arrangement} {S : List Arrangement} → UniquelyInvertible F m A → Change F m A B → InShortChains m A B
+      → CappedSolution F m B G (length S) (B ∷ S) → CappedSolution F m A G (suc (length S)) (A ∷ B ∷ S)
   unfolding arrangementAt
-  solution-way {ζ} A [] s =
+  capped-first {A} {B} {S} valid c d s = record { solution = solution-first valid c (s .solution); short = short }
+    where
+      short : (k : ℕ) → k < suc (length S) → InShortChains m (arrangementAt (A ∷ B ∷ S) k) (arrangementAt (B ∷ S) k)
+      short zero h = d
+      short (suc k) h = s .short k (omega arith)
+
+  pub way-solution : {A : Arrangement} {S : List Arrangement} → UniquelyInvertible F m A → Way F m G A S
+      → CappedSolution F m A G (length S) (A ∷ S)
+  way-solution valid (there e) = record { solution = solution-none valid e; short = λ k h. absurd (omega arith) }
+  way-solution valid (onward c d w) = capped-first valid c d (way-solution (c .invertible) w)
+
+  pub solution-way : {S⁰ : Arrangement} {ζ : ℕ} (A : Arrangement) (S : List Arrangement) → CappedSolution F m S⁰ G ζ (A ∷ S) → Way F m G A S
+  unfolding arrangementAt
+  solution-way {ζ} A [] capped =
+      let s = capped .solution in
       let e : ζ ≡ 0 = omega (arith, s .sequence) in
       there (subst (λ (k : ℕ). arrangementAt (A ∷ []) k ≡ G) e (s .reaches))
-  solution-way {ζ} A (B ∷ S) s =
+  solution-way {ζ} A (B ∷ S) capped =
+      let s = capped .solution in
       let e : ζ ≡ suc (length S) = omega (arith, s .sequence) in
       onward (record { invertible = s .invertible 1 (omega arith); along = s .along 0 (omega arith); led = s .led 0 (omega arith) })
+      (capped .short 0 (omega arith))
       (solution-way B S
       (record {
-        sequence = refl;
-        begins = refl;
-        invertible = λ k h. s .invertible (suc k) (omega arith);
-        reaches = subst (λ (k : ℕ). arrangementAt (A ∷ B ∷ S) k ≡ G) e (s .reaches);
-        along = λ k h. s .along (suc k) (omega arith);
-        led = λ k h. s .led (suc k) (omega arith);
+        solution = record {
+          sequence = refl;
+          begins = refl;
+          invertible = λ k h. s .invertible (suc k) (omega arith);
+          reaches = subst (λ (k : ℕ). arrangementAt (A ∷ B ∷ S) k ≡ G) e (s .reaches);
+          along = λ k h. s .along (suc k) (omega arith);
+          led = λ k h. s .led (suc k) (omega arith);
+        };
+        short = λ k h. capped .short (suc k) (omega arith);
       }))
 
   -- what replay accepts goes a way, and the other way round
@@ -117,7 +134,7 @@ module _ {F : Floor} {m : ℕ} {G : Arrangement} where
       let c = replay-cons F n A G ms steps .0 e in
       let w = replay-way (suc n) (after A ms) steps (legal-valid valid (c .0)) (c .1) in (
         after A ms ∷ w .0,
-        onward (legal-change valid (c .0)) (w .1),
+        onward (legal-change valid (c .0)) (legal-short valid (c .0)) (w .1),
         ap (λ (t : List Arrangement). A ∷ t) (w .2),
         ap₂ (λ (x : List (ℕ × ℕ)) (t : List (List (ℕ × ℕ))). x ∷ t) (legal-stepOf valid (c .0)) (w .3),
       )
@@ -126,9 +143,9 @@ module _ {F : Floor} {m : ℕ} {G : Arrangement} where
       → StepsLead F n A (stepsThrough A S) G × (trace after A (stepsThrough A S) ≡ A ∷ S)
   unfolding trace stepsThrough
   way-replay n {A} valid (there e) = (replay-none F n A G .1 e, refl)
-  way-replay n {A} valid (onward {B = B} {S = S} c w) =
+  way-replay n {A} valid (onward {B = B} {S = S} c d w) =
       let rest = way-replay (suc n) (c .invertible) w in (
-        replay-cons F n A G (stepOf A B) (stepsThrough B S) .1 (change-legal valid c, rw (change-after valid c) (rest .0)),
+        replay-cons F n A G (stepOf A B) (stepsThrough B S) .1 (change-legal valid c d, rw (change-after valid c) (rest .0)),
         rw (change-after valid c) (ap (λ (t : List Arrangement). A ∷ t) (rest .1)),
       )
 
@@ -149,24 +166,25 @@ pub record OnlySteps (F : Floor) (S⁰ S⁺ : Arrangement) (ζ : ℕ) (S : List 
 
 module _ (F : Floor) (m : ℕ) (S⁰ S⁺ : Arrangement) where
   pub replay-solution : UniquelyInvertible F m S⁰ → (steps : List (List (ℕ × ℕ))) → replaySteps (legalStep? F) S⁰ steps ≡ ended S⁺
-      → Solution F m S⁰ S⁺ (length steps) (trace after S⁰ steps)
+      → CappedSolution F m S⁰ S⁺ (length steps) (trace after S⁰ steps)
   unfolding replaySteps
   replay-solution valid steps e =
       let w = replay-way 1 S⁰ steps valid e in
       let size : length (w .0) ≡ length steps = sym (ap length (w .3) ∙ length-stepsThrough S⁰ (w .0)) in
-      subst₂ (Solution F m S⁰ S⁺) size (sym (w .2)) (way-solution valid (w .1))
+      subst₂ (CappedSolution F m S⁰ S⁺) size (sym (w .2)) (way-solution valid (w .1))
 
   replay-stepsBetween : UniquelyInvertible F m S⁰ → (steps : List (List (ℕ × ℕ))) → replaySteps (legalStep? F) S⁰ steps ≡ ended S⁺
       → steps ≡ stepsBetween (trace after S⁰ steps)
   unfolding replaySteps stepsBetween
   replay-stepsBetween valid steps e = let w = replay-way 1 S⁰ steps valid e in w .3 ∙ ap stepsBetween (sym (w .2))
 
-  pub solution-replay : (ζ : ℕ) (S : List Arrangement) → Solution F m S⁰ S⁺ ζ S → OnlySteps F S⁰ S⁺ ζ S
+  pub solution-replay : (ζ : ℕ) (S : List Arrangement) → CappedSolution F m S⁰ S⁺ ζ S → OnlySteps F S⁰ S⁺ ζ S
   unfolding replaySteps stepsBetween arrangementAt
-  solution-replay ζ [] s = absurd (omega (arith, s .sequence))
-  solution-replay ζ (A ∷ S) s =
+  solution-replay ζ [] capped = absurd (omega (arith, capped .solution .sequence))
+  solution-replay ζ (A ∷ S) capped =
+      let s = capped .solution in
       let valid : UniquelyInvertible F m A = s .invertible 0 (omega arith) in
-      let r = way-replay 1 valid (solution-way A S s) in
+      let r = way-replay 1 valid (solution-way A S capped) in
       record {
         steps = stepsThrough A S;
         count = omega (arith, length-stepsThrough A S, s .sequence);
@@ -178,16 +196,16 @@ module _ (F : Floor) (m : ℕ) (S⁰ S⁺ : Arrangement) where
 
   pub steps-replay : Instance F m S⁰ S⁺
       → ((steps : List (List (ℕ × ℕ))) → replaySteps (legalStep? F) S⁰ steps ≡ ended S⁺
-      → Solution F m S⁰ S⁺ (length steps) (trace after S⁰ steps))
-      × ((ζ : ℕ) (S : List Arrangement) → Solution F m S⁰ S⁺ ζ S → OnlySteps F S⁰ S⁺ ζ S)
+      → CappedSolution F m S⁰ S⁺ (length steps) (trace after S⁰ steps))
+      × ((ζ : ℕ) (S : List Arrangement) → CappedSolution F m S⁰ S⁺ ζ S → OnlySteps F S⁰ S⁺ ζ S)
   steps-replay σ = (replay-solution (σ .initial), solution-replay)
 
   pub solutions-iff : UniquelyInvertible F m S⁰ → (steps : List (List (ℕ × ℕ))) (S : List Arrangement)
       → ((replaySteps (legalStep? F) S⁰ steps ≡ ended S⁺) × (trace after S⁰ steps ≡ S))
-      ↔ (Solution F m S⁰ S⁺ (length steps) S × (steps ≡ stepsBetween S))
+      ↔ (CappedSolution F m S⁰ S⁺ (length steps) S × (steps ≡ stepsBetween S))
   solutions-iff valid steps S = (
     λ w. (
-      subst (Solution F m S⁰ S⁺ (length steps)) (w .1) (replay-solution valid steps (w .0)),
+      subst (CappedSolution F m S⁰ S⁺ (length steps)) (w .1) (replay-solution valid steps (w .0)),
       replay-stepsBetween valid steps (w .0) ∙ ap stepsBetween (w .1),
     ),
     λ w.

@@ -1,16 +1,12 @@
--- Trains: the test `led` finds a leader exactly where there is one. Document 01, "Legal moves and steps": "The chain is followed
--- rack by rack to its leader". A chain that comes back to a position that it has passed never ends; so one that ends passes each
--- position at most once, each of them left in the step, and to follow it as often as the step has moves is enough.
+-- Trains: the test `led` finds a leader exactly where there is one near enough. Document 01, "Legal moves and steps": "The chain is
+-- followed rack by rack to its leader". A chain that comes back to a position that it has passed never ends; so one that ends passes
+-- each position at most once, each of them left in the step.
 --
 --     Chain A ms p ps    the moves ms lead on from p through the positions ps, which are not vacant, to one that is
---     chain-led          a chain through k positions is found by following it k times
 --     chain-length       a chain passes at most as many positions as the step has moves
---     led-enough         what is found by following a chain however long is found by following it as often as the step has moves
---     led-next           so a position is led if it is vacant, or left for one that is led
 --     led-closed         from positions that are not vacant and lead to one another there is no leader: a ring, for one
 --     led-train          what `led` finds is a train, of at most one move more than it followed
 --     led-at-most        `led k` decides whether a train of at most k + 1 moves leads on from a move
---     led-iff            and with the step's length for k, whether one of any length does
 --     train-member       a move of a train is a move of the step
 --     train-next         a move into a position that is not vacant follows the move that leaves it, in a train one move shorter
 --     train-moves        in a train of racks no move enters the position that it leaves
@@ -18,8 +14,7 @@
 -- Assumes nothing.
 use Prim.Native.Nat.{ℕ, zero, suc, _≤_}
 use mathlib.Core.Path.{_≡_, refl, sym, _∙_, ap, subst}
-use mathlib.Core.Bool.{Bool, true, false, _&&_}
-use mathlib.Core.Logic.{_↔_, _≢_, _⊎_, inl, inr, ⊎-elim, ⊎-map, dite}
+use mathlib.Core.Logic.{_↔_, _≢_, ⊎-elim, dite}
 use mathlib.Core.HLevel.{¬-prop}
 use mathlib.Core.List.{List, [], _∷_, map, Memᴰ·map, Memᴰ·cast, List·Memᴰ, List·Memᴰ·not-nil, Pairwise·nil, List·Nodup}
 use native.Mathlib.Omega.{arith}
@@ -40,11 +35,6 @@ module _ (A : Arrangement) (ms : List (ℕ × ℕ)) where
   pub data Chain : ℕ → List ℕ → Type 0 where
     ends : {p : ℕ} → T (vacant A p) → Chain p []
     leads : {p : ℕ} {ps : List ℕ} → (T (vacant A p) → ⊥) → T (leaves ms p) → Chain (goesTo ms p) ps → Chain p (p ∷ ps)
-
-  pub chain-led : {p : ℕ} {ps : List ℕ} → Chain p ps → T (led (length ps) ms A p)
-  unfolding led
-  chain-led (ends v) = v
-  chain-led (leads {p = p} o l c) = or-right (vacant A p) _ (yes-and (leaves ms p) _ l (chain-led c))
 
   -- from one position there is one chain
   chain-same : {p : ℕ} {ps qs : List ℕ} → Chain p ps → Chain p qs → length ps ≡ length qs
@@ -80,24 +70,6 @@ module _ (A : Arrangement) (ms : List (ℕ × ℕ)) where
   chain-length {ps} c =
       subst (λ (n : ℕ). length ps ≤ n) (length-map ms left) (pigeonhole ps (map left ms) (chain-nodup c) (λ q. chain-left c))
 
-  led-chain : (k p : ℕ) → T (led k ms A p) → (ps : List ℕ) × Chain p ps
-  unfolding led
-  led-chain zero p t = ([], ends t)
-  led-chain (suc k) p t = on (vacant A p) refl (λ o. passed o (or-yes (vacant A p) _ t)) (led-chain k (goesTo ms p))
-    where
-      passed : (T (vacant A p) → ⊥) → T (vacant A p) ⊎ T (leaves ms p && led k ms A (goesTo ms p))
-          → T (leaves ms p) × T (led k ms A (goesTo ms p))
-      passed o (inl v) = absurd (o v)
-      passed o (inr b) = and-yes (leaves ms p) (led k ms A (goesTo ms p)) b
-
-      on : (b : Bool) → vacant A p ≡ b → ((T (vacant A p) → ⊥) → T (leaves ms p) × T (led k ms A (goesTo ms p)))
-          → (T (led k ms A (goesTo ms p)) → (ps : List ℕ) × Chain (goesTo ms p) ps) → (ps : List ℕ) × Chain p ps
-      on true v b rest = ([], ends (subst T (sym v) tt))
-      on false v b rest =
-          let o : T (vacant A p) → ⊥ = λ t. subst T v t in
-          let w = rest (b o .1) in
-          (p ∷ w .0, leads o (b o .0) (w .1))
-
   led-more : (k p : ℕ) → T (led k ms A p) → T (led (suc k) ms A p)
   unfolding led
   led-more zero p t = or-left (vacant A p) _ t
@@ -112,20 +84,6 @@ module _ (A : Arrangement) (ms : List (ℕ × ℕ)) where
   led-longer k zero p h t = subst (λ (i : ℕ). T (led i ms A p)) (omega arith) t
   led-longer k (suc n) p h t =
       dite (decLe k n) (λ l. led-more n p (led-longer k n p l t)) (λ l. subst (λ (i : ℕ). T (led i ms A p)) (omega arith) t)
-
-  pub led-enough : (k p : ℕ) → T (led k ms A p) → T (led (length ms) ms A p)
-  led-enough k p t = let w = led-chain k p t in led-longer (length (w .0)) (length ms) p (chain-length (w .1)) (chain-led (w .1))
-
-  pub led-next : (p : ℕ) → T (led (length ms) ms A p) ↔ (T (vacant A p) ⊎ (T (leaves ms p) × T (led (length ms) ms A (goesTo ms p))))
-  unfolding led
-  led-next p = (λ t. once (led-more (length ms) p t), λ w. led-enough (suc (length ms)) p (again w))
-    where
-      once : T (led (suc (length ms)) ms A p) → T (vacant A p) ⊎ (T (leaves ms p) × T (led (length ms) ms A (goesTo ms p)))
-      once t = ⊎-map (λ v. v) (and-yes (leaves ms p) (led (length ms) ms A (goesTo ms p))) (or-yes (vacant A p) _ t)
-
-      again : T (vacant A p) ⊎ (T (leaves ms p) × T (led (length ms) ms A (goesTo ms p))) → T (led (suc (length ms)) ms A p)
-      again (inl v) = or-left (vacant A p) _ v
-      again (inr w) = or-right (vacant A p) _ (yes-and (leaves ms p) _ (w .0) (w .1))
 
   pub led-closed : (R : ℕ → Type 0) → ((p : ℕ) → R p → (T (vacant A p) → ⊥) × R (goesTo ms p)) → (k p : ℕ) → R p → T (led k ms A p) → ⊥
   unfolding led
@@ -170,12 +128,6 @@ module _ (A : Arrangement) (ms : List (ℕ × ℕ)) where
     led-at-most k {m} n = (
       led-train k n,
       λ w. let f = train-found (w .2) in led-longer (f .0) k (m .1) (omega (arith, w .1, f .1)) (f .2),
-    )
-
-    pub led-iff : {m : ℕ × ℕ} → List·Memᴰ m ms → T (led (length ms) ms A (m .1)) ↔ ((k : ℕ) × Train A ms k m)
-    led-iff {m} n = (
-      λ t. let w = led-train (length ms) n t in (w .0, w .2),
-      λ w. let f = train-found (w .1) in led-enough (f .0) (m .1) (f .2),
     )
 
     -- a position is left by one move alone

@@ -9,5 +9,6 @@ pub mod StepTests
 pub mod LegalStep
 pub mod Problem
 pub mod ParallelPathFinding
+pub mod TrainCap
 pub mod StepOf
 pub mod StepSolutions

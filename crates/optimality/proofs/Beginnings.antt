@@ -7,6 +7,7 @@
 --     begins-through     a beginning of a beginning is one
 --     begins-compare     of two beginnings of one list the longer begins with the shorter
 --     begins-whole       a beginning with nothing behind it is the list
+--     begins-same        two beginnings of one list that are of one length are the same
 --     times b l          how often b stands in l
 --     times-one          once in the list of it alone
 --     times-append       in two lists one after the other
@@ -16,6 +17,7 @@
 --     last-stands        the last element stands in the list
 --     enters-late        if a position was visited at most as often as before rack r comes to it next, then r has not come to it
 --     leaves-late        if rack r has not gone on from p, then p was visited at most as often as before r goes on
+--     comes-late         if rack r has not come to p yet, then p was visited less often than before r goes on
 -- Assumes nothing.
 use Prim.Native.Nat.{ℕ, suc, _+_, _≤_, _<_}
 use mathlib.Core.Path.{_≡_, refl, sym, _∙_, ap, ap₂}
@@ -23,7 +25,7 @@ use mathlib.Core.Bool.{Bool, true, false, cond}
 use mathlib.Core.Logic.{dite}
 use mathlib.Core.List.{List, [], _∷_, _++_, append-nil, append-assoc, head-eq-of-cons-eq, tail-eq-of-cons-eq}
 use native.Mathlib.Omega.{arith}
-use native.Mathlib.Decide.{decLe}
+use native.Mathlib.Decide.{decLe, decLt}
 use lib.Dec.{eqb}
 use lib.ListN.{length, length-append}
 use borrow.Author.Tests.{eq-eqb}
@@ -63,6 +65,11 @@ begins-whole {k} {l} w h = same (w .rest) h (w .whole)
     same : (m : List ℕ) → length m ≤ 0 → l ≡ k ++ m → k ≡ l
     same [] h e = sym (e ∙ append-nil k)
     same (x ∷ m) h e = absurd (omega arith)
+
+pub begins-same : {k l w : List ℕ} → Begins k w → Begins l w → length k ≡ length l → k ≡ l
+begins-same {k} {l} a b e =
+    let c = begins-compare a b (omega arith) in
+    begins-whole c (omega (arith, ap length (c .whole) ∙ length-append k (c .rest)))
 
 unfoldable pub times : ℕ → List ℕ → ℕ
 times b [] = 0
@@ -115,29 +122,30 @@ module _ (r p : ℕ) (rp : List ℕ) {tv pv all rt R : List ℕ} (tv-begins : Be
       let v = times-begins r (begins-compare tv-begins pv-begins few) in
       absurd (omega (arith, v, times-begins p far, times-append p rp (p ∷ []), times-one p, same-t, same-p)))
 
-  -- r stands at p in the plan; and in the timetable, if it stands there, it is the last that came
+  -- r stands at p in the plan, and has not come so far in the timetable
+  pub comes-late : Begins rt R → Begins rp R → lastOr 0 rp ≡ p → length rt < length rp → length tv < length pv
+  comes-late rt-begins rp-begins at few =
+      dite (decLe (length pv) (length tv))
+      (λ h.
+      let on : Begins rt rp = begins-compare rt-begins rp-begins (omega arith) in
+      let end : lastOr (lastOr 0 rt) (on .rest) ≡ p = sym (lastOr-append 0 rt (on .rest)) ∙ ap (lastOr 0) (sym (on .whole)) ∙ at in
+      let some : 0 < length (on .rest) = omega (arith, ap length (on .whole) ∙ length-append rt (on .rest)) in
+      let again : 0 < times p (on .rest) = rw end at (last-stands (lastOr 0 rt) (on .rest) some) in
+      absurd (omega (arith, times-begins r (begins-compare pv-begins tv-begins h), times-begins p on, again, same-t, same-p)))
+      (λ h. omega arith)
+
+  -- or has come so far and not on; if it stands at p there too, it is the last that came
   pub leaves-late : Begins rt R → Begins rp R → lastOr 0 rp ≡ p → (lastOr 0 rt ≡ p → lastOr 0 tv ≡ r) → length rt ≤ length rp
       → length tv ≤ length pv
   leaves-late rt-begins rp-begins at last few =
-      dite (decLe (length tv) (length pv)) (λ h. h)
+      dite (decLt (length rt) (length rp)) (λ h. omega (arith, comes-late rt-begins rp-begins at h))
       (λ h.
+      let same : rt ≡ rp = begins-same rt-begins rp-begins (omega arith) in
+      dite (decLe (length tv) (length pv)) (λ k. k)
+      (λ k.
       let more : Begins pv tv = begins-compare pv-begins tv-begins (omega arith) in
-      let on : Begins rt rp = begins-compare rt-begins rp-begins few in
-      let none = none-more (times-begins r more) (times-begins p on) in
-      absurd (dite (decLe (length (on .rest)) 0)
-      (λ e. no-visit more h (last (ap (lastOr 0) (begins-whole on e) ∙ at)) (none .0))
-      (λ e. no-going on (omega arith) (none .1))))
-    where
-      none-more : {a b : ℕ} → times r tv ≡ times r pv + a → times p rp ≡ times p rt + b → (a ≡ 0) × (b ≡ 0)
-      none-more u v = omega (arith, same-t, same-p)
-
-      no-going : (on : Begins rt rp) → 0 < length (on .rest) → times p (on .rest) ≡ 0 → ⊥
-      no-going on h e =
-          let end : lastOr (lastOr 0 rt) (on .rest) ≡ p = sym (lastOr-append 0 rt (on .rest)) ∙ ap (lastOr 0) (sym (on .whole)) ∙ at in
-          omega (arith, rw end at (last-stands (lastOr 0 rt) (on .rest) h))
-
-      no-visit : (more : Begins pv tv) → ¬ (length tv ≤ length pv) → lastOr 0 tv ≡ r → times r (more .rest) ≡ 0 → ⊥
-      no-visit more h e z =
-          let end : lastOr (lastOr 0 pv) (more .rest) ≡ r = sym (lastOr-append 0 pv (more .rest)) ∙ ap (lastOr 0) (sym (more .whole)) ∙ e in
-          let some : 0 < length (more .rest) = omega (arith, ap length (more .whole) ∙ length-append pv (more .rest)) in
-          omega (arith, rw end at (last-stands (lastOr 0 pv) (more .rest) some))
+      let end : lastOr (lastOr 0 pv) (more .rest) ≡ r =
+      sym (lastOr-append 0 pv (more .rest)) ∙ ap (lastOr 0) (sym (more .whole)) ∙ last (ap (lastOr 0) same ∙ at) in
+      let some : 0 < length (more .rest) = omega (arith, ap length (more .whole) ∙ length-append pv (more .rest)) in
+      let again : 0 < times r (more .rest) = rw end at (last-stands (lastOr 0 pv) (more .rest) some) in
+      absurd (omega (arith, times-begins r more, ap (times p) same, again, same-t, same-p))))

@@ -19,6 +19,7 @@
 --     racks-come, racks-go   of what changes at a position, who comes is a rack, and that it becomes vacant is none
 --     calls f n          the racks in the course of f
 --     calls-begins       they begin with every earlier ones
+--     calls-step         from one place to the next at most one more comes
 --     calls-last         the last of them stands there, if one does
 -- Assumes nothing.
 use Prim.Native.Nat.{ℕ, zero, suc, _+_, _≤_, _<_}
@@ -218,6 +219,20 @@ unfolding calls
 calls-begins f m n h =
     let b = course-begins f m n h in
     record { rest = racksAmong (b .rest); whole = ap racksAmong (b .whole) ∙ racks-append (course f m) (b .rest) }
+
+pub calls-step : (f : ℕ → ℕ) (n : ℕ) → length (calls f (suc n)) ≤ suc (length (calls f n))
+unfolding calls racksAmong changed
+calls-step f n =
+    let few : length (racksAmong (changed (f n) (f (suc n)))) ≤ 1 =
+    cond-either (λ (l : List ℕ). length (racksAmong l) ≤ 1) (eqb (f n) (f (suc n))) {x = []} {y = f (suc n) ∷ []} (omega arith)
+    (cond-either (λ (l : List ℕ). length l ≤ 1) (eqb (f (suc n)) 0) {x = []} {y = f (suc n) ∷ []} (omega arith) (omega arith)) in
+    omega (
+      arith,
+      ap (λ (l : List ℕ). length (racksAmong l)) (course-next f n)
+          ∙ ap length (racks-append (course f n) (changed (f n) (f (suc n))))
+          ∙ length-append (racksAmong (course f n)) (racksAmong (changed (f n) (f (suc n)))),
+      few,
+    )
 
 pub calls-last : (f : ℕ → ℕ) (n r : ℕ) → f n ≡ suc r → lastOr 0 (calls f n) ≡ suc r
 unfolding calls course changesTo lastOr racksAmong

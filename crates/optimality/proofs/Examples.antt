@@ -20,6 +20,8 @@
 --     other-round-legal, other-round-visits    the steps are legal and keep each position's visitors,
 --     other-round-shorter  three of them
 --     other-round-routes   but rack 1 comes to 1 and then to 2, in the plan to 2 and then to 1: the same positions in another order
+--     nine-replayed        nine racks behind one another in a row of positions go one position on, the foremost first
+--     nine-shortest        two steps are the fewest that keep routes and visits: one would be a train of nine (motion's StepCases, `nine-not`)
 --     case-1-record        over records: the maker answers 2 steps, and none fewer is accepted of those that keep routes and visits
 -- Assumes nothing.
 use Prim.Native.Nat.{ℕ, zero, suc, _<_}
@@ -36,10 +38,14 @@ use Rattle.motion.specs.Replay.{ended, replayFrom, replayMoves, trace}
 use Rattle.motion.proofs.Lawful.{LeadsSteps, still, _then_}
 use Rattle.motion.specs.Problem.{IsRack}
 use Rattle.motion.specs.StepOf.{insert, sort}
+use Rattle.motion.specs.Sound.{Sound}
+use Rattle.motion.proofs.SoundLaws.{isSound, isSound-sound}
+use Rattle.motion.proofs.StepCases.{lane, train}
 use Rattle.motion.proofs.Inhabited.{floorF, starts, goals, plan, plan-leads, starts-sound}
-use Rattle.scheduling.specs.Making.{ofRack, ofLeaving, stepFor, timed, greatest, inStep, movesIn, stepsFrom, madeSteps}
+use Rattle.scheduling.specs.Making.{ofRack, ofLeaving, placeLeaving, stepAfter, placeAfter, turnAfter, turnFor, timed}
+use Rattle.scheduling.specs.Making.{greatest, inStep, movesIn, stepsFrom, madeSteps}
 use Rattle.scheduling.proofs.Timing.{history}
-use Rattle.scheduling.proofs.MakingCases.{case-1-made}
+use Rattle.scheduling.proofs.MakingCases.{case-1-made, nine, ninePlan, nine-made}
 use Rattle.scheduling.proofs.MakerCases.{order₁, plan₁, answer-1}
 use Rattle.optimality.specs.Routes.{changesAfter, changes, route, racksAmong, visitors, Keeps, LegalInTurn}
 use Rattle.optimality.specs.Shortest.{Shortest, ShortestRecord}
@@ -141,7 +147,8 @@ pub turns-shortest : Shortest floorF starts turns
 turns-shortest = shortest-replayed floorF starts turns starts starts-sound turns-replayed
 
 pub turns-made : madeSteps starts turns ≡ ((0, 2) ∷ []) ∷ ((2, 1) ∷ []) ∷ ((1, 0) ∷ (3, 1) ∷ []) ∷ ((1, 3) ∷ []) ∷ []
-unfolding madeSteps timed stepFor rackAt rackFrom ofRack ofLeaving greatest stepsFrom movesIn inStep sort insert afterMove after goesTo
+unfolding madeSteps timed turnFor turnAfter placeAfter stepAfter ofRack ofLeaving placeLeaving greatest stepsFrom movesIn inStep
+    sort insert rackAt rackFrom afterMove after goesTo
 turns-made = refl
 
 abbrev pub other-way : List (List (ℕ × ℕ))
@@ -190,6 +197,20 @@ pub other-round-shorter : length other-round < length (madeSteps starts turns)
 other-round-shorter = rw turns-made (lit< tt)
 
 -- over records
+
+-- the cap makes a timetable longer
+
+pub nine-replayed : replayMoves lane nine ninePlan ≡ ended (1 ∷ 2 ∷ 3 ∷ 4 ∷ 5 ∷ 6 ∷ 7 ∷ 8 ∷ 9 ∷ [])
+unfolding replayMoves replayFrom moveFault faultBy onFloor joined some isPair occupied vacant afterMove after goesTo
+nine-replayed = refl
+
+nine-sound : Sound 11 nine
+unfolding isSound occupied some vacant
+nine-sound = isSound-sound 11 nine .0 tt
+
+pub nine-shortest : Shortest lane nine ninePlan × (length (madeSteps nine ninePlan) ≡ 2)
+unfolding train
+nine-shortest = (shortest-replayed lane nine ninePlan (1 ∷ 2 ∷ 3 ∷ 4 ∷ 5 ∷ 6 ∷ 7 ∷ 8 ∷ 9 ∷ []) nine-sound nine-replayed, rw nine-made refl)
 
 pub case-1-record : ShortestRecord order₁ plan₁ 2
 case-1-record = shortest-record order₁ plan₁ 15 2 answer-1

@@ -26,9 +26,9 @@ use Rattle.motion.specs.Replay.{trace}
 use Rattle.motion.proofs.Lawful.{Leads, still, _then_}
 use Rattle.motion.specs.Sound.{Sound}
 use Rattle.motion.proofs.Test.{equal?}
-use Rattle.scheduling.specs.Making.{Timed, ofRack, ofLeaving, stepFor, timed, greatest, movesIn, stepsFrom, madeSteps}
+use Rattle.scheduling.specs.Making.{Timed, ofRack, ofLeaving, timed, greatest, movesIn, stepsFrom, madeSteps}
 use Rattle.scheduling.proofs.StepMoves.{stepMoves-after}
-use Rattle.scheduling.proofs.Timing.{stepFor-bounds, ofRack-same, ofLeaving-same, greatest-most, steps-length, history}
+use Rattle.scheduling.proofs.Timing.{byRule-bounds, ofRack-same, ofLeaving-same, greatest-most, steps-length, history}
 use Rattle.scheduling.proofs.Schedule.{arranged, arranged-before, arranged-from, Scheduled, scheduled-none, scheduled-more}
 use Rattle.scheduling.proofs.Made.{plan-scheduled, steps-made}
 use Rattle.optimality.specs.Routes.{changes, route, racksAmong, visitors}
@@ -43,10 +43,7 @@ use Rattle.optimality.proofs.Told.{Read, read-route, read-visits, route
 -- a turn's move joins the timetable so far
 pub turn-scheduled : {F : Floor} {A B : Arrangement} {l : List Timed} {t : Timed} → Scheduled F A l B → Turn F l B t
     → Scheduled F A (t ∷ l) (afterMove B (t .move))
-turn-scheduled {l} {t} s w =
-    let b = stepFor-bounds l (t .rack) (t .move) in
-    scheduled-more s t (w .legal) (w .index) (w .is) (w .at) (w .own)
-    (omega (arith, b .0, w .ruled, ap (ofRack l) (w .own))) (omega (arith, b .1, w .ruled))
+turn-scheduled {t} s w = scheduled-more s t (w .legal) (w .index) (w .is) (w .at) (w .own) (w .ruled)
 
 -- One more move adds to what is kept of h, read off the arrangements by steps up to step N, just what it changes at its turn in the plan.
 abbrev Grown : Arrangement → (Arrangement → ℕ) → (List ℕ → List ℕ) → List Timed → Arrangement → Timed → ℕ → Type 0
@@ -72,10 +69,9 @@ module _ {F : Floor} (A : Arrangement) (h : Arrangement → ℕ) (kept : List �
       → ((i : ℕ) → t .step ≡ suc i → kept (changed (h (arranged A l i)) (h (afterMove B (t .move))))
       ≡ kept (changed (h (arranged A l i)) (h B)) ++ kept (changed (h B) (h (afterMove B (t .move)))))
       → Grown A h kept l B t N
-  unfolding stepFor
   settled-grows before behind one =
       let s = t .step - 1 in
-      let e : t .step ≡ suc s = omega (arith, w .ruled) in
+      let e : t .step ≡ suc s = omega (arith, byRule-bounds (w .ruled) .0) in
       let f : ℕ → ℕ = λ i. h (arranged A l i) in
       let g : ℕ → ℕ = λ i. h (arranged A (t ∷ l) i) in
       let b = h (afterMove B (t .move)) in
@@ -94,7 +90,7 @@ module _ {F : Floor} {A B : Arrangement} {l : List Timed} {t : Timed} (s : Sched
   more = turn-scheduled s w
 
   in-turn : ofRack l (suc (w .index)) < t .step
-  in-turn = omega (arith, stepFor-bounds l (t .rack) (t .move) .0, w .ruled, ap (ofRack l) (w .own))
+  in-turn = subst (λ (r : ℕ). ofRack l r < t .step) (w .own) (byRule-bounds (w .ruled) .0)
 
   -- the rack waits where the move takes it from, from the step before its own on
   waits : (i : ℕ) → t .step ≤ suc i → getD (arranged A l i) (w .index) 0 ≡ getD B (w .index) 0
@@ -138,7 +134,7 @@ module _ {F : Floor} {A B : Arrangement} {l : List Timed} {t : Timed} (s : Sched
         legal-free = legal-parts F B (t .move) .0 (w .legal) .2
 
         free-in-time : ofLeaving l (t .move .1) ≤ t .step
-        free-in-time = omega (arith, stepFor-bounds l (t .rack) (t .move) .1, w .ruled)
+        free-in-time = byRule-bounds (w .ruled) .1
 
         found : (i : ℕ) → t .step ≤ suc i → rackAt (arranged A l i) (t .move .0) ≡ suc (w .index)
         found i h = rack-is (F .positions) (arranged A l i) (t .move .0) (w .index) (s .sound i) (stands-by i) (waits i h ∙ w .at)

@@ -24,7 +24,7 @@ use Rattle.motion.specs.Move.{after}
 use Rattle.motion.proofs.MoveLaws.{after-length}
 use Rattle.motion.specs.Step.{legalStep}
 use Rattle.motion.specs.Replay.{ended, replayMoves, trace}
-use Rattle.motion.proofs.TraceLaws.{trace-keeps}
+use Rattle.motion.proofs.TraceLaws.{trace-turn, trace-keeps}
 use Rattle.motion.proofs.Lawful.{Leads, LeadsSteps, still, _then_, replayMoves-ended, replaySteps-ended}
 use Rattle.motion.proofs.LegalStepLaws.{legalStep-iff}
 use Rattle.motion.proofs.StepChange.{legal-valid}
@@ -83,6 +83,10 @@ module _ (F : Floor) {A C : Arrangement} {ms : List (ℕ × ℕ)} (sound : Sound
           start = sound;
           sound = λ i h. fits i h .0;
           racks = λ i h. fits i h .1;
+          makes =
+              λ i h.
+              let x = trace-turn legal i h in
+              record { moves = x .0; legal = legalStep-iff F (getD (trace after A steps) i []) (x .0) .0 (x .1); leads = x .2 };
           routes =
               λ q h.
               sym (route-place (trace after A steps) q ∙ trace-course (λ D. getD D q 0) after A steps)

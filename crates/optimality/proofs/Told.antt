@@ -2,8 +2,8 @@
 --
 --     toldRoute A l q    the route of rack q + 1 from A on, as the moves l, latest first, tell it
 --     toldVisits A l p   the visitors of p, as they tell them
---     timedAs l B m      the move m on the arrangement B that the moves l left, with its rack and its step
---     Turn F l B t       t is a legal move on B after the moves l: its rack, where it stands, and the step that the rule gives it
+--     timedAs l B m      the move m on the arrangement B that the moves l left, with its rack, its step and its place in its chain
+--     Turn F l B t       t is a legal move on B after the moves l: its rack, where it stands, and how the rule comes to its step and place
 --     turn-of            every legal move on a sound arrangement is one
 --     turn-others        at positions that it neither leaves nor enters it changes nothing
 --     told-own, told-others   a turn adds to its rack's route the position entered, and nothing to the others
@@ -37,8 +37,8 @@ use Rattle.motion.proofs.Lawful.{Leads, still, _then_}
 use Rattle.motion.specs.Sound.{Sound}
 use Rattle.motion.proofs.SoundLaws.{move-sound}
 use Rattle.motion.proofs.Test.{equal?}
-use Rattle.scheduling.specs.Making.{Timed, stepFor, timed}
-use Rattle.scheduling.proofs.Timing.{history}
+use Rattle.scheduling.specs.Making.{Timed, turnFor, timed}
+use Rattle.scheduling.proofs.Timing.{ByRule, turnFor-byRule, history}
 use Rattle.optimality.specs.Routes.{changesAfter, changes, route, racksAmong, visitors}
 use Rattle.optimality.proofs.Beginnings.{Begins, begins-itself, begins-more, begins-through, times, times-one, times-append}
 use Rattle.optimality.proofs.Course.{changed, changed-same, changed-other, after-first, after-repeat}
@@ -54,7 +54,8 @@ toldVisits A [] p = racksAmong (rackAt A p ∷ [])
 toldVisits A (t ∷ l) p = toldVisits A l p ++ cond (eqb (t .move .1) p) (t .rack ∷ []) []
 
 abbrev pub timedAs : List Timed → Arrangement → ℕ × ℕ → Timed
-timedAs l B m = record { rack = rackAt B (m .0); move = m; step = stepFor l (rackAt B (m .0)) m }
+timedAs l B m =
+    let turn = turnFor l (rackAt B (m .0)) m in record { rack = rackAt B (m .0); move = m; step = turn .0; place = turn .1 }
 
 pub record Turn (F : Floor) (l : List Timed) (B : Arrangement) (t : Timed) : Type 0 where
   pub sound : Sound (F .positions) B
@@ -63,13 +64,13 @@ pub record Turn (F : Floor) (l : List Timed) (B : Arrangement) (t : Timed) : Typ
   pub is : index < length B
   pub at : getD B index 0 ≡ t .move .0
   pub own : t .rack ≡ suc index
-  pub ruled : t .step ≡ stepFor l (t .rack) (t .move)
+  pub ruled : ByRule l (t .rack) (t .move) (t .step) (t .place)
 
 pub turn-of : (F : Floor) (l : List Timed) (B : Arrangement) (m : ℕ × ℕ) → Sound (F .positions) B → T (legalMove F B m)
     → Turn F l B (timedAs l B m)
 turn-of F l B m s legal =
     let w = rackAt-finds B (m .0) (legal-parts F B m .0 legal .1) in
-    record { sound = s; legal = legal; index = w .0; is = w .1; at = w .2; own = w .3; ruled = refl }
+    record { sound = s; legal = legal; index = w .0; is = w .1; at = w .2; own = w .3; ruled = turnFor-byRule l (rackAt B (m .0)) m }
 
 pub turn-others : {F : Floor} {l : List Timed} {B : Arrangement} {t : Timed} → Turn F l B t → (p : ℕ) → p ≢ t .move .0 → p ≢ t .move .1
     → rackAt (afterMove B (t .move)) p ≡ rackAt B p

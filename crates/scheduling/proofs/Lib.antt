@@ -16,3 +16,4 @@ pub mod StepMoves
 pub mod Tabled
 pub mod TabledSteps
 pub mod Timing
+pub mod Uncapped

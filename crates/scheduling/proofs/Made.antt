@@ -32,8 +32,8 @@ use Rattle.motion.proofs.StepLimits.{step-size}
 use Rattle.field.proofs.PackingLaws.{length-pack}
 use Rattle.timetable.specs.Reading.{moveTotal}
 use Rattle.scheduling.specs.Rows.{stepBytes, stepsBytes}
-use Rattle.scheduling.specs.Making.{Timed, ofRack, stepFor, timed, greatest, movesIn, inStep, stepsFrom, madeSteps}
-use Rattle.scheduling.proofs.Timing.{Ruled, none, ruled-timed, stepFor-bounds, ruled-filled, length-movesIn, steps-total}
+use Rattle.scheduling.specs.Making.{Timed, turnFor, timed, greatest, movesIn, inStep, stepsFrom, madeSteps}
+use Rattle.scheduling.proofs.Timing.{Ruled, none, ruled-timed, turnFor-byRule, ruled-filled, length-movesIn, steps-total}
 use Rattle.scheduling.proofs.Timing.{steps-length, steps-at, history, history-length, history-greatest, history-made}
 use Rattle.scheduling.proofs.Timing.{history-differ}
 use Rattle.scheduling.proofs.Schedule.{Scheduled, scheduled-none, scheduled-more, scheduled-leads}
@@ -70,10 +70,9 @@ unfolding timed
 plan-scheduled s still = s
 plan-scheduled {F} {l} s (_then_ {A = B} {x = m} legal p) =
     let w = rackAt-finds B (m .0) (legal-parts F B m .0 legal .1) in
-    let t : Timed = record { rack = rackAt B (m .0); move = m; step = stepFor l (rackAt B (m .0)) m } in
-    let b = stepFor-bounds l (rackAt B (m .0)) m in
-    let late : ofRack l (suc (w .0)) < t .step = subst (λ (r : ℕ). ofRack l r < t .step) (w .3) (b .0) in
-    plan-scheduled (scheduled-more s t legal (w .0) (w .1) (w .2) (w .3) late (b .1)) p
+    let turn = turnFor l (rackAt B (m .0)) m in
+    let t : Timed = record { rack = rackAt B (m .0); move = m; step = turn .0; place = turn .1 } in
+    plan-scheduled (scheduled-more s t legal (w .0) (w .1) (w .2) (w .3) (turnFor-byRule l (rackAt B (m .0)) m)) p
 
 pub record Made (F : Floor) (A : Arrangement) (ms : List (ℕ × ℕ)) (B : Arrangement) : Type 0 where
   -- each step is legal at its turn, and the last comes to where the plan does

@@ -26,7 +26,8 @@ use Rattle.motion.proofs.Inhabited.{floorF, starts, plan, plan-leads, starts-so
 use Rattle.plan.proofs.Examples.{plan-open}
 use Rattle.plan.specs.Plan.{planMoves, planAnswer}
 use Rattle.timetable.specs.Timetable.{stepBits, allStepBits, timetableBits, timetableRecord}
-use Rattle.scheduling.specs.Making.{ofRack, ofLeaving, stepFor, timed, greatest, inStep, movesIn, stepsFrom, madeSteps}
+use Rattle.scheduling.specs.Making.{ofRack, ofLeaving, placeLeaving, stepAfter, placeAfter, turnAfter, turnFor, timed}
+use Rattle.scheduling.specs.Making.{greatest, inStep, movesIn, stepsFrom, madeSteps}
 use Rattle.scheduling.specs.Windows.{allSteps}
 use Rattle.scheduling.proofs.TabledSteps.{allSteps-made}
 use Rattle.scheduling.specs.Maker.{madeOf, makerAnswer, bufferAfter, Timetabled}
@@ -51,9 +52,9 @@ abbrev pub plan₂ : List ℕ
 plan₂ = 0x00 ∷ 0x00 ∷ 0x08 ∷ 0x04 ∷ 0x30 ∷ 0x01 ∷ []
 
 unfoldable pub maker-open : List ℕ → List ℕ → List ℕ → List ℕ
-unfolding plan-open planMoves movesOf bufferAfter makerAnswer madeOf madeSteps timed stepFor rackAt rackFrom ofRack ofLeaving
-    greatest stepsFrom movesIn inStep sort insert timetableRecord timetableBits allStepBits stepBits pairBits padded pad toBytes
-    bytes
+unfolding plan-open planMoves movesOf bufferAfter makerAnswer madeOf madeSteps timed turnFor turnAfter placeAfter stepAfter
+    ofRack ofLeaving placeLeaving rackAt rackFrom greatest stepsFrom movesIn inStep sort insert
+    timetableRecord timetableBits allStepBits stepBits pairBits padded pad toBytes bytes
 maker-open o p buffer = bufferAfter o p buffer
 
 -- "Its timetable is 00 00 08 02 00 10 C2 02 04 30 80."

@@ -5,7 +5,7 @@
 --                                        the tables x and y, and the greatest step g
 --     pass-first, pass-next, pass-last   how that goes on
 -- Assumes nothing.
-use Prim.Native.Nat.{ℕ, _+_, _-_, _*_, _≤_, _<_, max}
+use Prim.Native.Nat.{ℕ, _+_, _-_, _*_, _/_, _≤_, _<_, max}
 use mathlib.Core.Path.{_≡_, refl, sym, ap, _∙_}
 use mathlib.Core.Bool.{Bool}
 use mathlib.Core.List.{List, _∷_}
@@ -16,7 +16,8 @@ use lib.ListN.{getD, set, replicate}
 use Rattle.field.specs.Bits.{field}
 use Rattle.field.specs.Listed.{moveSize, listedMoves, movesOf, movesAt}
 use Rattle.field.proofs.ListedLaws.{size-none, moves-next}
-use Rattle.scheduling.specs.Filling.{Pass, started, stepBy, noted, passed, pass, PassMade}
+use Rattle.scheduling.specs.Filling.{Pass, started, turnBy, noted, passed, pass, PassMade}
+use Rattle.motion.specs.LegalStep.{longestTrain}
 use Rattle.scheduling.proofs.FillingLaws.{Early, early-started, early-passed}
 
 module _ (first : ℕ) (w : List ℕ) (t a b : ℕ) where
@@ -34,7 +35,8 @@ module _ (first : ℕ) (w : List ℕ) (t a b : ℕ) where
 
 module _ (s : List ℕ) (e : Bool) (k first : ℕ) (w₀ : List ℕ) where
   pub record ToPass (w x y : List ℕ) (g j : ℕ) : Type 0 where
-    pub to-do : pass first (record { arrived = x; left = y; window = w; greatest = g }) (movesAt e s (6 * (moveSize e * j)) (k - j))
+    pub to-do : pass first (record { arrived = x; left = y; window = w; greatest = g })
+        (movesAt e s (6 * (moveSize e * j)) (k - j))
         ≡ pass first (started w₀) (movesAt e s 0 k)
     pub early : Early j (record { arrived = x; left = y; window = w; greatest = g })
 
@@ -47,13 +49,14 @@ module _ (s : List ℕ) (e : Bool) (k first : ℕ) (w₀ : List ℕ) where
     P : Pass
     P = record { arrived = x; left = y; window = w; greatest = g }
 
-    pub pass-next : (t : ℕ) → t ≡ max (getD x a 0 + 1) (getD y b 0) → (w′ : List ℕ) → w′ ≡ noted first w t a b → (g′ : ℕ) → g′ ≡ max g t
-        → ToPass w′ (set x b t) (set y a t) g′ (j + 1)
-    unfolding passed stepBy pass P
-    pass-next t et w′ ew g′ eg =
+    pub pass-next : (u : ℕ) → u ≡ max (longestTrain * (getD x a 0 + 1)) (getD y b 0 + 1) → (w′ : List ℕ)
+        → w′ ≡ noted first w (u / longestTrain) a b → (g′ : ℕ) → g′ ≡ max g (u / longestTrain)
+        → ToPass w′ (set x b (u / longestTrain)) (set y a u) g′ (j + 1)
+    unfolding passed turnBy pass P
+    pass-next u eu w′ ew g′ eg =
         let next : (a, b) ∷ movesAt e s (6 * (moveSize e * (j + 1))) (k - (j + 1)) ≡ movesAt e s (6 * (moveSize e * j)) (k - j) =
         rw (ea, eb) (sym (moves-next e s j k h)) in
-        rw (ew, eg, et)
+        rw (ew, eg, eu)
         (record {
           to-do = ap (pass first P) next ∙ p .to-do;
           early = early-passed first j P (p .early) (a, b);

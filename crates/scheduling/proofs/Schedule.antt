@@ -5,20 +5,21 @@
 --     Scheduled F A l B   the steps of l, made in turn from A, are legal and come to B; where a rack of B stands, it has stood since its
 --                         last step, and what is vacant in B has been so since the last step in which it was left
 --     scheduled-none      no moves are so scheduled
---     scheduled-more      a legal move in a step after its rack's last, and not before the last that left the place that it enters, joins
+--     placeIn i l p       the place in its chain of the move of step i that leaves p
+--     scheduled-more      a legal move whose step and place are the rule's joins
 --     scheduled-leads     the steps from 1 on, sorted, lead from A to B
 -- Assumes nothing.
 use Prim.Native.Nat.{ℕ, zero, suc, _+_, _≤_, _<_}
-use mathlib.Core.Bool.{cond}
-use mathlib.Core.Path.{_≡_, refl, sym, _∙_, ap, subst}
+use mathlib.Core.Bool.{Bool, true, false, cond}
+use mathlib.Core.Path.{_≡_, refl, sym, _∙_, ap, subst, fun-ext}
 use mathlib.Core.Logic.{_≢_, ⊎-elim, dite}
-use mathlib.Core.List.{List, [], _∷_}
+use mathlib.Core.List.{List, [], _∷_, List·Memᴰ, List·Memᴰ·head, List·Memᴰ·tail}
 use native.Mathlib.Omega.{arith}
 use native.Mathlib.Decide.{decLe}
 use native.Mathlib.Nat.{add-zero, add-suc, suc-add}
-use lib.Dec.{T, leb}
+use lib.Dec.{T, eqb, leb}
 use lib.ListN.{length, getD}
-use borrow.Author.Tests.{le-leb, lt-leb}
+use borrow.Author.Tests.{le-leb, lt-leb, eq-eqb, ne-eqb}
 use Rattle.order.specs.Floor.{Floor}
 use Rattle.motion.specs.Arrangement.{Arrangement, vacant}
 use Rattle.motion.proofs.ArrangementLaws.{occupied-rack, vacant-racks}
@@ -31,10 +32,11 @@ use Rattle.motion.proofs.Lawful.{LeadsSteps, still, _then_}
 use Rattle.motion.proofs.Test.{equal?}
 use Rattle.motion.proofs.LegalStepLaws.{legalStep-iff}
 use Rattle.motion.specs.StepOf.{sort}
-use Rattle.scheduling.specs.Making.{Timed, ofRack, ofLeaving, greatest, inStep, movesIn, stepsFrom}
-use Rattle.scheduling.proofs.StepMoves.{StepMoves, Stays, stepMoves-none, stepMoves-legal, stepMoves-after, joining, carrying}
+use Rattle.scheduling.specs.Making.{Timed, ofRack, ofLeaving, placeLeaving, greatest, inStep, movesIn, stepsFrom}
+use Rattle.scheduling.proofs.StepMoves.{StepMoves, Stays, Joins, first, next, stepMoves-none, stepMoves-legal, stepMoves-after}
+use Rattle.scheduling.proofs.StepMoves.{joining, carrying}
 use Rattle.scheduling.proofs.Timing.{ofRack-same, ofRack-other, ofLeaving-same, ofLeaving-other, greatest-most, inStep-same}
-use Rattle.scheduling.proofs.Timing.{inStep-other}
+use Rattle.scheduling.proofs.Timing.{inStep-other, ByRule, leads, behind, later, byRule-bounds}
 
 unfoldable pub arranged : Arrangement → List Timed → ℕ → Arrangement
 arranged A [] i = A
@@ -49,9 +51,65 @@ pub arranged-from : (A : Arrangement) (t : Timed) (l : List Timed) (i : ℕ) →
 unfolding arranged
 arranged-from A t l i h = rw (le-leb (t .step) i h)
 
+-- the place in its chain of the move of step i that leaves p
+unfoldable pub placeIn : ℕ → List Timed → ℕ → ℕ
+placeIn i [] p = 0
+placeIn i (t ∷ l) p = cond (eqb (t .step) i) (cond (eqb (t .move .0) p) (t .place) (placeIn i l p)) (placeIn i l p)
+
+module _ (i : ℕ) (t : Timed) (l : List Timed) where
+  placeIn-step : t .step ≢ i → (p : ℕ) → placeIn i (t ∷ l) p ≡ placeIn i l p
+  unfolding placeIn
+  placeIn-step e p = rw (ne-eqb (t .step) i e) refl
+
+  placeIn-place : (p : ℕ) → t .move .0 ≢ p → placeIn i (t ∷ l) p ≡ placeIn i l p
+  unfolding placeIn
+  placeIn-place p d = rw (ne-eqb (t .move .0) p d) (either (eqb (t .step) i))
+    where
+      either : (b : Bool) → cond b (placeIn i l p) (placeIn i l p) ≡ placeIn i l p
+      either true = refl
+      either false = refl
+
+  placeIn-same : t .step ≡ i → placeIn i (t ∷ l) (t .move .0) ≡ t .place
+  unfolding placeIn
+  placeIn-same e = rw (eq-eqb (t .step) i e, eq-eqb (t .move .0) (t .move .0) refl) refl
+
+-- the latest move that left p, in the step in which it did
+leaving-place : (l : List Timed) (p i : ℕ) → ofLeaving l p ≡ suc i → placeLeaving l p ≡ placeIn (suc i) l p
+unfolding ofLeaving placeLeaving
+leaving-place [] p i e = absurd (omega arith)
+leaving-place (t ∷ l) p i e =
+    ⊎-elim
+    (λ (d : t .move .0 ≡ p).
+    let s : t .step ≡ suc i = rw (eq-eqb (t .move .0) p d) at e in
+    rw (eq-eqb (t .move .0) p d) (sym (ap (placeIn (suc i) (t ∷ l)) (sym d) ∙ placeIn-same (suc i) t l s)))
+    (λ (d : t .move .0 ≢ p).
+    let r : ofLeaving l p ≡ suc i = rw (ne-eqb (t .move .0) p d) at e in
+    rw (ne-eqb (t .move .0) p d) (leaving-place l p i r ∙ sym (placeIn-place (suc i) t l p d)))
+    (equal? (t .move .0) p)
+
+leaving-there : (l : List Timed) (p i : ℕ) → ofLeaving l p ≡ suc i → (x : ℕ × ℕ) × List·Memᴰ x (inStep (suc i) l) × (x .0 ≡ p)
+unfolding ofLeaving
+leaving-there [] p i e = absurd (omega arith)
+leaving-there (t ∷ l) p i e =
+    ⊎-elim
+    (λ (d : t .move .0 ≡ p).
+    let s : t .step ≡ suc i = rw (eq-eqb (t .move .0) p d) at e in
+    (t .move, rw (inStep-same (suc i) t l s) (List·Memᴰ·head refl), d))
+    (λ (d : t .move .0 ≢ p).
+    let w = leaving-there l p i (rw (ne-eqb (t .move .0) p d) at e) in
+    (w .0, inStep-more (suc i) t l (w .0) (w .1), w .2))
+    (equal? (t .move .0) p)
+  where
+    inStep-more : (i : ℕ) (t : Timed) (l : List Timed) (x : ℕ × ℕ) → List·Memᴰ x (inStep i l) → List·Memᴰ x (inStep i (t ∷ l))
+    inStep-more i t l x n =
+        ⊎-elim
+        (λ (s : t .step ≡ i). rw (inStep-same i t l s) (List·Memᴰ·tail n))
+        (λ (s : t .step ≢ i). rw (inStep-other i t l s) n)
+        (equal? (t .step) i)
+
 pub record Scheduled (F : Floor) (A : Arrangement) (l : List Timed) (B : Arrangement) : Type 0 where
   -- each step is legal, and leads on
-  pub steps : (i : ℕ) → StepMoves F (arranged A l i) (inStep (suc i) l) (arranged A l (suc i))
+  pub steps : (i : ℕ) → StepMoves F (arranged A l i) (inStep (suc i) l) (arranged A l (suc i)) (placeIn (suc i) l)
   pub sound : (i : ℕ) → Sound (F .positions) (arranged A l i)
   pub racks : (i : ℕ) → length (arranged A l i) ≡ length B
   -- the first begins at A, and the last comes to B
@@ -66,7 +124,7 @@ pub scheduled-none : (F : Floor) (A : Arrangement) → Sound (F .positions) A �
 unfolding arranged inStep
 scheduled-none F A s =
     record {
-      steps = λ i. stepMoves-none F A;
+      steps = λ i. stepMoves-none F A (placeIn (suc i) []);
       sound = λ i. s;
       racks = λ i. refl;
       first = refl;
@@ -90,16 +148,22 @@ arranged-either P A t l i from before =
 
 module _ {F : Floor} {A B : Arrangement} {l : List Timed} (s : Scheduled F A l B) (t : Timed) (legal : T (legalMove F B (t .move)))
     (r : ℕ) (is : r < length B) (at : getD B r 0 ≡ t .move .0) (own : t .rack ≡ suc r)
-    (late : ofRack l (suc r) < t .step) (free : ofLeaving l (t .move .1) ≤ t .step) where
+    (turn : ByRule l (t .rack) (t .move) (t .step) (t .place)) where
+  late : ofRack l (suc r) < t .step
+  late = subst (λ (x : ℕ). ofRack l x < t .step) own (byRule-bounds turn .0)
+
+  free : ofLeaving l (t .move .1) ≤ t .step
+  free = byRule-bounds turn .1
+
   -- from the step on, and just before it, the rack waits where it is; from the step on, the place where it goes is vacant
   waits : (i : ℕ) → t .step ≤ suc i → getD (arranged A l i) r 0 ≡ t .move .0
-  waits i h = s .stood i r is (omega arith) ∙ at
+  waits i h = s .stood i r is (omega (arith, late)) ∙ at
 
   in-time : (i : ℕ) → r < length (arranged A l i)
   in-time i = rw (s .racks i) is
 
   vacant-then : (i : ℕ) → t .step ≤ i → T (vacant (arranged A l i) (t .move .1))
-  vacant-then i h = s .vacated i (t .move .1) (legal-parts F B (t .move) .0 legal .2) (omega arith)
+  vacant-then i h = s .vacated i (t .move .1) (legal-parts F B (t .move) .0 legal .2) (omega (arith, free))
 
   legal-then : (i : ℕ) → t .step ≤ i → T (legalMove F (arranged A l i) (t .move))
   legal-then i h =
@@ -121,17 +185,43 @@ module _ {F : Floor} {A B : Arrangement} {l : List Timed} (s : Scheduled F A l B
         behind = waits (suc i) (omega arith);
       }
 
-  more-steps : (i : ℕ) → StepMoves F (arranged A (t ∷ l) i) (inStep (suc i) (t ∷ l)) (arranged A (t ∷ l) (suc i))
+  -- its place in the chain of its step
+  joins-by : (i : ℕ) → t .step ≡ suc i → {q : ℕ} → ByRule l (t .rack) (t .move) (t .step) q
+      → Joins (arranged A l i) (inStep (suc i) l) (placeIn (suc i) l) (t .move) q
+  joins-by i e (leads b a) = first (s .vacated i (t .move .1) (legal-parts F B (t .move) .0 legal .2) (omega arith))
+  joins-by i e (later a b c) = first (s .vacated i (t .move .1) (legal-parts F B (t .move) .0 legal .2) (omega arith))
+  joins-by i e (behind a d h) =
+      let there : ofLeaving l (t .move .1) ≡ suc i = d ∙ e in
+      let w = leaving-there l (t .move .1) i there in
+      rw (leaving-place l (t .move .1) i there) (next (w .1) (w .2) (rw (← leaving-place l (t .move .1) i there) h))
+
+  joins-then : (i : ℕ) → t .step ≡ suc i
+      → Joins (arranged A l i) (inStep (suc i) l) (placeIn (suc i) l) (t .move) (placeIn (suc i) (t ∷ l) (t .move .0))
+  joins-then i e = rw (placeIn-same (suc i) t l e) (joins-by i e turn)
+
+  more-steps : (i : ℕ) → StepMoves F (arranged A (t ∷ l) i) (inStep (suc i) (t ∷ l)) (arranged A (t ∷ l) (suc i)) (placeIn (suc i) (t ∷ l))
   more-steps i =
       dite (decLe (t .step) i)
       (λ h.
-      rw (arranged-from A t l i h, arranged-from A t l (suc i) (omega arith), inStep-other (suc i) t l (λ e. omega arith))
+      rw (
+        arranged-from A t l i h,
+        arranged-from A t l (suc i) (omega arith),
+        inStep-other (suc i) t l (λ e. omega arith),
+        fun-ext (placeIn-step (suc i) t l (λ e. omega arith)),
+      )
       (carrying (s .steps i) (stays-then i (omega arith)) (vacant-then i h)))
       (λ h.
       rw (arranged-before A t l i (omega arith))
       (dite (decLe (t .step) (suc i))
-      (λ k. rw (arranged-from A t l (suc i) k, inStep-same (suc i) t l (omega arith)) (joining (s .steps i) (stays-then i k)))
-      (λ k. rw (arranged-before A t l (suc i) (omega arith), inStep-other (suc i) t l (λ e. omega arith)) (s .steps i))))
+      (λ k. rw (arranged-from A t l (suc i) k, inStep-same (suc i) t l (omega arith))
+      (joining (s .steps i) (stays-then i k) (placeIn (suc i) (t ∷ l)) (joins-then i (omega arith))
+      (λ p d. placeIn-place (suc i) t l p (λ e. d (sym e)))))
+      (λ k. rw (
+        arranged-before A t l (suc i) (omega arith),
+        inStep-other (suc i) t l (λ e. omega arith),
+        fun-ext (placeIn-step (suc i) t l (λ e. omega arith)),
+      )
+      (s .steps i))))
 
   sound-end : Sound (F .positions) B
   sound-end = subst (Sound (F .positions)) (s .last (greatest l) (omega arith)) (s .sound (greatest l))
@@ -188,7 +278,7 @@ module _ {F : Floor} {A B : Arrangement} {l : List Timed} (s : Scheduled F A l B
         λ i. arranged-either (λ (C : Arrangement). length C ≡ length (afterMove B (t .move))) A t l i
         (λ h. move-length (arranged A l i) (t .move) ∙ s .racks i ∙ sym (move-length B (t .move)))
         (λ h. s .racks i ∙ sym (move-length B (t .move)));
-    first = arranged-before A t l 0 (omega arith) ∙ s .first;
+    first = arranged-before A t l 0 (omega (arith, late)) ∙ s .first;
     last =
         λ i h. arranged-from A t l i (omega (arith, greatest-most t l))
         ∙ ap (λ (C : Arrangement). afterMove C (t .move)) (s .last i (omega (arith, greatest-most t l)));

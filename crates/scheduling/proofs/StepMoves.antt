@@ -1,6 +1,7 @@
 -- A legal step told by its moves in whatever order they were found: as a step is made move by move, its order comes last, by `sort`.
 --
---     StepMoves F A ms B    the moves ms, whatever their order, make a legal step from the arrangement A to B
+--     StepMoves F A ms B at    the moves ms, whatever their order, make a legal step from the arrangement A to B, and in its chain the move
+--                           that leaves p has the place `at p`
 --     train-more            a train stays one with more moves, and where its leader's goal stays vacant
 --     stepMoves-takes       each move takes the rack at the position left to the position entered
 --     stepMoves-none        no moves make a step from A to A
@@ -13,12 +14,13 @@
 --     joining               a move of a rack that stays, into a position vacant after the step, can be made in the step
 --     carrying              a rack that stays, carried beforehand to a position vacant before and after the step, changes nothing in it
 -- Assumes nothing.
-use Prim.Native.Nat.{ℕ, suc, _<_}
+use Prim.Native.Nat.{ℕ, suc, _≤_, _<_}
 use mathlib.Core.Path.{_≡_, refl, sym, _∙_, ap, subst, fun-ext}
 use mathlib.Core.Logic.{_≢_, ⊎-elim, ∥∥₁-elim}
 use mathlib.Core.HLevel.{⊥-prop, ¬-prop}
 use mathlib.Core.List.{List, [], _∷_, map, List·Memᴰ, List·Memᴰ·head, List·Memᴰ·tail, List·Memᴰ·not-nil, Pairwise·nil, Pairwise·imp-of-mem}
 use native.Mathlib.Nat.{lt-irrefl}
+use native.Mathlib.Omega.{arith}
 use lib.Dec.{T}
 use lib.ListN.{length, getD}
 use lib.Seq.{ext-getD}
@@ -34,12 +36,12 @@ use Rattle.motion.proofs.Test.{equal?}
 use Rattle.motion.proofs.ListLaws.{by-member, pairwise-more, keys-same, KeysDiffer}
 use Rattle.motion.proofs.StepTestsLaws.{entered}
 use Rattle.motion.proofs.StepTestsLaws.{left, onFloor-iff, occupied-iff, Goes, taken, stays, goesTo-cases, goesTo-stays, goesTo-takes}
-use Rattle.motion.specs.LegalStep.{Train, leader, follows, LegalStep}
+use Rattle.motion.specs.LegalStep.{longestTrain, Train, leader, follows, LegalStep}
 use Rattle.motion.proofs.LegalStepLaws.{after-nothing}
 use Rattle.motion.specs.StepOf.{sort}
 use Rattle.motion.proofs.StepOfLaws.{sort-iff, sort-ascends}
 
-pub record StepMoves (F : Floor) (A : Arrangement) (ms : List (ℕ × ℕ)) (B : Arrangement) : Type 0 where
+pub record StepMoves (F : Floor) (A : Arrangement) (ms : List (ℕ × ℕ)) (B : Arrangement) (at : ℕ → ℕ) : Type 0 where
   -- no two moves leave one position
   pub lefts : KeysDiffer left ms
   pub joins : (m : ℕ × ℕ) → List·Memᴰ m ms → T (onFloor F m)
@@ -47,7 +49,7 @@ pub record StepMoves (F : Floor) (A : Arrangement) (ms : List (ℕ × ℕ)) (B :
   -- no two enter one position
   pub alone : (m m′ : ℕ × ℕ) → List·Memᴰ m ms → List·Memᴰ m′ ms → m .1 ≡ m′ .1 → m .0 ≡ m′ .0
   pub apart : (m : ℕ × ℕ) → List·Memᴰ m ms → m .0 ≢ m .1
-  pub trains : (m : ℕ × ℕ) → List·Memᴰ m ms → (k : ℕ) × Train A ms k m
+  pub trains : (m : ℕ × ℕ) → List·Memᴰ m ms → (at (m .0) ≤ longestTrain) × Train A ms (at (m .0)) m
   pub leads : after A ms ≡ B
 
 pub train-more : {A B : Arrangement} {ms ns : List (ℕ × ℕ)} {i : ℕ} {m : ℕ × ℕ} → ((x : ℕ × ℕ) → List·Memᴰ x ms → List·Memᴰ x ns)
@@ -62,8 +64,8 @@ stepMoves-takes {ms} {m} d k = go (goesTo-cases ms (m .0))
     go (taken m′ k′ e g) = g ∙ ap entered (keys-same left ms d k′ k e)
     go (stays h _) = absurd (h m k refl)
 
-pub stepMoves-none : (F : Floor) (A : Arrangement) → StepMoves F A [] A
-stepMoves-none F A =
+pub stepMoves-none : (F : Floor) (A : Arrangement) (at : ℕ → ℕ) → StepMoves F A [] A at
+stepMoves-none F A at =
     record {
       lefts = Pairwise·nil;
       joins = λ m k. absurd (List·Memᴰ·not-nil k);
@@ -74,7 +76,7 @@ stepMoves-none F A =
       leads = after-nothing A;
     }
 
-module _ {F : Floor} {A B : Arrangement} {ms : List (ℕ × ℕ)} (s : StepMoves F A ms B) where
+module _ {F : Floor} {A B : Arrangement} {ms : List (ℕ × ℕ)} {at : ℕ → ℕ} (s : StepMoves F A ms B at) where
   pub stepMoves-legal : LegalStep F A (sort ms)
   stepMoves-legal =
       let up = sort-ascends ms (s .lefts) in
@@ -91,7 +93,7 @@ module _ {F : Floor} {A B : Arrangement} {ms : List (ℕ × ℕ)} (s : StepMoves
             (λ l. lt-irrefl (y .0) (subst (λ (p : ℕ). p < y .0) (s .alone x y (sort-iff x ms .0 k) (sort-iff y ms .0 l) e) h))))
             up;
         trains = λ m k.
-            let t = s .trains m (sort-iff m ms .0 k) in (t .0, train-more (λ x n. sort-iff x ms .1 n) (λ x n v. v) (t .1));
+            let t = s .trains m (sort-iff m ms .0 k) in (at (m .0), t .0, train-more (λ x n. sort-iff x ms .1 n) (λ x n v. v) (t .1));
       }
 
   sort-goes : (p : ℕ) → goesTo (sort ms) p ≡ goesTo ms p
@@ -130,7 +132,12 @@ pub record Stays (F : Floor) (A B : Arrangement) (m : ℕ × ℕ) : Type 0 where
   pub before : getD A rack 0 ≡ m .0
   pub behind : getD B rack 0 ≡ m .0
 
-module _ {F : Floor} {A B : Arrangement} {ms : List (ℕ × ℕ)} {m : ℕ × ℕ} (s : StepMoves F A ms B) (w : Stays F A B m) where
+-- the place that the move has in its chain: it leads, or follows a move of the step
+pub data Joins (A : Arrangement) (ms : List (ℕ × ℕ)) (at : ℕ → ℕ) (m : ℕ × ℕ) : ℕ → Type 0 where
+  first : T (vacant A (m .1)) → Joins A ms at m 1
+  next : {x : ℕ × ℕ} → List·Memᴰ x ms → x .0 ≡ m .1 → at (m .1) < longestTrain → Joins A ms at m (suc (at (m .1)))
+
+module _ {F : Floor} {A B : Arrangement} {ms : List (ℕ × ℕ)} {at : ℕ → ℕ} {m : ℕ × ℕ} (s : StepMoves F A ms B at) (w : Stays F A B m) where
   vacated : T (vacant B (m .1))
   vacated = legal-parts F B m .0 (w .legal) .2
 
@@ -148,22 +155,11 @@ module _ {F : Floor} {A B : Arrangement} {ms : List (ℕ × ℕ)} {m : ℕ × �
       ne (ap (λ (j : ℕ). getD A j 0) same ∙ w .before)
 
   -- who stood where m goes has left, or nobody stood there
-  joined-train : (k : ℕ) × Train A (m ∷ ms) k m
-  joined-train = ⊎-elim behind-it (λ v. (1, leader (List·Memᴰ·head refl) v)) (occupied-or-vacant A (m .1))
-    where
-      behind-it : T (occupied A (m .1)) → (k : ℕ) × Train A (m ∷ ms) k m
-      behind-it o = on (goesTo-cases ms (m .1))
-        where
-          q : (i : ℕ) × (i < length A) × (getD A i 0 ≡ m .1)
-          q = occupied-rack A (m .1) .0 o
-
-          on : Goes ms (m .1) → (k : ℕ) × Train A (m ∷ ms) k m
-          on (taken x k e g) =
-              let t = s .trains x k in
-              (suc (t .0), follows (List·Memᴰ·head refl) (sym e) (train-more (λ x k. List·Memᴰ·tail k) (λ x k v. v) (t .1)))
-          on (stays h g) =
-              absurd
-              (vacant-racks B (m .1) .0 vacated (q .0) (rw (same-length s) (q .1)) (goes s (q .0) (q .1) ∙ ap (goesTo ms) (q .2) ∙ g))
+  joined-train : {q : ℕ} → Joins A ms at m q → (q ≤ longestTrain) × Train A (m ∷ ms) q m
+  joined-train (first v) = (omega arith, leader (List·Memᴰ·head refl) v)
+  joined-train (next {x = x} k e h) =
+      let t : Train A ms (at (m .1)) x = subst (λ (p : ℕ). Train A ms (at p) x) e (s .trains x k .1) in
+      (omega arith, follows (List·Memᴰ·head refl) (sym e) (train-more (λ x k. List·Memᴰ·tail k) (λ x k v. v) t))
 
   joined-after : (i : ℕ) → i < length A → getD (after A (m ∷ ms)) i 0 ≡ getD (afterMove B m) i 0
   unfolding goesTo
@@ -176,8 +172,9 @@ module _ {F : Floor} {A B : Arrangement} {ms : List (ℕ × ℕ)} {m : ℕ × �
       after-at A (m ∷ ms) i h ∙ rw (ne-eqb (getD A i 0) (m .0) e) (sym (moved-other B m i h′ (only-after i h e) ∙ goes s i h)))
       (equal? (getD A i 0) (m .0))
 
-  pub joining : StepMoves F A (m ∷ ms) (afterMove B m)
-  joining =
+  pub joining : (at′ : ℕ → ℕ) → Joins A ms at m (at′ (m .0)) → ((p : ℕ) → p ≢ m .0 → at′ p ≡ at p)
+      → StepMoves F A (m ∷ ms) (afterMove B m) at′
+  joining at′ place other =
       record {
         lefts = pairwise-more (λ x y. ¬-prop) (λ x k e. others-left x k (sym e)) (s .lefts);
         joins = λ x k. by-member k (λ e. rw e (legal-parts F B m .0 (w .legal) .0)) (s .joins x);
@@ -190,8 +187,13 @@ module _ {F : Floor} {A B : Arrangement} {ms : List (ℕ × ℕ)} {m : ℕ × �
         apart = λ x k. by-member k (λ e. rw e (legal-apart F B m (w .legal))) (s .apart x);
         trains =
             λ x k.
-            by-member k (λ e. let t = joined-train in (t .0, subst (Train A (m ∷ ms) (t .0)) (sym e) (t .1)))
-            (λ n. let t = s .trains x n in (t .0, train-more (λ y l. List·Memᴰ·tail l) (λ y l v. v) (t .1)));
+            by-member k
+            (λ e.
+            subst (λ (y : ℕ × ℕ). (at′ (y .0) ≤ longestTrain) × Train A (m ∷ ms) (at′ (y .0)) y) (sym e) (joined-train place))
+            (λ n.
+            let t = s .trains x n in
+            let same : at′ (x .0) ≡ at (x .0) = other (x .0) (others-left x n) in
+            rw same (t .0, train-more (λ y l. List·Memᴰ·tail l) (λ y l v. v) (t .1)));
         leads =
             ext-getD 0 (after A (m ∷ ms)) (afterMove B m) (after-length A (m ∷ ms) ∙ sym (move-length B m ∙ same-length s))
             (λ i h. joined-after i (rw (after-length A (m ∷ ms)) at h));
@@ -221,7 +223,7 @@ module _ {F : Floor} {A B : Arrangement} {ms : List (ℕ × ℕ)} {m : ℕ × �
         ∙ sym (moved-other B m i h′ (only-after i h e)))
         (equal? (getD A i 0) (m .0))
 
-    pub carrying : StepMoves F (afterMove A m) ms (afterMove B m)
+    pub carrying : StepMoves F (afterMove A m) ms (afterMove B m) at
     carrying =
         record {
           lefts = s .lefts;

@@ -1,11 +1,17 @@
 -- Laws of the steps that the making rule gives, as numbers: which there are, how many moves each has, and that the order in which the timed
 -- moves are listed does not matter.
 --
---     Ruled l               each of the moves l, latest first, has the step that the rule gives it after those before it
+--     Ruled l               each of the moves l, latest first, has the step and the place that the rule gives it after those before it
 --     ruled-timed           so it is with the moves that `timed` lists, turned round
---     stepFor-bounds        a step is at least 1, later than the rack's step before and not before the step of who left the place
+--     ByRule l r m s q      the three ways that the rule takes to the step s and the place q: a move leads, in the rack's next step, where
+--                           the position that it enters was left before; it follows the move that left it, in a place up to the longest
+--                           train's; or it would be one too many, and leads one step later
+--     turnFor-byRule, timed-byRule    every move is timed in one of them
+--     byRule-bounds         a step is later than the rack's step before and not before the step of who left the place
+--     byRule-place          a place is one of the longest train's
 --     ofRack-same, ofRack-other         the step of a rack's latest move, with one more move: its own, or another's
 --     ofLeaving-same, ofLeaving-other   the same of the latest move that left a position
+--     placeLeaving-same, placeLeaving-other   and of its place
 --     ofRack-most, ofLeaving-most, greatest-most   no step is above the greatest
 --     ruled-next            no step is more than one above the greatest before it
 --     inStep-same, inStep-other   a move in its own step, and in another
@@ -29,7 +35,8 @@ use native.Mathlib.Omega.{arith}
 use native.Mathlib.Decide.{decLt}
 use lib.Dec.{eqb, ltb}
 use lib.ListN.{length, length-reverse}
-use borrow.Author.Tests.{eq-eqb, ne-eqb}
+use borrow.Author.Tests.{eq-eqb, ne-eqb, lt-ltb, le-ltb}
+use Rattle.motion.specs.LegalStep.{longestTrain}
 use Rattle.motion.specs.Arrangement.{Arrangement}
 use Rattle.motion.specs.Move.{afterMove}
 use Rattle.motion.proofs.Test.{equal?, cond-either}
@@ -38,20 +45,54 @@ use Rattle.motion.proofs.StepTestsLaws.{left}
 use Rattle.motion.specs.StepOf.{insert, sort}
 use Rattle.motion.proofs.StepOfLaws.{sort-iff, sort-ascends, ascending-same}
 use Rattle.timetable.specs.Reading.{moveTotal}
-use Rattle.scheduling.specs.Making.{Timed, ofRack, ofLeaving, stepFor, timed, greatest, inStep, movesIn, stepsFrom, madeSteps}
+use Rattle.scheduling.specs.Making.{Timed, ofRack, ofLeaving, placeLeaving, stepAfter, placeAfter, turnAfter, turnFor, timed}
+use Rattle.scheduling.specs.Making.{greatest, inStep, movesIn, stepsFrom, madeSteps}
 
 pub data Ruled : List Timed → Type 0 where
   none : Ruled []
-  more : {t : Timed} {l : List Timed} → t .step ≡ stepFor l (t .rack) (t .move) → Ruled l → Ruled (t ∷ l)
+  more : {t : Timed} {l : List Timed} → (t .step, t .place) ≡ turnFor l (t .rack) (t .move) → Ruled l → Ruled (t ∷ l)
 
 pub ruled-timed : (A : Arrangement) (l : List Timed) (ms : List (ℕ × ℕ)) → Ruled l → Ruled (reverseAux (timed A l ms) l)
 unfolding timed
 ruled-timed A l [] r = r
 ruled-timed A l (m ∷ ms) r = ruled-timed (afterMove A m) _ ms (more refl r)
 
-pub stepFor-bounds : (l : List Timed) (r : ℕ) (m : ℕ × ℕ) → (ofRack l r < stepFor l r m) × (ofLeaving l (m .1) ≤ stepFor l r m)
-unfolding stepFor
-stepFor-bounds l r m = omega arith
+pub data ByRule (l : List Timed) (r : ℕ) (m : ℕ × ℕ) (s : ℕ) : ℕ → Type 0 where
+  leads : ofLeaving l (m .1) < s → suc (ofRack l r) ≡ s → ByRule l r m s 1
+  behind : ofRack l r < s → ofLeaving l (m .1) ≡ s → placeLeaving l (m .1) < longestTrain → ByRule l r m s (suc (placeLeaving l (m .1)))
+  later : ofRack l r < s → suc (ofLeaving l (m .1)) ≡ s → longestTrain ≤ placeLeaving l (m .1) → ByRule l r m s 1
+
+pub turnFor-byRule : (l : List Timed) (r : ℕ) (m : ℕ × ℕ) → ByRule l r m (turnFor l r m .0) (turnFor l r m .1)
+unfolding turnFor turnAfter placeAfter stepAfter
+turnFor-byRule l r m =
+    let x = ofRack l r in
+    let y = ofLeaving l (m .1) in
+    let q = placeLeaving l (m .1) in
+    ⊎-elim
+    (λ (e : y ≡ max (x + 1) y).
+    dite (decLt 8 (q + 1))
+    (λ h. rw (eq-eqb y (max (x + 1) y) e, lt-ltb 8 (q + 1) h) (later (omega arith) (omega arith) (omega arith)))
+    (λ h.
+    let one : q + 1 ≡ suc q = omega arith in
+    rw (eq-eqb y (max (x + 1) y) e, le-ltb 8 (q + 1) (omega arith), one) (behind (omega arith) e (omega arith))))
+    (λ (e : y ≢ max (x + 1) y). rw (ne-eqb y (max (x + 1) y) e) (leads (omega arith) (omega arith)))
+    (equal? y (max (x + 1) y))
+
+pub byRule-bounds : {l : List Timed} {r : ℕ} {m : ℕ × ℕ} {s q : ℕ} → ByRule l r m s q → (ofRack l r < s) × (ofLeaving l (m .1) ≤ s)
+byRule-bounds (leads b a) = (omega arith, omega arith)
+byRule-bounds (behind a e b) = (a, omega arith)
+byRule-bounds (later a e b) = (a, omega arith)
+
+pub byRule-place : {l : List Timed} {r : ℕ} {m : ℕ × ℕ} {s q : ℕ} → ByRule l r m s q → (0 < q) × (q ≤ longestTrain)
+byRule-place (leads b a) = (omega arith, omega arith)
+byRule-place (behind a e b) = (omega arith, b)
+byRule-place (later a e b) = (omega arith, omega arith)
+
+-- of a move that the rule has timed
+pub timed-byRule : (t : Timed) (l : List Timed) → (t .step, t .place) ≡ turnFor l (t .rack) (t .move)
+    → ByRule l (t .rack) (t .move) (t .step) (t .place)
+timed-byRule t l e =
+    subst (λ (x : ℕ × ℕ). ByRule l (t .rack) (t .move) (x .0) (x .1)) (sym e) (turnFor-byRule l (t .rack) (t .move))
 
 pub ofRack-same : (t : Timed) (l : List Timed) (r : ℕ) → t .rack ≡ r → ofRack (t ∷ l) r ≡ t .step
 unfolding ofRack
@@ -68,6 +109,14 @@ ofLeaving-same t l p e = rw (eq-eqb (t .move .0) p e)
 pub ofLeaving-other : (t : Timed) (l : List Timed) (p : ℕ) → t .move .0 ≢ p → ofLeaving (t ∷ l) p ≡ ofLeaving l p
 unfolding ofLeaving
 ofLeaving-other t l p e = rw (ne-eqb (t .move .0) p e)
+
+pub placeLeaving-same : (t : Timed) (l : List Timed) (p : ℕ) → t .move .0 ≡ p → placeLeaving (t ∷ l) p ≡ t .place
+unfolding placeLeaving
+placeLeaving-same t l p e = rw (eq-eqb (t .move .0) p e)
+
+pub placeLeaving-other : (t : Timed) (l : List Timed) (p : ℕ) → t .move .0 ≢ p → placeLeaving (t ∷ l) p ≡ placeLeaving l p
+unfolding placeLeaving
+placeLeaving-other t l p e = rw (ne-eqb (t .move .0) p e)
 
 pub ofRack-most : (l : List Timed) (r : ℕ) → ofRack l r ≤ greatest l
 unfolding ofRack greatest
@@ -87,9 +136,10 @@ pub greatest-most : (t : Timed) (l : List Timed) → (t .step ≤ greatest (t �
 unfolding greatest
 greatest-most t l = omega arith
 
-pub ruled-next : (l : List Timed) (r : ℕ) (m : ℕ × ℕ) → stepFor l r m ≤ suc (greatest l)
-unfolding stepFor
-ruled-next l r m = omega (arith, ofRack-most l r, ofLeaving-most l (m .1))
+pub ruled-next : (l : List Timed) (r : ℕ) (m : ℕ × ℕ) {s q : ℕ} → ByRule l r m s q → s ≤ suc (greatest l)
+ruled-next l r m (leads b a) = omega (arith, ofRack-most l r)
+ruled-next l r m (behind a e b) = omega (arith, ofLeaving-most l (m .1))
+ruled-next l r m (later a e b) = omega (arith, ofLeaving-most l (m .1))
 
 -- what a step has
 
@@ -110,7 +160,7 @@ ruled-filled none i h = absurd (omega arith)
 ruled-filled (more {t = t} {l = l} e r) i h =
     dite (decLt i (greatest l))
     (λ b. let old : 0 < length (inStep (suc i) l) = ruled-filled r i b in omega (arith, inStep-more (suc i) t l))
-    (λ b. rw (inStep-same (suc i) t l (omega (arith, ruled-next l (t .rack) (t .move)))) (omega arith))
+    (λ b. rw (inStep-same (suc i) t l (omega (arith, ruled-next l (t .rack) (t .move) (timed-byRule t l e)))) (omega arith))
 
 -- how many moves in all
 
@@ -166,7 +216,7 @@ pub steps-total : {l : List Timed} → Ruled l → (k : ℕ) → greatest l ≤ 
 unfolding greatest
 steps-total none k h = total-none k 1
 steps-total (more {t = t} {l = l} e r) k h =
-    total-more k 1 t l (omega (arith, stepFor-bounds l (t .rack) (t .move))) (omega arith) ∙ ap suc (steps-total r k (omega arith))
+    total-more k 1 t l (omega (arith, byRule-bounds (timed-byRule t l e))) (omega arith) ∙ ap suc (steps-total r k (omega arith))
 
 pub steps-length : (k i : ℕ) (l : List Timed) → length (stepsFrom i k l) ≡ k
 unfolding stepsFrom

@@ -1,10 +1,11 @@
--- One pass over a plan's moves with two tables, an entry for each position: the rule's two numbers for a move are
--- looked up by one load each.
+-- One pass over a plan's moves with two tables, an entry for each position: the rule's numbers for a move are looked up by one load each.
+-- Step and place are one number there, so that behind the eighth place of a step comes the first of the next.
 -- Of the moves, those of a window of 4096 steps are entered into a table as Rows has it.
 --
 --     Pass                     what a pass has come to
 --     started w                before the first move, with the empty window w
---     stepBy x y a b           the step of the move from a to b, by the tables x of arrivals and y of leavings
+--     turnNumber s q           the step s and the place q as one number
+--     turnBy x y a b           that of the move from a to b, by the tables x of arrivals and y of leavings
 --     noted first w t a b      the window w, of the steps after step `first`, with the move from a to b of step t
 --     passed first P m         the pass P with the move m
 --     pass first P ms          the pass P with the moves ms
@@ -13,17 +14,18 @@
 --     windowOf ms first        the window of the steps after step `first` that a pass over the moves ms fills
 --     latest ms                the greatest step that it finds
 -- Assumes nothing.
-use Prim.Native.Nat.{ℕ, _+_, _-_, _*_, max}
+use Prim.Native.Nat.{ℕ, _+_, _-_, _*_, _/_, max}
 use mathlib.Core.Path.{_≡_}
 use mathlib.Core.Bool.{cond}
 use mathlib.Core.List.{List, [], _∷_}
 use lib.ListN.{getD, set, replicate}
 use lib.Dec.{ltb}
+use Rattle.motion.specs.LegalStep.{longestTrain}
 
 pub record Pass : Type 0 where
   -- the step of the last move of the rack that now stands at a position; 0 where it has none
   pub arrived : List ℕ
-  -- the step of the latest move that left a position; 0 where none did
+  -- the step of the latest move that left a position, and its place in its chain, as one number; 0 where none did
   pub left : List ℕ
   pub window : List ℕ
   pub greatest : ℕ
@@ -31,8 +33,12 @@ pub record Pass : Type 0 where
 unfoldable pub started : List ℕ → Pass
 started w = record { arrived = replicate 64 0; left = replicate 64 0; window = w; greatest = 0 }
 
-unfoldable pub stepBy : List ℕ → List ℕ → ℕ → ℕ → ℕ
-stepBy arrived left a b = max (getD arrived a 0 + 1) (getD left b 0)
+unfoldable pub turnNumber : ℕ → ℕ → ℕ
+turnNumber s q = longestTrain * s + (q - 1)
+
+-- it leads in the rack's next step, or goes one place behind the move that left the position now entered, whichever is later
+unfoldable pub turnBy : List ℕ → List ℕ → ℕ → ℕ → ℕ
+turnBy arrived left a b = max (longestTrain * (getD arrived a 0 + 1)) (getD left b 0 + 1)
 
 -- the row of step t is row t - 1 - first, if the window has it
 unfoldable pub noted : ℕ → List ℕ → ℕ → ℕ → ℕ → List ℕ
@@ -40,10 +46,11 @@ noted first w t a b = cond (ltb first t) (cond (ltb (t - 1 - first) 4096) (set w
 
 unfoldable pub passed : ℕ → Pass → ℕ × ℕ → Pass
 passed first P m =
-    let t = stepBy (P .arrived) (P .left) (m .0) (m .1) in
+    let turn = turnBy (P .arrived) (P .left) (m .0) (m .1) in
+    let t = turn / longestTrain in
     record {
       arrived = set (P .arrived) (m .1) t;
-      left = set (P .left) (m .0) t;
+      left = set (P .left) (m .0) turn;
       window = noted first (P .window) t (m .0) (m .1);
       greatest = max (P .greatest) t;
     }

@@ -76,9 +76,13 @@ fn note(
     }
 }
 
+// The longest train: crates/motion has it as `longestTrain`.
+const LONGEST: usize = 8;
+
 // One pass over the k moves of a plan's tail: enters those of the 4096 steps after step `first` into the window, and
 // gives the greatest step.
-// A rack's last step is kept where it now stands, so that no arrangement is needed.
+// A rack's last step is kept where it now stands, so that no arrangement is needed. A turn is a move's step and the moves ahead of it in its
+// chain there as one number, so that behind the last place of a full train comes the first of the next step.
 fn fill(
     tail: &[u8],
     named: bool,
@@ -99,9 +103,10 @@ fn fill(
         let step = field::move_at(tail, named, j);
         let a = step.first;
         let b = step.second;
-        let t = later(arrived[a] + 1, left[b]);
+        let turn = later(LONGEST * (arrived[a] + 1), left[b] + 1);
+        let t = turn / LONGEST;
         arrived[b] = t;
-        left[a] = t;
+        left[a] = turn;
         note(window, leaving, first, t, a, b);
         greatest = later(greatest, t);
         j += 1;

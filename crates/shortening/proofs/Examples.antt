@@ -27,7 +27,7 @@ use Rattle.motion.specs.Problem.{arrangementAt}
 use Rattle.motion.specs.Replay.{listed, trace}
 use Rattle.plan.specs.Plan.{spareBits, planBits, planBytes, planRecord, named, moveCount, planListed, planMoves, planAnswer}
 use Rattle.plan.proofs.Examples.{plan-open}
-use Rattle.scheduling.specs.Making.{ofRack, ofLeaving, stepFor, timed, greatest}
+use Rattle.scheduling.specs.Making.{ofRack, ofLeaving, placeLeaving, stepAfter, placeAfter, turnAfter, turnFor, timed, greatest}
 use Rattle.shortening.specs.Rule.{moveAt, rackOf, between, visits, cancels, without, partner, laterMove, shorten, shortened}
 use Rattle.shortening.specs.Shortener.{shortenedOf}
 use Rattle.shortening.specs.Theorems.{Shorter}
@@ -70,11 +70,11 @@ long-shortened = refl
 
 -- fewer moves, and here fewer steps
 pub long-steps : greatest (timed (0 ∷ 3 ∷ []) [] ((0, 1) ∷ (1, 0) ∷ (0, 1) ∷ (3, 2) ∷ (2, 0) ∷ (1, 3) ∷ [])) ≡ 4
-unfolding greatest timed stepFor ofRack ofLeaving rackAt rackFrom afterMove after goesTo
+unfolding greatest timed turnFor turnAfter placeAfter stepAfter placeLeaving ofRack ofLeaving rackAt rackFrom afterMove after goesTo
 long-steps = refl
 
 pub short-steps : greatest (timed (0 ∷ 3 ∷ []) [] ((0, 1) ∷ (3, 2) ∷ (2, 0) ∷ (1, 3) ∷ [])) ≡ 2
-unfolding greatest timed stepFor ofRack ofLeaving rackAt rackFrom afterMove after goesTo
+unfolding greatest timed turnFor turnAfter placeAfter stepAfter placeLeaving ofRack ofLeaving rackAt rackFrom afterMove after goesTo
 short-steps = refl
 
 pub long-shorter : Shorter caseBook longPlan

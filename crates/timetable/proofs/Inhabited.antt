@@ -19,6 +19,11 @@
 --     solution₁, only₁               its arrangements are a solution, and it is their one timetable
 --     ringOrder, ringTimetable, swapOrder, swapTimetable    the third case's orders and timetables
 --     ring-turned, swapped           the third case: a full ring turned, and two neighbours exchanged, are 42, step 1
+--     nineOrder, nineTimetable, splitTimetable    nine racks behind one another in a row of positions, each to go one position on; a
+--                                    timetable that lets them wait and then go as one train, and one where the last goes a step later
+--     nine-order, nine-steps, split-steps         what these records are of
+--     nine-refused, nine-split       the train of nine is 42, step 2; eight and then one are accepted
+--     sideOrder, sideTimetable, side-order, side-steps, eight-accepted    a step of nine moves, eight of them one train, is accepted
 --     fullOrder, full-right, full-count, full-waits    a full floor, where each start is its goal: one empty step is accepted
 --     paused, paused-packable, paused-record, paused-accepted    the first case with a pause after step 1: accepted, 3 steps and 4 moves
 -- Assumes nothing.
@@ -28,7 +33,7 @@ use mathlib.Core.List.{List, [], _∷_, _++_}
 use lib.Dec.{lit<, lit≤}
 use lib.ListN.{take}
 use Rattle.answers.specs.Answer.{Answer, accepted, refused}
-use Rattle.field.specs.Bits.{bits, number, bitsOf, field, positions, pairs, pairBits, pad, padded, bytes, toBytes}
+use Rattle.field.specs.Bits.{bits, number, bitsOf, field, positions, pairs, pairBits, positionBits, pad, padded, bytes, toBytes}
 use Rattle.field.specs.Bytes.{Bytes, none, more, none₂, more₂}
 use Rattle.field.proofs.WholeBytes.{below-each}
 use Rattle.field.specs.Units.{recordLength, misfits, padSet, unclean}
@@ -36,12 +41,13 @@ use Rattle.field.specs.Front.{wholeLength}
 use Rattle.order.specs.Floor.{some, isPair, joined}
 use Rattle.order.specs.Order.{positionCount, edgeCount, rackCount, unitCount, floorOf, startsOf, goalsOf, orderOf, wrongLength}
 use Rattle.order.specs.Order.{wrongPositions, paddingSet, badEdge, precedes, ascending, wrongEdges, repeats, wrongPlaces, wrongRacks}
-use Rattle.order.specs.Order.{counts, orderAnswer, WellFormed}
+use Rattle.order.specs.Order.{counts, orderAnswer, WellFormed, orderBits, orderRecord}
 use Rattle.motion.specs.Arrangement.{occupied, vacant}
 use Rattle.motion.specs.Move.{onFloor, goesTo, after}
 use Rattle.motion.specs.Step.{every, ascends, leaves, enters, enteredOnce, led, legalStep}
 use Rattle.motion.specs.Replay.{replayFrom, unlessLegal, stepFault, replaySteps, trace}
 use Rattle.motion.proofs.StepDecision.{by-test, legalStep?}
+use Rattle.motion.proofs.StepCases.{lane, train}
 use Rattle.motion.specs.Judgement.{misplaced, judged}
 use Rattle.motion.specs.StepOf.{moved, insert, sort, stepOf}
 use Rattle.motion.specs.StepSolutions.{stepsThrough, stepsBetween}
@@ -260,14 +266,81 @@ pub swapped : timetableAnswer swapOrder swapTimetable ≡ refused 42 1
 unfolding timetable-open
 swapped = refl
 
+-- a train of nine, and the same racks in two steps; a step of nine moves in two trains
+
+abbrev pub nineOrder : List ℕ
+nineOrder =
+    0x16 ∷ 0x14 ∷ 0x24 ∷ 0x00 ∷ 0x10 ∷ 0x42 ∷ 0x08 ∷ 0x30 ∷ 0xC4 ∷ 0x10 ∷ 0x51 ∷ 0x46 ∷ 0x18 ∷ 0x71 ∷ 0xC8 ∷ 0x20 ∷ 0x92 ∷ 0x4A ∷
+    0x00 ∷ 0x10 ∷ 0x83 ∷ 0x10 ∷ 0x51 ∷ 0x87 ∷ 0x20 ∷ 0x10 ∷ 0x83 ∷ 0x10 ∷ 0x51 ∷ 0x87 ∷ 0x20 ∷ 0x90 ∷ []
+
+abbrev pub nineTimetable : List ℕ
+nineTimetable =
+    0x00 ∷ 0x00 ∷ 0x08 ∷ 0x00 ∷ 0x09 ∷ 0x00 ∷ 0x10 ∷ 0x42 ∷ 0x08 ∷ 0x30 ∷ 0xC4 ∷ 0x10 ∷ 0x51 ∷ 0x46 ∷ 0x18 ∷ 0x71 ∷ 0xC8 ∷ 0x20 ∷
+    0x90 ∷ []
+
+abbrev pub splitTimetable : List ℕ
+splitTimetable =
+    0x00 ∷ 0x00 ∷ 0x08 ∷ 0x08 ∷ 0x04 ∷ 0x20 ∷ 0x83 ∷ 0x0C ∷ 0x41 ∷ 0x05 ∷ 0x14 ∷ 0x61 ∷ 0x87 ∷ 0x1C ∷ 0x82 ∷ 0x09 ∷ 0x01 ∷ 0x00 ∷
+    0x10 ∷ []
+
+pub nine-order : orderRecord (record {
+  floor = lane;
+  starts = 0 ∷ 1 ∷ 2 ∷ 3 ∷ 4 ∷ 5 ∷ 6 ∷ 7 ∷ 8 ∷ [];
+  goals = 1 ∷ 2 ∷ 3 ∷ 4 ∷ 5 ∷ 6 ∷ 7 ∷ 8 ∷ 9 ∷ [];
+}) ≡ nineOrder
+unfolding orderRecord orderBits pairBits positionBits padded pad toBytes bytes number bits
+nine-order = refl
+
+pub nine-steps : timetableRecord ([] ∷ train 0 9 ∷ []) ≡ nineTimetable
+unfolding train timetableRecord timetableBits allStepBits stepBits pairBits padded pad toBytes bytes number bits
+nine-steps = refl
+
+pub split-steps : timetableRecord (train 1 8 ∷ train 0 1 ∷ []) ≡ splitTimetable
+unfolding train timetableRecord timetableBits allStepBits stepBits pairBits padded pad toBytes bytes number bits
+split-steps = refl
+
+pub nine-refused : timetableAnswer nineOrder nineTimetable ≡ refused 42 2
+unfolding timetable-open
+nine-refused = refl
+
+pub nine-split : timetableAnswer nineOrder splitTimetable ≡ accepted (2 ∷ 9 ∷ [])
+unfolding timetable-open
+nine-split = refl
+
+abbrev pub sideOrder : List ℕ
+sideOrder =
+    0x16 ∷ 0x14 ∷ 0x24 ∷ 0x00 ∷ 0x10 ∷ 0x42 ∷ 0x08 ∷ 0x30 ∷ 0xC4 ∷ 0x10 ∷ 0x51 ∷ 0x46 ∷ 0x18 ∷ 0x71 ∷ 0xC8 ∷ 0x20 ∷ 0x92 ∷ 0x4A ∷
+    0x00 ∷ 0x10 ∷ 0x83 ∷ 0x10 ∷ 0x51 ∷ 0x87 ∷ 0x24 ∷ 0x10 ∷ 0x83 ∷ 0x10 ∷ 0x51 ∷ 0x87 ∷ 0x20 ∷ 0xA0 ∷ []
+
+abbrev pub sideTimetable : List ℕ
+sideTimetable =
+    0x00 ∷ 0x00 ∷ 0x04 ∷ 0x09 ∷ 0x00 ∷ 0x10 ∷ 0x42 ∷ 0x08 ∷ 0x30 ∷ 0xC4 ∷ 0x10 ∷ 0x51 ∷ 0x46 ∷ 0x18 ∷ 0x71 ∷ 0xC8 ∷ 0x24 ∷ 0xA0 ∷
+    []
+
+pub side-order : orderRecord (record {
+  floor = lane;
+  starts = 0 ∷ 1 ∷ 2 ∷ 3 ∷ 4 ∷ 5 ∷ 6 ∷ 7 ∷ 9 ∷ [];
+  goals = 1 ∷ 2 ∷ 3 ∷ 4 ∷ 5 ∷ 6 ∷ 7 ∷ 8 ∷ 10 ∷ [];
+}) ≡ sideOrder
+unfolding orderRecord orderBits pairBits positionBits padded pad toBytes bytes number bits
+side-order = refl
+
+pub side-steps : timetableRecord ((train 0 8 ++ (9, 10) ∷ []) ∷ []) ≡ sideTimetable
+unfolding train timetableRecord timetableBits allStepBits stepBits pairBits padded pad toBytes bytes number bits
+side-steps = refl
+
+pub eight-accepted : timetableAnswer sideOrder sideTimetable ≡ accepted (1 ∷ 9 ∷ [])
+unfolding timetable-open
+eight-accepted = refl
+
 -- two positions joined by an edge, a rack on each, and each start its goal
 abbrev pub fullOrder : List ℕ
 fullOrder = 0x04 ∷ 0x02 ∷ 0x08 ∷ 0x00 ∷ 0x10 ∷ 0x01 ∷ 0x00 ∷ 0x10 ∷ []
 
 pub full-right : WellFormed fullOrder
 unfolding orderAnswer counts wrongRacks wrongPlaces repeats wrongEdges ascending precedes badEdge paddingSet wrongPositions wrongLength
-    unitCount floorOf startsOf goalsOf orderOf positionCount edgeCount rackCount padSet unclean misfits recordLength positions pairs some pad
-    field number bitsOf bits
+    unitCount floorOf startsOf goalsOf orderOf positionCount edgeCount rackCount padSet unclean misfits recordLength positions pairs some
+    pad field number bitsOf bits
 full-right = record { length-right = refl; positions-right = refl; padding-clear = refl; edges-right = refl; racks-right = refl }
 
 pub full-count : rackCount fullOrder ≡ floorOf fullOrder .positions

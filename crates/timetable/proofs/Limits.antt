@@ -5,6 +5,7 @@
 --     no-turn             no step of it turns a ring: moves from each position of a ring to the next, back to the first
 --     no-swap             in none do two neighbours change places
 --     no-meeting          in none do two racks enter one position
+--     no-long-chain       in none do nine racks go as one train: nine moves, each into the position that the next one leaves
 -- Assumes nothing.
 use Prim.Native.Nat.{ℕ, suc, _-_, _≤_}
 use mathlib.Core.List.{List, List·Memᴰ, List·Memᴰ·not-nil}
@@ -19,7 +20,7 @@ use Rattle.motion.specs.Arrangement.{Arrangement}
 use Rattle.motion.proofs.MoveLaws.{after-length}
 use Rattle.motion.proofs.ListLaws.{by-member}
 use Rattle.motion.proofs.Lawful.{LeadsSteps, still, _then_}
-use Rattle.motion.specs.LegalStep.{LegalStep}
+use Rattle.motion.specs.LegalStep.{longestTrain, LegalStep}
 use Rattle.motion.proofs.LegalStepLaws.{legalStep-iff}
 use Rattle.motion.proofs.StepLimits as limits
 use Rattle.tables.proofs.AcceptedLaws.{well-placed}
@@ -55,3 +56,6 @@ module _ (o s v : List ℕ) (e : timetableAnswer o s ≡ accepted v) (ms : List 
 
   pub no-meeting : {m m′ : ℕ × ℕ} → List·Memᴰ m ms → List·Memᴰ m′ ms → m .0 ≢ m′ .0 → m .1 ≢ m′ .1
   no-meeting = limits.no-meeting (accepted-legal .1)
+
+  pub no-long-chain : (p : ℕ → ℕ) → ((i : ℕ) → i ≤ longestTrain → List·Memᴰ (p i, p (suc i)) ms) → ⊥
+  no-long-chain = limits.no-long-chain (accepted-legal .1)

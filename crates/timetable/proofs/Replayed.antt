@@ -1,4 +1,5 @@
--- Accepted timetables and the solutions of Surynek's Definition 2, by the arrangements that a replay passes through.
+-- Accepted timetables and the solutions of Surynek's Definition 2 with trains of at most eight racks, by the arrangements that a replay
+-- passes through.
 --
 --     arrangements o s          the arrangements that the replay of the timetable s for the order o passes through
 --     ReplayedTimetable o s v   what acceptance of the timetable s for the order o with the counts v means: 10 to 14, 40 and 41 pass both,

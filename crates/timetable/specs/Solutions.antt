@@ -1,7 +1,8 @@
--- The timetable checker accepts exactly the solutions of Surynek's Definition 2, as document 01 reads it (motion's ParallelPathFinding):
--- demand 2 for timetables.
+-- The timetable checker accepts exactly the solutions of Surynek's Definition 2, as document 01 reads it (motion's ParallelPathFinding),
+-- whose trains have at most eight racks (motion's TrainCap): demand 2 for timetables. "Acceptance is compared with the published definition
+-- plus this cap".
 --
---     SolutionOf o ζ S          the arrangements S solve the task of the order o in ζ steps
+--     SolutionOf o ζ S          the arrangements S solve the task of the order o in ζ steps, by trains of at most eight racks
 --     AcceptedTimetable o s v   the byte string s is the record of a solution's steps, and v the counts of its steps and moves: so a
 --                               solution has one record, which the timetable checker accepts
 -- Assumes nothing.
@@ -10,13 +11,13 @@ use mathlib.Core.List.{List, [], _∷_}
 use mathlib.Core.Path.{_≡_}
 use Rattle.order.specs.Order.{rackCount, floorOf, startsOf, goalsOf, WellFormed}
 use Rattle.motion.specs.Arrangement.{Arrangement}
-use Rattle.motion.specs.ParallelPathFinding.{Solution}
+use Rattle.motion.specs.TrainCap.{CappedSolution}
 use Rattle.motion.specs.StepSolutions.{stepsBetween}
 use Rattle.timetable.specs.Timetable.{timetableRecord}
 use Rattle.timetable.specs.Reading.{moveTotal}
 
 abbrev pub SolutionOf : List ℕ → ℕ → List Arrangement → Type 0
-SolutionOf o ζ S = Solution (floorOf o) (rackCount o) (startsOf o) (goalsOf o) ζ S
+SolutionOf o ζ S = CappedSolution (floorOf o) (rackCount o) (startsOf o) (goalsOf o) ζ S
 
 -- a count of steps has 22 bits
 pub record AcceptedTimetable (o s v : List ℕ) : Type 0 where

@@ -2,8 +2,9 @@
 --
 --     led-same           where a table has racks where an arrangement has them, chains are led alike
 --     led-short          a train has at most one move more than the step
---     led-iff-on         by a table of targets a chain ends at its leader exactly if `ledOn` finds that it does
---     led-on, unled-on   both as equations
+--     led-same-length    a train has one length
+--     led-iff-on         by a table of targets a train has at most k + 1 moves exactly if `ledOn k` finds its leader
+--     led-on, unled-on, long-on    for the longest train: it is found where there is one no longer, and not where there is none or a longer
 --     noted-targets      the targets noted of ascending moves are the step's
 -- Assumes nothing.
 use Prim.Native.Nat.{ℕ, zero, suc, _+_, _-_, _≤_, _<_}
@@ -22,11 +23,12 @@ use Rattle.field.specs.Bytes.{BelowPairs, none₂, more₂}
 use Rattle.order.specs.Floor.{some}
 use Rattle.motion.specs.Arrangement.{Arrangement, occupied, vacant}
 use Rattle.motion.specs.Move.{goesTo}
+use Rattle.motion.specs.LegalStep.{longestTrain}
 use Rattle.motion.specs.Step.{leaves, led}
 use Rattle.motion.proofs.StepTestsLaws.{or-left, or-right, leaves-iff}
 use Rattle.motion.specs.StepTests.{Ascends}
 use Rattle.motion.proofs.ListLaws.{pairwise-rel}
-use Rattle.motion.proofs.Trains.{Chain, ends, leads as onward, chain-led, chain-length, led-enough}
+use Rattle.motion.proofs.Trains.{Chain, ends, leads as onward, chain-length}
 use Rattle.motion.proofs.Test.{equal?, eqb-parts}
 use Rattle.tables.specs.Tables.{heldAt}
 use Rattle.tables.proofs.TableLaws.{passed, failed, zeros-at}
@@ -112,9 +114,6 @@ module _ (ms : List (ℕ × ℕ)) (t h : List ℕ) (targets : Targets ms t) wher
   abbrev there : Arrangement
   there = standing (length h) h
 
-  same-there : (k p : ℕ) → ledOn k ms h p ≡ led k ms there p
-  same-there = led-same (standing (length h) h) h (held-standing h) ms
-
   vacant-there : (p : ℕ) → T (vacant there p) ↔ (getD h p 0 ≡ 0)
   unfolding vacant
   vacant-there p = rw (← held-standing h p) (vacant-on h p)
@@ -131,34 +130,53 @@ module _ (ms : List (ℕ × ℕ)) (t h : List ℕ) (targets : Targets ms t) wher
   pub led-short : (n p : ℕ) → Led t h n p → n ≤ suc (length ms)
   led-short n p l = let w = led-passes l in omega (arith, w .1, chain-length there ms (w .2))
 
-  led-from : (k p : ℕ) → T (ledOn k ms h p) → (n : ℕ) × Led t h n p
+  pub led-same-length : {n k p : ℕ} → Led t h n p → Led t h k p → n ≡ k
+  led-same-length (leads e) (leads e′) = refl
+  led-same-length (leads e) (follows o m l) = absurd (o e)
+  led-same-length (follows o m l) (leads e) = absurd (o e)
+  led-same-length (follows o m l) (follows o′ m′ l′) = ap suc (led-same-length l l′)
+
+  led-from : (k p : ℕ) → T (ledOn k ms h p) → (n : ℕ) × (n ≤ suc k) × Led t h n p
   unfolding ledOn
-  led-from zero p u = (1, leads (vacant-on h p .0 u))
+  led-from zero p u = (1, omega arith, leads (vacant-on h p .0 u))
   led-from (suc k) p u =
       ⊎-elim
-      (λ (e : getD h p 0 ≡ 0). (1, leads e))
+      (λ (e : getD h p 0 ≡ 0). (1, omega arith, leads e))
       (λ (d : getD h p 0 ≢ 0).
       let b = ⊎-elim (λ v. absurd (d (vacant-on h p .0 v))) (and-yes (leaves ms p) (ledOn k ms h (goesTo ms p)))
       (or-yes (not (heldAt h p)) _ u) in
       let g = left-target p (b .0) in
       let w = led-from k (goesTo ms p) (b .1) in
-      (suc (w .0), follows d (g .0) (subst (λ (q : ℕ). Led t h (w .0) q) (sym (g .1)) (w .1))))
+      (suc (w .0), omega (arith, w .1), follows d (g .0) (subst (λ (q : ℕ). Led t h (w .0) q) (sym (g .1)) (w .2))))
       (equal? (getD h p 0) 0)
 
-  pub led-iff-on : (p : ℕ) → ((n : ℕ) × Led t h n p) ↔ T (ledOn (length ms) ms h p)
-  led-iff-on p = (
-    λ w.
-        let c = led-passes (w .1) in
-        rw (same-there (length ms) p) (led-enough there ms (length (c .0)) p (chain-led there ms (c .2))),
-    led-from (length ms) p,
-  )
+  led-to : (k : ℕ) {n p : ℕ} → n ≤ suc k → Led t h n p → T (ledOn k ms h p)
+  unfolding ledOn
+  led-to zero {p} s (leads e) = vacant-on h p .1 e
+  led-to (suc k) {p} s (leads e) = or-left (not (heldAt h p)) _ (vacant-on h p .1 e)
+  led-to zero s (follows o m (leads e)) = absurd (omega arith)
+  led-to zero s (follows o m (follows o′ m′ l)) = absurd (omega arith)
+  led-to (suc k) {p} s (follows o m l) =
+      let g = target-left p m in
+      let on : T (ledOn k ms h (goesTo ms p)) = subst (λ (q : ℕ). T (ledOn k ms h q)) (g .1) (led-to k (omega arith) l) in
+      or-right (not (heldAt h p)) _ (yes-and (leaves ms p) _ (g .0) on)
 
-  pub led-on : (p : ℕ) → (n : ℕ) × Led t h n p → ledOn (length ms) ms h p ≡ true
-  led-on p w = passed (ledOn (length ms) ms h p) (led-iff-on p .0 w)
+  pub led-iff-on : (k p : ℕ) → T (ledOn k ms h p) ↔ ((n : ℕ) × (n ≤ suc k) × Led t h n p)
+  led-iff-on k p = (led-from k p, λ w. led-to k (w .1) (w .2))
 
-  pub unled-on : (p : ℕ) → ((n : ℕ) → Led t h n p → ⊥) → ledOn (length ms) ms h p ≡ false
-  unled-on p none =
-      failed (ledOn (length ms) ms h p) (not-T (ledOn (length ms) ms h p) (λ u. let w = led-iff-on p .1 u in none (w .0) (w .1)))
+  unfound : (p : ℕ) → ((n : ℕ) → n ≤ longestTrain → Led t h n p → ⊥) → ledOn (longestTrain - 1) ms h p ≡ false
+  unfound p none =
+      failed (ledOn (longestTrain - 1) ms h p)
+      (not-T (ledOn (longestTrain - 1) ms h p) (λ u. let w = led-iff-on (longestTrain - 1) p .0 u in none (w .0) (w .1) (w .2)))
+
+  pub led-on : (n p : ℕ) → n ≤ longestTrain → Led t h n p → ledOn (longestTrain - 1) ms h p ≡ true
+  led-on n p s l = passed (ledOn (longestTrain - 1) ms h p) (led-iff-on (longestTrain - 1) p .1 (n, s, l))
+
+  pub unled-on : (p : ℕ) → ((n : ℕ) → Led t h n p → ⊥) → ledOn (longestTrain - 1) ms h p ≡ false
+  unled-on p none = unfound p (λ n s. none n)
+
+  pub long-on : (n p : ℕ) → longestTrain < n → Led t h n p → ledOn (longestTrain - 1) ms h p ≡ false
+  long-on n p s l = unfound p (λ k r l′. omega (arith, led-same-length l l′))
 
 -- what is noted
 

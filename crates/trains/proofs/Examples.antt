@@ -13,11 +13,13 @@
 --     case-2-tables                case 2's train of two is replayed on tables
 --     case-3-ring, case-3-swap     case 3's two steps are not legal by the tables
 --     case-3-stays                 and leave the racks where they are
+--     eight-tables, nine-tables    a train of eight is legal by the tables, one of nine is not
+--     side-by-side                 nine moves are, where one of them is a train of its own
 -- Assumes nothing.
 use Prim.Native.Nat.{ℕ, _≤_}
 use mathlib.Core.Path.{_≡_, refl}
 use mathlib.Core.Bool.{Bool, true, false, _&&_}
-use mathlib.Core.List.{List, [], _∷_}
+use mathlib.Core.List.{List, [], _∷_, _++_}
 use native.Mathlib.Omega.{arith}
 use lib.Dec.{T, ltb, ltb→lt}
 use Rattle.answers.specs.Answer.{accepted}
@@ -35,7 +37,7 @@ use Rattle.motion.specs.Sound.{Sound}
 use Rattle.motion.proofs.SoundLaws.{isSound, isSound-sound}
 use Rattle.motion.proofs.Test.{and-parts}
 use Rattle.motion.proofs.Inhabited.{floorF, starts, goals}
-use Rattle.motion.proofs.StepCases.{timetable}
+use Rattle.motion.proofs.StepCases.{timetable, lane, train, eight}
 use Rattle.tables.specs.Tables.{edgeAt, heldAt, misplacedOn, judgedOn}
 use Rattle.tables.proofs.TablesLaws.{Holds}
 use Rattle.tables.proofs.TableLaws.{placed-holds}
@@ -135,3 +137,20 @@ case-3-swap = refl
 pub case-3-stays : ranOn (matrixOf floorF) (tableOf (0 ∷ 1 ∷ 2 ∷ [])) ((0, 1) ∷ (1, 2) ∷ (2, 0) ∷ []) ≡ tableOf (0 ∷ 1 ∷ 2 ∷ [])
 unfolding ranOn
 case-3-stays = rw case-3-ring refl
+
+-- trains on a row of positions
+
+pub eight-tables : legalStepOn (matrixOf lane) (tableOf eight) (train 0 8) ≡ true
+unfolding train matrixOf tableOf marked placed legalStepOn soundMoves allLed ledOn every ascends enteredOnce enters leaves some goesTo
+    edgeAt heldAt
+eight-tables = refl
+
+pub nine-tables : legalStepOn (matrixOf lane) (tableOf (0 ∷ 1 ∷ 2 ∷ 3 ∷ 4 ∷ 5 ∷ 6 ∷ 7 ∷ 8 ∷ [])) (train 0 9) ≡ false
+unfolding train matrixOf tableOf marked placed legalStepOn soundMoves allLed ledOn every ascends enteredOnce enters leaves some goesTo
+    edgeAt heldAt
+nine-tables = refl
+
+pub side-by-side : legalStepOn (matrixOf lane) (tableOf (0 ∷ 1 ∷ 2 ∷ 3 ∷ 4 ∷ 5 ∷ 6 ∷ 7 ∷ 9 ∷ [])) (train 0 8 ++ (9, 10) ∷ []) ≡ true
+unfolding train matrixOf tableOf marked placed legalStepOn soundMoves allLed ledOn every ascends enteredOnce enters leaves some goesTo
+    edgeAt heldAt
+side-by-side = refl

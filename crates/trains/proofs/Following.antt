@@ -12,8 +12,8 @@
 --     judge              whether each of the moves is led
 --     Leading            a loop over a step's moves: what is left to judge decides
 --     leading-first, leading-chain    before the first move; a chain may be followed from each move
---     TrainTold, train-told    a move without a leader decides; one that is led leaves the rest, and its train has few moves, so that
---                        one more is a mark
+--     TrainTold, train-told    a move without a leader decides, and so does one whose train is too long; any other leaves the rest, and
+--                        who follows it is in a train one move longer
 --     leading-last       after the last the answer is yes
 -- Assumes nothing.
 use Prim.Native.Nat.{ℕ, zero, suc, _+_, _-_, _≤_, _<_}
@@ -28,12 +28,13 @@ use native.Mathlib.Numerals.{add-one}
 use lib.ListN.{length, getD, set, length-set, List·getD-eq-default}
 use lib.Seq.{getD-set-same, getD-set-other}
 use Rattle.motion.proofs.Test.{equal?}
+use Rattle.motion.specs.LegalStep.{longestTrain}
 use Rattle.motion.specs.Step.{every}
 use Rattle.trains.specs.StepOn.{entries, ledOn, allLed}
 use Rattle.tables.specs.Simulation.{Each, each-more}
 use Rattle.trains.specs.Chains.{Targets, Taking, Led, leads, follows, Marks, leaderMark, LeadersMarked, NonePassed, Chain, Followed}
 use Rattle.trains.proofs.ChainsLaws.{unvisited}
-use Rattle.trains.proofs.ChainLaws.{led-short, led-on, unled-on}
+use Rattle.trains.proofs.ChainLaws.{led-short, led-on, unled-on, long-on}
 use Rattle.trains.proofs.Moves.{Left, left-first, left-at, left-next, left-last}
 use Rattle.trains.proofs.Moves.{entriesFrom, entries-first, entries-last, entries-length}
 
@@ -220,7 +221,7 @@ each-first (each-more p ps) = (p, ps)
 -- the loop over the c moves that the table d has, by the targets t and the table h
 module _ (d : List ℕ) (c : ℕ) (t h : List ℕ) where
   unfoldable pub judge : Unit {0} → List (ℕ × ℕ) → Bool
-  judge u ms = every (λ m. ledOn (length (entries d 0 c)) (entries d 0 c) h (m .1)) ms
+  judge u ms = every (λ m. ledOn (longestTrain - 1) (entries d 0 c) h (m .1)) ms
 
   -- at move j, where the marks v are lengths of trains
   pub record Leading (v : List ℕ) (j : ℕ) : Type 0 where
@@ -232,8 +233,8 @@ module _ (d : List ℕ) (c : ℕ) (t h : List ℕ) where
   -- what its train's length r, with the marks w, tells of move j, from a
   pub record TrainTold (j a : ℕ) (w : List ℕ) (r : ℕ) : Type 0 where
     pub not-led : r ≡ 0 → false ≡ allLed h (entries d 0 c)
-    pub room : r ≢ 0 → r ≤ 65
-    pub next : r ≢ 0 → a < 64 → Leading (set w a (r + 1)) (j + 1)
+    pub too-long : longestTrain < r → false ≡ allLed h (entries d 0 c)
+    pub next : r ≢ 0 → r ≤ longestTrain → a < 64 → Leading (set w a (r + 1)) (j + 1)
 
   pub leading-first : (v : List ℕ) → LeadersMarked h v 64 → Each (Taking t h) (entries d 0 c) → Leading v 0
   leading-first v marked each =
@@ -264,13 +265,16 @@ module _ (d : List ℕ) (c : ℕ) (t h : List ℕ) where
           rw (unled-on (entries d 0 c) t h targets b (f .unled e))
           at (left-at judge (entriesFrom d c) (entries d 0 c) tt tt j a b (left .judging) at)
 
+      long : longestTrain < r → false ≡ allLed h (entries d 0 c)
+      unfolding judge every allLed
+      long s =
+          rw (long-on (entries d 0 c) t h targets r b s (f .led (λ e. omega (arith, e, s))))
+          at (left-at judge (entriesFrom d c) (entries d 0 c) tt tt j a b (left .judging) at)
+
       here : Taking t h (a, b) × Each (Taking t h) (entriesFrom d c (j + 1))
       here = each-first (subst (Each (Taking t h)) at (left .taking))
 
-      module _ (some : r ≢ 0) where
-        leading-room : r ≤ 65
-        leading-room = short r b (f .led some)
-
+      module _ (some : r ≢ 0) (within : r ≤ longestTrain) where
         -- who enters the position that the move leaves follows it
         behind : Led t h (r + 1) a
         behind =
@@ -283,20 +287,20 @@ module _ (d : List ℕ) (c : ℕ) (t h : List ℕ) where
         leading-next room =
             record {
               judging = left-next judge (entriesFrom d c) (entries d 0 c) tt tt j a b (left .judging) at tt
-                  (λ ms. rw (led-on (entries d 0 c) t h targets b (r, f .led some)) refl);
+                  (λ ms. rw (led-on (entries d 0 c) t h targets r b within (f .led some)) refl);
               marks = led-marked t h w a (r + 1) room (f .marks some) behind;
               none-passed = λ q z.
                   ⊎-elim
                   (λ (s : q ≡ a).
                   let there = getD-set-same w a (r + 1) 0 (omega (arith, f .marks some .size)) in
-                  omega (arith, there, leading-room, ap (λ (i : ℕ). getD (set w a (r + 1)) i 0) (sym s) ∙ z))
+                  omega (arith, there, within, ap (λ (i : ℕ). getD (set w a (r + 1)) i 0) (sym s) ∙ z))
                   (λ (d : q ≢ a). left .none-passed q (f .passed some q (sym (getD-set-other w a q (r + 1) 0 d) ∙ z)))
                   (equal? q a);
               taking = here .1;
             }
 
       pub train-told : TrainTold j a w r
-      train-told = record { not-led = unled; room = leading-room; next = leading-next }
+      train-told = record { not-led = unled; too-long = long; next = leading-next }
 
   pub leading-last : (v : List ℕ) (j : ℕ) → Leading v j → c ≤ j → true ≡ allLed h (entries d 0 c)
   unfolding judge every allLed

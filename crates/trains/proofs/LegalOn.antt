@@ -3,16 +3,16 @@
 --     every-same        two tests that agree pass the same lists
 --     legal-step-on     by the matrix of a floor and the table of an arrangement a step is judged as document 01 has it
 -- Assumes nothing.
-use Prim.Native.Nat.{ℕ}
+use Prim.Native.Nat.{ℕ, _-_}
 use mathlib.Core.Path.{_≡_, refl, sym, ap₂, _∙_}
 use mathlib.Core.Bool.{Bool, false, _&&_}
 use mathlib.Core.List.{List, [], _∷_}
-use lib.ListN.{length}
 use Rattle.field.specs.Bytes.{BelowPairs, none₂, more₂}
 use Rattle.order.specs.Floor.{Floor}
 use Rattle.order.specs.Order.{wrongEdges}
 use Rattle.motion.specs.Arrangement.{Arrangement, occupied}
 use Rattle.motion.specs.Move.{onFloor}
+use Rattle.motion.specs.LegalStep.{longestTrain}
 use Rattle.motion.specs.Step.{every, led, legalStep}
 use Rattle.tables.specs.Tables.{edgeAt, heldAt}
 use Rattle.tables.proofs.TablesLaws.{Holds}
@@ -42,6 +42,6 @@ module _ (F : Floor) (below : BelowPairs 64 (F .edges)) (right : wrongEdges F �
       rw (
         edges-on b,
         every-same (λ m. heldAt h (m .0)) (λ m. occupied A (m .0)) (λ m. same (m .0)) ms,
-        every-same (λ m. ledOn (length ms) ms h (m .1)) (λ m. led (length ms) ms A (m .1)) (λ m. led-same A h same ms (length ms) (m .1))
-            ms,
+        every-same (λ m. ledOn (longestTrain - 1) ms h (m .1)) (λ m. led (longestTrain - 1) ms A (m .1))
+            (λ m. led-same A h same ms (longestTrain - 1) (m .1)) ms,
       ) refl

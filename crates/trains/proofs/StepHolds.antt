@@ -101,7 +101,7 @@ module _ (F : Floor) (few : F .positions ≤ 64) (A : Arrangement) (h : List ℕ
 
   -- no move enters a position whose rack stays
   alone : (q : ℕ) → List·Memᴰ q A → ((m : ℕ × ℕ) → List·Memᴰ m ms → m .0 ≢ q) → (m : ℕ × ℕ) → List·Memᴰ m ms → m .1 ≢ q
-  alone q there stay m k e = on (s .trains m k .1)
+  alone q there stay m k e = on (s .trains m k .2)
     where
       on : {i : ℕ} → Train A ms i m → ⊥
       on (leader n v) = vacant-iff A (m .1) .0 v (Memᴰ·cast e there)

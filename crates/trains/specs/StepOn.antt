@@ -4,18 +4,19 @@
 --     entries d j k        the k moves that the table d has from place j on: a move from a to b is the number a * 64 + b
 --     ledOn k ms h p       by the table h, the chain of a move into p ends at its leader, at most k moves further on
 --     soundMoves g h ms    a step's moves, but for the trains: they ascend, run along edges, take racks along, enter no position twice
---     allLed h ms          each of the moves belongs to a train with a leader
+--     allLed h ms          each of the moves belongs to a train with a leader, of at most eight moves
 --     legalStepOn g h ms   the step ms is legal by the matrix g and the table h
 --     takenUp h ms         the table h without the racks that the moves ms take along
 --     putDown b h ms       the table h with each rack that the table b has at a position left put down at the position entered
 --     stepOn h ms          the table that the moves ms, made all at once, make of h
 --     ranOn g h ms         the table after the step ms: as it was, where the step is not legal
 -- Assumes nothing.
-use Prim.Native.Nat.{ℕ, zero, suc, _+_, _/_, _%_}
+use Prim.Native.Nat.{ℕ, zero, suc, _+_, _-_, _/_, _%_}
 use mathlib.Core.Bool.{Bool, not, cond, _&&_, _||_}
 use mathlib.Core.List.{List, [], _∷_}
-use lib.ListN.{length, getD, set}
+use lib.ListN.{getD, set}
 use Rattle.motion.specs.Move.{goesTo}
+use Rattle.motion.specs.LegalStep.{longestTrain}
 use Rattle.motion.specs.Step.{every, ascends, leaves, enteredOnce}
 use Rattle.tables.specs.Tables.{edgeAt, heldAt}
 
@@ -32,8 +33,9 @@ ledOn (suc k) ms h p = not (heldAt h p) || leaves ms p && ledOn k ms h (goesTo m
 unfoldable pub soundMoves : List ℕ → List ℕ → List (ℕ × ℕ) → Bool
 soundMoves g h ms = ascends ms && every (edgeAt g) ms && every (λ m. heldAt h (m .0)) ms && enteredOnce ms
 
+-- "A legal step has no chain of more than eight moves from any mover to its leader", both counted
 unfoldable pub allLed : List ℕ → List (ℕ × ℕ) → Bool
-allLed h ms = every (λ m. ledOn (length ms) ms h (m .1)) ms
+allLed h ms = every (λ m. ledOn (longestTrain - 1) ms h (m .1)) ms
 
 -- "A step is legal if its moves ascend strictly by position left; both positions of each are below n and joined by an edge;
 -- each position left holds a rack; no position is entered twice; and each move belongs to a train with a leader."

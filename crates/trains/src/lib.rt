@@ -13,6 +13,10 @@ ghost use Rattle.trains.specs.Chains.{EntryAt, noted, Targets, Taking, l
 // The mark of a position that the chain being followed has come through. No train is so long.
 const PASSED: u8 = 255;
 
+// "The new power rail feeds eight racks in a train": how many moves a train may have. The proof of `all_led` holds it to motion's
+// `longestTrain`.
+const LONGEST: u8 = 8;
+
 // The move that stands j moves after the first byte, as one number: a move from a to b is a * 64 + b.
 fn entry_at(moves: &[u8], j: usize) -> u16
     requires { ⌜ 12 * j + 12 ≤ 8 * length (now moves) ⌝ }
@@ -151,8 +155,8 @@ fn train_length(p: usize, target: &[u8; 64], racks: &[u8; 64], marks: &mut [u8; 
     follow_chain(p, target, racks, marks)
 }
 
-// Whether each of a step's c moves belongs to a train with a leader. Who enters the position that a move leaves follows it, in a train
-// one move longer.
+// Whether each of a step's c moves belongs to a train with a leader, of at most LONGEST moves from the mover to it. Who enters the
+// position that a move leaves follows it, in a train one move longer.
 fn all_led(step: &[u16; 64], c: usize, target: &[u8; 64], racks: &[u8; 64]) -> bool
     requires { ⌜ c ≤ 64 ⌝ }
     requires { ⌜ Targets (entries (now step) 0 c) (now target) ⌝ }
@@ -167,6 +171,9 @@ fn all_led(step: &[u16; 64], c: usize, target: &[u8; 64], racks: &[u8; 64]) -> b
         let b = field::second_of(step[j]);
         let moves = train_length(b, target, racks, &mut marks);
         if moves == 0 {
+            return false;
+        }
+        if LONGEST < moves {
             return false;
         }
         marks[a] = moves + 1;

@@ -11,6 +11,7 @@ use compare::proved;
 use compare::random::Random;
 use compare::short_orders::{self, MODELS};
 use compare::timetables;
+use compare::trains;
 use compare::write::{Edition, Order, EDITIONS};
 use std::hint::black_box;
 use std::time::Instant;
@@ -327,23 +328,30 @@ fn timetable_make() {
         (62, 2_097_152, Edition::Two),
     ] {
         let (order, plan) = grid_plan(m, moves, edition);
-        let mut buffer = vec![0; 3 * moves + 3];
-        let (mut of_proved, mut of_second) = (f64::MAX, f64::MAX);
-        for _ in 0..if moves > 1_000_000 { 3 } else { ROUNDS } {
-            buffer.fill(0);
-            of_proved = of_proved.min(seconds(1, &mut || proved::timetable_make(&order, &plan, &mut buffer)));
-            buffer.fill(0);
-            of_second = of_second.min(seconds(1, &mut || {
-                compare::packed::count(second::making::make(&order, &plan, &mut buffer))
-            }));
-        }
-        let input = grid_input(m, moves, edition);
-        let ratio = of_second / of_proved;
-        println!(
-            "{:<16} {input:<44} {:>12} {:>12} {ratio:>6.2}",
-            "timetable_make",
-            shown(of_proved),
-            shown(of_second)
-        );
+        make_line(&grid_input(m, moves, edition), &order, &plan, moves);
     }
+    // racks that follow each other, up to 20 of them: many a move would be ninth in its train
+    let mut random = Random::new(0xBE_000A);
+    let sample = trains::sound_on(&mut random, floors::grid(8, 8), 62, 2_097_152);
+    let (plan, moves) = (sample.plan(Edition::One).record(), sample.moves.len());
+    make_line(&format!("62 racks, {moves} moves, long trains"), &sample.order.record(), &plan, moves);
+}
+
+fn make_line(input: &str, order: &[u8], plan: &[u8], moves: usize) {
+    let mut buffer = vec![0; 3 * moves + 3];
+    let (mut of_proved, mut of_second) = (f64::MAX, f64::MAX);
+    for _ in 0..if moves > 1_000_000 { 3 } else { ROUNDS } {
+        buffer.fill(0);
+        of_proved = of_proved.min(seconds(1, &mut || proved::timetable_make(order, plan, &mut buffer)));
+        buffer.fill(0);
+        of_second = of_second
+            .min(seconds(1, &mut || compare::packed::count(second::making::make(order, plan, &mut buffer))));
+    }
+    let ratio = of_second / of_proved;
+    println!(
+        "{:<16} {input:<44} {:>12} {:>12} {ratio:>6.2}",
+        "timetable_make",
+        shown(of_proved),
+        shown(of_second)
+    );
 }

@@ -20,6 +20,7 @@
 //! | `readers`    | every function that reads a plan, on one that is refused           |
 //! | `cancelling` | plans made to cancel                                               |
 //! | `timetables` | timetables, and damage                                             |
+//! | `trains`     | steps and plans with trains of a given length                      |
 //! | `programs`   | the programs, run on an input                                      |
 
 #[macro_use]
@@ -41,4 +42,5 @@ pub mod rings;
 pub mod short_orders;
 pub mod tally;
 pub mod timetables;
+pub mod trains;
 pub mod write;

@@ -4,6 +4,9 @@ use crate::floors::Floor;
 use crate::random::Random;
 use crate::write::Move;
 
+/// "The new power rail feeds eight racks in a train."
+pub const LONGEST_TRAIN: usize = 8;
+
 /// Where the racks stand.
 #[derive(Clone)]
 pub struct Racks {
@@ -91,26 +94,57 @@ impl Racks {
 
     /// A legal step of several trains, ascending by position left. Racks at the positions held stay.
     pub fn random_step(&self, random: &mut Random, held: u64) -> Vec<Move> {
-        let longest = random.one_in(4);
-        let trains = random.between(0, 5);
+        let trains = match random.one_in(4) {
+            true => self.random_trains(random, held, (LONGEST_TRAIN, LONGEST_TRAIN)),
+            false => self.random_trains(random, held, (1, 4)),
+        };
+        let mut moves = trains.concat();
+        moves.sort_unstable();
+        moves
+    }
+
+    /// Several trains that may go in one step, the leader of each first, with a number of moves between these two
+    /// or as many as there can be. Racks at the positions held stay.
+    pub fn random_trains(
+        &self,
+        random: &mut Random,
+        held: u64,
+        (least, most): (usize, usize),
+    ) -> Vec<Vec<Move>> {
         let mut enterable = self.vacant() & !held;
         let mut waiting = self.occupied & !held;
-        let mut moves = Vec::new();
-        for _ in 0..trains {
+        let mut trains = Vec::new();
+        for _ in 0..random.between(0, 5) {
             if enterable == 0 {
                 break;
             }
-            let mut entered = random.member(enterable);
+            let entered = random.member(enterable);
             enterable &= !only(entered);
-            for _ in 0..if longest { 64 } else { random.between(1, 4) } {
-                let Some(left) = self.follower(random, entered, waiting, longest) else { break };
-                moves.push((left, entered));
-                waiting &= !only(left);
-                entered = left;
-            }
+            let length = random.between(least, most);
+            let train = self.random_train(random, entered, waiting, length);
+            waiting = train.iter().fold(waiting, |set, &(left, _)| set & !only(left));
+            trains.push(train);
         }
-        moves.sort_unstable();
-        moves
+        trains
+    }
+
+    /// A train of racks that wait, the leader into this position first, with so many moves or as many as there can
+    /// be.
+    pub fn random_train(
+        &self,
+        random: &mut Random,
+        mut entered: u8,
+        mut waiting: u64,
+        length: usize,
+    ) -> Vec<Move> {
+        let mut train = Vec::new();
+        while train.len() < length {
+            let Some(left) = self.follower(random, entered, waiting, length > 4) else { break };
+            train.push((left, entered));
+            waiting &= !only(left);
+            entered = left;
+        }
+        train
     }
 
     /// A rack that may enter the position, for a long train the one with the fewest racks beside it.

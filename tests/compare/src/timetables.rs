@@ -5,12 +5,12 @@ use crate::floors::{self, Floor};
 use crate::orders;
 use crate::packed::refused;
 use crate::plans::{change_count, damage_goals};
-use crate::racks::{nonempty, only, Racks};
+use crate::racks::{nonempty, only, Racks, LONGEST_TRAIN};
 use crate::random::Random;
 use crate::write::{Move, Order, Step, Timetable};
 
-/// An order and a timetable, by their fields. A random one is accepted: trains are moved at random, and
-/// the racks' goals are where they then stand.
+/// An order and a timetable, by their fields. A random one is accepted: trains of at most eight are moved at
+/// random, and the racks' goals are where they then stand.
 #[derive(Clone)]
 pub struct Sample {
     pub floor: Floor,
@@ -129,6 +129,8 @@ kinds! {
         EnteredTwice,
         RingTurns,
         Exchange,
+        TrainOfNine,
+        TrainOfMore,
         TooMany,
         PadSetAfterFault,
         StepLeftOut,
@@ -264,6 +266,11 @@ fn illegal_step(random: &mut Random, racks: &Racks, reason: Damage) -> Option<Ve
         Damage::IntoStanding => into_standing(random, racks),
         Damage::EnteredTwice => entered_twice(random, racks),
         Damage::RingTurns | Damage::Exchange => no_leader(random, racks, reason),
+        Damage::TrainOfNine => train_too_long(random, racks, LONGEST_TRAIN + 1),
+        Damage::TrainOfMore => {
+            let length = if random.one_in(2) { 64 } else { random.between(LONGEST_TRAIN + 2, 20) };
+            train_too_long(random, racks, length)
+        }
         Damage::TooMany => {
             let c = random.between(64, 255);
             let mut moves: Vec<Move> =
@@ -356,5 +363,16 @@ fn no_leader(random: &mut Random, racks: &Racks, reason: Damage) -> Option<Vec<M
     let mut moves = racks.random_step(random, held);
     let next = ring.iter().cycle().skip(1);
     moves.extend(ring.iter().zip(next).map(|(&left, &entered)| (left, entered)));
+    Some(sorted(moves))
+}
+
+/// A train of nine or more, of so many if there can be, and legal trains beside it: all that a legal step needs but
+/// "no chain of more than eight moves from any mover to its leader".
+fn train_too_long(random: &mut Random, racks: &Racks, length: usize) -> Option<Vec<Move>> {
+    let entered = random.member(nonempty(racks.vacant())?);
+    let mut moves = racks.random_train(random, entered, racks.occupied, length);
+    nonempty(moves.len().saturating_sub(LONGEST_TRAIN) as u64)?;
+    let held = moves.iter().fold(only(entered), |set, &(left, _)| set | only(left));
+    moves.extend(racks.random_step(random, held));
     Some(sorted(moves))
 }

@@ -319,6 +319,56 @@ fn trains_and_their_leaders() {
     // into rack 1
 }
 
+/// The path 0 to 8 with racks at 0 to 7, and the path 0 to 9 with racks at 0 to 8: each rack's goal is one place on.
+const EIGHT: &str = "12 10 20 00 10 42 08 30 C4 10 51 46 18 71 C8 00 10 83 10 51 87 04 20 C4 14 61 C8";
+const NINE: &str =
+    "14 12 24 00 10 42 08 30 C4 10 51 46 18 71 C8 20 90 01 08 31 05 18 72 01 08 31 05 18 72 09";
+
+/// Request (i): "A legal step has no chain of more than eight moves from any mover to its leader."
+#[test]
+fn trains_of_eight_and_of_nine() {
+    let all = "00 00 04 08 00 10 42 08 30 C4 10 51 46 18 71 C8"; // 0>1 to 7>8
+    assert_eq!(timetable_check(EIGHT, all), Ok((1, 8)));
+    let all = "00 00 04 09 00 10 42 08 30 C4 10 51 46 18 71 C8 20 90"; // 0>1 to 8>9
+    assert_eq!(timetable_check(NINE, all), refused(42, 1));
+    let waiting_first = "00 00 08 00 09 00 10 42 08 30 C4 10 51 46 18 71 C8 20 90";
+    assert_eq!(timetable_check(NINE, waiting_first), refused(42, 2));
+    let the_ninth_later = "00 00 08 08 04 20 83 0C 41 05 14 61 87 1C 82 09 01 00 10"; // 1>2 to 8>9, then 0>1
+    assert_eq!(timetable_check(NINE, the_ninth_later), Ok((2, 9)));
+    // Not a limit on the moves of a step: paths 0 to 5 and 6 to 11, five racks on each, in two trains.
+    let two_paths =
+        "18 14 28 00 10 42 08 30 C4 10 51 87 1C 82 09 24 A2 8B 00 10 83 10 61 C8 24 A0 42 0C 41 47 20 92 8B";
+    let ten_moves = "00 00 04 0A 00 10 42 08 30 C4 10 51 87 1C 82 09 24 A2 8B";
+    assert_eq!(timetable_check(two_paths, ten_moves), Ok((1, 10)));
+}
+
+/// Request (i): "In the making rule, a move that would be ninth goes one step later."
+#[test]
+fn a_move_that_would_be_ninth() {
+    let plan = "00 00 20 1C 81 87 14 61 05 0C 40 83 04 20 01"; // 7>8 to 0>1
+    let one_step = "00 00 04 08 00 10 42 08 30 C4 10 51 46 18 71 C8";
+    assert_eq!(made_record(timetable_make(EIGHT, plan, 27)), (Ok(1), hex(one_step)));
+    // 8>9 to 0>1 in both editions: 0>1 would be ninth
+    let two_steps = "00 00 08 08 04 20 83 0C 41 05 14 61 87 1C 82 09 01 00 10";
+    let plan = "00 00 24 20 91 C8 18 71 46 10 50 C4 08 30 42 00 10";
+    assert_eq!(made_record(timetable_make(NINE, plan, 30)), (Ok(2), hex(two_steps)));
+    let plan = "00 00 25 20 92 07 20 71 87 18 51 85 10 51 03 10 30 83 08 10 81 00 10 00";
+    assert_eq!(made_record(timetable_make(NINE, plan, 30)), (Ok(2), hex(two_steps)));
+    // The path 0 to 10 and racks at 0 to 9, 9>10 to 0>1: the ninth leads, and the tenth follows it.
+    let ten =
+        "16 14 28 00 10 42 08 30 C4 10 51 46 18 71 C8 20 92 4A 00 10 83 10 51 87 20 90 42 0C 41 46 1C 82 4A";
+    let plan = "00 00 28 24 A2 09 1C 81 87 14 61 05 0C 40 83 04 20 01";
+    let two_steps = "00 00 08 08 08 30 C4 10 51 46 18 71 C8 20 92 4A 02 00 10 42";
+    assert_eq!(made_record(timetable_make(ten, plan, 33)), (Ok(2), hex(two_steps)));
+}
+
+/// The answer, and the record without the bytes behind it, which are AA still.
+fn made_record((answer, mut buffer): Made) -> Made {
+    let behind = buffer.split_off(timetable::length(&buffer).unwrap());
+    assert!(behind.iter().all(|&byte| byte == 0xAA));
+    (answer, buffer)
+}
+
 #[test]
 fn steps_refused() {
     assert_eq!(timetable_step("00 00", 1), refused(40, 0));

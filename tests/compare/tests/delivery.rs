@@ -11,6 +11,7 @@ use compare::random::Random;
 use compare::tally::Hex;
 use compare::write::Edition;
 use second::answer::Answer;
+use second::motion::NO_CAP;
 
 /// The order of "Programs".
 const CASE_BOOK: [u8; 14] =
@@ -73,12 +74,21 @@ fn moves_of(order: &[u8], plan: &[u8]) -> usize {
     packed::to_count(proved::plan_make(order, &mut plan.to_vec())).map_or(0, |moves| moves as usize)
 }
 
+/// Whether the plan's timetable without the cap of eight has longer trains.
+fn has_longer_trains(order: &[u8], plan: &[u8]) -> bool {
+    let k = second::plan::check(order, plan).expect("a sound plan");
+    let mut uncapped = vec![0; 3 * k as usize + 3];
+    second::making::make_with_cap(order, plan, &mut uncapped, NO_CAP).expect("a sound plan");
+    let end = second::timetable::length(&uncapped).expect("a timetable was written");
+    second::timetable::check(order, &uncapped[..end]).is_err()
+}
+
 #[test]
 fn plan_then_timetable_then_check() {
     let mut random = Random::new(0x5EED_8001);
-    let (mut delivered, mut all_moves, mut all_steps) = (0, 0, 0);
+    let (mut delivered, mut all_moves, mut all_steps, mut capped) = (0, 0, 0, 0);
     for _ in 0..3_000 {
-        let n = if random.one_in(20) { random.between(20, 64) } else { random.between(4, 12) };
+        let n = if random.one_in(10) { random.between(20, 64) } else { random.between(4, 12) };
         let floor = floors::bi_connected(&mut random, n);
         if floor.edges.len() == n {
             continue; // a ring
@@ -93,9 +103,12 @@ fn plan_then_timetable_then_check() {
         delivered += 1;
         all_moves += moves;
         all_steps += steps;
+        capped += u32::from(has_longer_trains(&order, &plan[..Edition::Two.length(moves as usize)]));
     }
     println!("delivery: {delivered} orders, {all_moves} moves in {all_steps} steps");
+    println!("  with trains that would be longer than eight {capped}");
     assert!(delivered >= 1_000, "{delivered} orders only");
+    assert!(capped >= 50, "{capped} orders with trains that would be longer only");
 }
 
 #[test]

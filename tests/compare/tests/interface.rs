@@ -10,6 +10,7 @@ use std::path::{Path, PathBuf};
 use compare::floors::{self, Floor};
 use compare::packed;
 use compare::proved;
+use compare::rings;
 use compare::write::{Drive, Edition, Order, Plan, ShortOrder};
 use second::program::timetable_program;
 
@@ -95,12 +96,20 @@ fn depot_in_full() -> Order {
     Order { n, edges, starts, goals, spare: 0, pad: 0 }
 }
 
+/// Ten positions in a ring and nine racks, each to go one position on. The foremost goes into the one vacancy, the next
+/// where it stood, and so on: a train of nine.
+fn ring_of_ten() -> Order {
+    let Floor { n, edges } = rings::ring(&(0..10).collect::<Vec<usize>>());
+    Order { n, edges, starts: (0..9).collect(), goals: (1..10).collect(), spare: 0, pad: 0 }
+}
+
 #[test]
 fn the_orders_and_plans_in_examples_are_the_records_of_their_fields() {
     assert_eq!(file("examples/casebook.order"), casebook().record());
     assert_eq!(file("examples/casebook.plan"), casebook_plan(Edition::One).record());
     assert_eq!(file("examples/casebook_two.plan"), casebook_plan(Edition::Two).record());
     assert_eq!(file("examples/four_by_four.order"), four_by_four().record());
+    assert_eq!(file("examples/ring_of_ten.order"), ring_of_ten().record());
     assert_eq!(file("examples/depot.short"), depot().record());
     assert_eq!(second::models::expand(&depot().record(), 576), Ok(depot_in_full().record()));
 }
@@ -161,6 +170,7 @@ fn what_examples_run_prints() {
         stored_plan("examples/casebook.plan", Edition::One),
         stored_plan("examples/casebook_two.plan", Edition::Two),
         planned_and_timed("examples/depot.short", &depot_in_full()),
+        planned_and_timed("examples/ring_of_ten.order", &ring_of_ten()),
         format!(
             "examples/four_by_four.order\n{}\n{}",
             described(&four_by_four()),

@@ -5,7 +5,8 @@ use compare::packed;
 use compare::proved;
 use compare::random::Random;
 use compare::tally::{each_met, Tally};
-use compare::timetables::{self, DAMAGES};
+use compare::timetables::{self, Damage, DAMAGES};
+use compare::trains;
 use compare::write::{Order, Step, Timetable};
 
 const NUMBERS: [u8; 10] = [0, 10, 11, 12, 13, 14, 40, 41, 42, 43];
@@ -38,6 +39,42 @@ fn every_step_on_every_floor_of_up_to_four_positions() {
     tally.finish(10_000, &[0, 42]);
 }
 
+/// A legal step has "no chain of more than eight moves from any mover to its leader", and may have more moves than
+/// eight.
+#[test]
+fn chains_of_eight_and_nine_and_every_length_up_to_20() {
+    let mut random = Random::new(0x5EED_3004);
+    let mut tally = Tally::new("timetable_check, one chain and two of 1 to 20 moves");
+    let mut by_the_cap = 0;
+    for _ in 0..20 {
+        for chains in trains::every_one_and_two() {
+            let (sample, answer) = trains::one_step(&mut random, &chains);
+            let (order, timetable) = (sample.order.record(), sample.timetable.record());
+            compare(&mut tally, &order, &timetable);
+            assert_eq!(proved::timetable_check(&order, &timetable), answer, "{chains:?}");
+            by_the_cap += u64::from(trains::only_too_long(&chains));
+        }
+    }
+    println!("  42 by the cap {by_the_cap}");
+    assert!(by_the_cap >= 5_000, "42 met by the cap {by_the_cap} times only");
+    tally.finish(20_000, &[0, 42]);
+}
+
+/// "Stored timetables with longer trains now meet 42", with the number of the step, whatever the steps before it.
+#[test]
+fn a_train_of_nine_or_more_at_any_step() {
+    let mut random = Random::new(0x5EED_3005);
+    let mut tally = Tally::new("timetable_check, a train of nine or more");
+    while tally.cases() < 6_000 {
+        let sound = timetables::random_sound(&mut random);
+        let damage = random.pick(&[Damage::TrainOfNine, Damage::TrainOfMore]);
+        let Some(case) = timetables::damaged(&mut random, &sound, damage) else { continue };
+        compare(&mut tally, &case.order, &case.record);
+        assert_eq!(Some(proved::timetable_check(&case.order, &case.record)), case.answer, "{damage:?}");
+    }
+    tally.finish(6_000, &[42]);
+}
+
 #[test]
 fn trains_of_every_length() {
     let mut random = Random::new(0x5EED_3002);
@@ -58,7 +95,7 @@ fn trains_of_every_length() {
             }
         }
     }
-    tally.close(248);
+    tally.finish_each(248, 20, &[0, 42]);
 }
 
 #[test]

@@ -6,8 +6,10 @@ use compare::packed;
 use compare::plans;
 use compare::proved;
 use compare::random::Random;
-use compare::tally::Tally;
+use compare::tally::{Hex, Tally};
+use compare::trains;
 use compare::write::EDITIONS;
+use second::motion::NO_CAP;
 
 const NUMBERS: [u8; 14] = [0, 10, 11, 12, 13, 14, 30, 31, 32, 33, 34, 35, 36, 44];
 
@@ -65,6 +67,49 @@ fn sound_plans_whatever_the_buffer_held() {
         }
     }
     tally.finish(180_000, &[0]);
+}
+
+/// "In the making rule, a move that would be ninth goes one step later."
+#[test]
+fn rows_of_up_to_20_racks() {
+    let mut random = Random::new(0x5EED_5004);
+    let mut tally = Tally::new("timetable_make, rows of 1 to 20 racks");
+    for _ in 0..40 {
+        for (length, places) in (1..=20).flat_map(|length| (1..=6).map(move |places| (length, places))) {
+            let (sample, timetable) = trains::row(&mut random, length, places);
+            let (order, timetable) = (sample.order.record(), timetable.record());
+            for edition in EDITIONS {
+                let mut buffer = vec![0xAA; 3 * sample.moves.len() + 3];
+                compare(&mut tally, &order, &sample.plan(edition).record(), &mut buffer);
+                assert!(buffer.starts_with(&timetable), "{}| {:?}", Hex(&order), sample.moves);
+            }
+        }
+    }
+    tally.finish(9_600, &[0]);
+}
+
+/// The timetable differs from that of document 01's rule alone precisely where that one has a train of nine or more.
+#[test]
+fn plans_in_trains() {
+    let mut random = Random::new(0x5EED_5005);
+    let mut tally = Tally::new("timetable_make, plans in trains");
+    let mut shifted = 0;
+    for _ in 0..20_000 {
+        let sample = trains::plan_in_trains(&mut random);
+        let edition = random.pick(&EDITIONS);
+        let (order, plan) = (sample.order.record(), sample.plan(edition).record());
+        let mut buffer = vec![0xAA; 3 * sample.moves.len() + 3];
+        let mut uncapped = buffer.clone();
+        compare(&mut tally, &order, &plan, &mut buffer);
+        second::making::make_with_cap(&order, &plan, &mut uncapped, NO_CAP).expect("a sound plan");
+        let end = second::timetable::length(&uncapped).expect("a timetable was written");
+        let checked = proved::timetable_check(&order, &uncapped[..end]) & 0xFF;
+        assert_eq!(checked, if buffer == uncapped { 0 } else { 42 }, "{}| {}", Hex(&order), Hex(&plan));
+        shifted += u64::from(buffer != uncapped);
+    }
+    println!("  with moves that went one step later {shifted}");
+    assert!(shifted >= 5_000, "{shifted} timetables with such moves only");
+    tally.finish(20_000, &[0]);
 }
 
 #[test]

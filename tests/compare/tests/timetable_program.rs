@@ -47,6 +47,16 @@ fn the_worked_example() {
     assert_eq!(printed(&followed_by(PLAN_TWO)), "steps 2 moves 4\n1 0>1 3>2\n2 1>3 2>0\n");
 }
 
+/// "In the making rule, a move that would be ninth goes one step later."
+#[test]
+fn a_row_of_nine_racks() {
+    let edges: Vec<Move> = (0..9).map(|at| (at, at + 1)).collect();
+    let (starts, goals): (Vec<u8>, Vec<u8>) = edges.iter().copied().unzip();
+    let front_first = edges.iter().copied().rev().collect();
+    let input = [order(10, &edges, &starts, &goals), plan(front_first)].concat();
+    assert_eq!(printed(&input), "steps 2 moves 9\n1 1>2 2>3 3>4 4>5 5>6 6>7 7>8 8>9\n2 0>1\n");
+}
+
 #[test]
 fn no_moves() {
     let still = order(4, &[(0, 1)], &[0, 2], &[0, 2]);

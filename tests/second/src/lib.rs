@@ -8,10 +8,10 @@
 //! |-------------|-----------------------------------|--------------------|
 //! | `record`    | Records: fields, pads, lengths    |                    |
 //! | `order`     | Records, the order                | 10 to 14           |
-//! | `motion`    | Legal moves and steps             |                    |
+//! | `motion`    | Legal moves and steps, request (i) |                   |
 //! | `plan`      | Records, the plan; (c) and (h)    | 30 to 36           |
 //! | `timetable` | Records, the timetable            | 40 to 43, 45       |
-//! | `making`    | Making the timetable              | 44                 |
+//! | `making`    | Making the timetable, request (i) | 44                 |
 //! | `floor`     | The floor, request (d)            | 20, 21, 24         |
 //! | `breakdown` | Breakdown and planning            |                    |
 //! | `planning`  | Breakdown and planning, demand 3, (h) | 23             |
@@ -20,7 +20,7 @@
 //! | `clearing`  | request (b), the nearest vacancy  |                    |
 //! | `shortening` | requests (e) and (h), shorter plans | 37              |
 //! | `converting` | request (h), the other edition   | 38                 |
-//! | `shortest`  | request (g), no shorter timetable |                    |
+//! | `shortest`  | requests (g) and (i), no shorter timetable |           |
 #![forbid(unsafe_code)]
 
 pub mod answer;

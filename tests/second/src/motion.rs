@@ -3,6 +3,13 @@
 use crate::order::{Floor, Order};
 use crate::record::{pair, positions};
 
+/// Request (i): "The new power rail feeds eight racks in a train." The functions that judge or make steps for the
+/// product have this cap; those that end in `with_cap` take any, so that small floors meet it too.
+pub const CAP: usize = 8;
+
+/// A cap that no step meets: it moves at most 64 racks. With it the steps are those of document 01 alone.
+pub const NO_CAP: usize = 64;
+
 /// Where the racks stand. "A position holds at most one rack."
 #[derive(Clone, PartialEq, Eq, Debug)]
 pub struct Arrangement {
@@ -68,8 +75,9 @@ impl Arrangement {
     ///
     /// "A step is legal if its moves ascend strictly by position left; both positions of each are below
     /// n and joined by an edge; each position left holds a rack; no position is entered twice; and each
-    /// move belongs to a train with a leader."
-    pub fn legal_step(&self, floor: &Floor, packed: &[u8], c: usize) -> Option<Step> {
+    /// move belongs to a train with a leader." And by request (i), with a cap of eight, "a legal step has no chain
+    /// of more than eight moves from any mover to its leader."
+    pub fn legal_step(&self, floor: &Floor, packed: &[u8], c: usize, cap: usize) -> Option<Step> {
         let mut step = Step { left: 0, entered: 0, to: [0; 64] };
         let mut lowest = 0; // that the next move may leave
         for index in 0..c {
@@ -84,31 +92,34 @@ impl Arrangement {
             step.entered |= 1 << entered;
             step.to[left] = entered as u8;
         }
-        self.has_leaders(&step, c).then_some(step)
+        (self.longest_chain(&step, c)? <= cap).then_some(step)
     }
 
     /// "The chain is followed rack by rack to its leader: a move into a position left in the same step
-    /// follows that move, and the chain has to end at a move into a position vacant before the step.
-    /// Trains have any length."
+    /// follows that move, and the chain has to end at a move into a position vacant before the step."
+    /// The moves of the longest chain, mover and leader included, if each has such an end.
     ///
     /// Positions are left once and entered once, so the moves are chains that share nothing, each from
-    /// a position that no move enters, and full rings. The moves on the chains are counted: where there
-    /// are fewer than c, a ring turns.
-    fn has_leaders(&self, step: &Step, c: usize) -> bool {
-        let mut in_chains = 0;
+    /// a position that no move enters, and full rings. From there the chain is longest: that of any other
+    /// mover is a part of it. The moves on the chains are counted: where there are fewer than c, a ring turns.
+    fn longest_chain(&self, step: &Step, c: usize) -> Option<usize> {
+        let (mut in_chains, mut longest) = (0, 0);
         let mut lasts = step.left & !step.entered;
         while lasts != 0 {
             let mut at = lasts.trailing_zeros() as usize;
             lasts &= lasts - 1;
+            let mut chain = 0;
             while step.left >> at & 1 == 1 {
                 at = usize::from(step.to[at]);
-                in_chains += 1;
+                chain += 1;
             }
             if !self.is_vacant(at) {
-                return false;
+                return None;
             }
+            in_chains += chain;
+            longest = longest.max(chain);
         }
-        in_chains == c
+        (in_chains == c).then_some(longest)
     }
 
     /// "a legal step does so for all its moves at once"

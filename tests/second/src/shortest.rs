@@ -1,5 +1,6 @@
 //! Request (g), "No shorter timetable for this plan": the routes and visits of a plan, and the fewest steps
-//! of a legal timetable that keeps them, by a search of all of them. For small floors and short plans.
+//! of a legal timetable that keeps them, by a search of all of them. For small floors and short plans. By request
+//! (i) "the shortest-timetable result ranges over timetables that respect the cap", which is whatever is asked for.
 
 use crate::motion::Arrangement;
 use crate::order::Order;
@@ -46,8 +47,8 @@ impl Kept {
         kept
     }
 
-    /// The routes and visits of an accepted timetable.
-    pub fn by_timetable(order: &Order, timetable: &[u8]) -> Kept {
+    /// The routes and visits of a timetable that is accepted with this cap.
+    pub fn by_timetable(order: &Order, timetable: &[u8], cap: usize) -> Kept {
         let mut now = Arrangement::starting(order);
         let mut kept = Kept::starting(order);
         let mut rest = &timetable[3..];
@@ -58,7 +59,7 @@ impl Kept {
                 let (left, entered) = positions(pair(&packed[1..], index));
                 kept.comes(now.rack_at(left), entered);
             }
-            let step = now.legal_step(&order.floor, &packed[1..], c).expect("an accepted timetable");
+            let step = now.legal_step(&order.floor, &packed[1..], c, cap).expect("an accepted timetable");
             now.make_step(&step);
             rest = after;
         }
@@ -66,18 +67,18 @@ impl Kept {
     }
 
     /// The fewest steps of a legal timetable that keeps routes and visits.
-    pub fn fewest_steps(&self, order: &Order) -> Option<u32> {
-        self.search(order, true)
+    pub fn fewest_steps(&self, order: &Order, cap: usize) -> Option<u32> {
+        self.search(order, true, cap)
     }
 
     /// The fewest steps of a legal timetable that keeps the routes, whatever the visits.
-    pub fn fewest_steps_of_routes(&self, order: &Order) -> Option<u32> {
-        self.search(order, false)
+    pub fn fewest_steps_of_routes(&self, order: &Order, cap: usize) -> Option<u32> {
+        self.search(order, false, cap)
     }
 
     /// Step after step, everywhere that the racks can have come on their routes. "Waiting steps count": a
     /// step without moves leads nowhere new, so a timetable with one is never among the shortest.
-    fn search(&self, order: &Order, keeps_visits: bool) -> Option<u32> {
+    fn search(&self, order: &Order, keeps_visits: bool, cap: usize) -> Option<u32> {
         let end: Progress = self.routes.iter().map(|route| route.len() - 1).collect();
         let mut reached = BTreeSet::from([vec![0; order.m]]);
         let mut last = reached.clone();
@@ -85,7 +86,7 @@ impl Kept {
             if last.contains(&end) {
                 return Some(steps);
             }
-            let next = last.iter().flat_map(|progress| self.steps_from(order, progress, keeps_visits));
+            let next = last.iter().flat_map(|progress| self.steps_from(order, progress, keeps_visits, cap));
             last = next.filter(|progress| !reached.contains(progress)).collect();
             if last.is_empty() {
                 return None;
@@ -96,21 +97,23 @@ impl Kept {
     }
 
     /// Where one legal step leads, whichever racks move on in it.
-    fn steps_from(&self, order: &Order, progress: &Progress, keeps_visits: bool) -> Vec<Progress> {
+    fn steps_from(
+        &self,
+        order: &Order,
+        progress: &Progress,
+        keeps_visits: bool,
+        cap: usize,
+    ) -> Vec<Progress> {
         let places: Vec<u8> = self.routes.iter().zip(progress).map(|(route, &at)| route[at] as u8).collect();
         let now = Arrangement::of(&places);
+        let goes_on = |&rack: &usize| progress[rack] + 1 < self.routes[rack].len();
+        let in_turn = |&rack: &usize| !keeps_visits || self.is_next_visitor(progress, rack);
+        let may_move: Vec<usize> = (0..order.m).filter(goes_on).filter(in_turn).collect();
         let mut reached = Vec::new();
-        for movers in 1u32..1 << order.m {
-            let moves = |rack: &usize| movers >> rack & 1 == 1;
-            let racks: Vec<usize> = (0..order.m).filter(moves).collect();
-            if racks.iter().any(|&rack| progress[rack] + 1 == self.routes[rack].len()) {
-                continue;
-            }
-            let in_turn = |&rack: &usize| self.is_next_visitor(progress, rack);
-            if keeps_visits && !racks.iter().all(in_turn) {
-                continue;
-            }
-            if self.is_legal(order, &now, progress, &racks) {
+        for movers in 1u32..1 << may_move.len() {
+            let chosen = (0..may_move.len()).filter(|index| movers >> index & 1 == 1);
+            let racks: Vec<usize> = chosen.map(|index| may_move[index]).collect();
+            if is_legal(order, &now, self.moves_on(progress, &racks), cap) {
                 let mut after = progress.clone();
                 racks.iter().for_each(|&rack| after[rack] += 1);
                 reached.push(after);
@@ -127,18 +130,23 @@ impl Kept {
         self.visits[entered].get(visits) == Some(&(rack as u8 + 1))
     }
 
-    /// Whether the racks of these indexes may move on in one step.
-    fn is_legal(&self, order: &Order, now: &Arrangement, progress: &Progress, racks: &[usize]) -> bool {
+    /// The next moves of the racks of these indexes, ascending by position left.
+    fn moves_on(&self, progress: &Progress, racks: &[usize]) -> Vec<u16> {
         let next = |&rack: &usize| {
             let (left, entered) = (self.routes[rack][progress[rack]], self.routes[rack][progress[rack] + 1]);
             (left << 6 | entered) as u16
         };
         let mut moves: Vec<u16> = racks.iter().map(next).collect();
-        moves.sort_unstable(); // by position left
-        let mut packed = vec![0; packed_length(moves.len())];
-        let count = pack(moves, &mut packed);
-        now.legal_step(&order.floor, &packed, count).is_some()
+        moves.sort_unstable();
+        moves
     }
+}
+
+/// Whether these moves are a legal step.
+fn is_legal(order: &Order, now: &Arrangement, moves: Vec<u16>, cap: usize) -> bool {
+    let mut packed = vec![0; packed_length(moves.len())];
+    let count = pack(moves, &mut packed);
+    now.legal_step(&order.floor, &packed, count, cap).is_some()
 }
 
 /// How many moves of its route each rack has made.

@@ -2,7 +2,7 @@
 //! then pad. A step with c = 0 is allowed."
 
 use crate::answer::{refuse, refuse_at, Answer};
-use crate::motion::Arrangement;
+use crate::motion::{Arrangement, CAP};
 use crate::order::{self, Order};
 use crate::record::{head, packed_length, pad_is_set, spare_is_set};
 
@@ -65,20 +65,25 @@ pub fn read(record: &[u8]) -> Answer<Counts> {
 
 /// The timetable checker: the lowest of 10 to 14 and 40 to 43 that applies, else the counts.
 pub fn check(order: &[u8], timetable: &[u8]) -> Answer<Counts> {
+    check_with_cap(order, timetable, CAP)
+}
+
+/// The same with so many moves in the longest train.
+pub fn check_with_cap(order: &[u8], timetable: &[u8], cap: usize) -> Answer<Counts> {
     let order = order::read(order)?;
     let counts = read(timetable)?;
-    replay(&order, counts.steps, &timetable[3..])?;
+    replay(&order, counts.steps, &timetable[3..], cap)?;
     Ok(counts)
 }
 
 /// "Each move or step is judged on the arrangement that those before it left. Replay stops at the
 /// first that is not legal." The steps are known to end inside the record.
-fn replay(order: &Order, steps: u32, mut rest: &[u8]) -> Answer<()> {
+fn replay(order: &Order, steps: u32, mut rest: &[u8], cap: usize) -> Answer<()> {
     let mut now = Arrangement::starting(order);
     for number in 1..=steps {
         let (packed, after) = rest.split_at(step_length(rest[0]));
-        // 42: "this step, the first such, is not legal"
-        let Some(step) = now.legal_step(&order.floor, &packed[1..], usize::from(packed[0])) else {
+        // 42: "this step, the first such, is not legal", and "stored timetables with longer trains now meet 42"
+        let Some(step) = now.legal_step(&order.floor, &packed[1..], usize::from(packed[0]), cap) else {
             return refuse_at(42, number);
         };
         now.make_step(&step);

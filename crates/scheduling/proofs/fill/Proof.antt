@@ -3,6 +3,7 @@ use Prim.Native.Nat.{_≤_, _-_}
 use native.Mathlib.Omega.{arith}
 use Rattle.field.proofs.ListedLaws.{room-at}
 use borrow.Author.Needs.{needs}
+use Rattle.scheduling.specs.Filling.{turnNumber}
 use Rattle.scheduling.specs.Rows.{KeepsLeft}
 use Rattle.scheduling.proofs.Passing.{ToPass, pass-first, pass-next, pass-last}
 use Rattle.scheduling.proofs.fill.Statement.{statement}
@@ -32,14 +33,22 @@ mul-later c = omega arith
 array-read-later : tie.Need-array-read-later Inv-loop μ-loop
 array-read-later c = omega arith
 
+-- a turn is no later than the moves so far let it be
 add-later : tie.Need-add-later Inv-loop μ-loop
 add-later c = omega (arith, c .before .before .loop .inv .1 .early .arrivals (c .move-at .result .first))
 
 mul-later-2 : tie.Need-mul-later-2 Inv-loop μ-loop
-mul-later-2 c = omega arith
+mul-later-2 c = omega (arith, c .before .before .loop .inv .1 .early .arrivals (c .move-at .result .first))
+
+mul-later-3 : tie.Need-mul-later-3 Inv-loop μ-loop
+mul-later-3 c = omega arith
 
 array-read-later-2 : tie.Need-array-read-later-2 Inv-loop μ-loop
 array-read-later-2 c = omega arith
+
+add-later-2 : tie.Need-add-later-2 Inv-loop μ-loop
+unfolding turnNumber
+add-later-2 c = omega (arith, c .before .before .loop .inv .1 .early .leavings (c .move-at .result .second))
 
 later-requires : tie.Need-later-requires Inv-loop μ-loop
 later-requires c κs = search needs
@@ -104,7 +113,9 @@ fill-spec =
     array-read-later
     add-later
     mul-later-2
+    mul-later-3
     array-read-later-2
+    add-later-2
     later-requires
     mul-arrived
     array-write-arrived

@@ -66,14 +66,14 @@ train-length-requires c κs =
 returns : tie.Need-returns Inv-loop μ-loop
 returns c = told (c .before) .not-led (c .if1 .taken)
 
-add-marks : tie.Need-add-marks Inv-loop μ-loop
-add-marks c = let room = told (c .before) .room (c .if1 .left) in omega arith
+returns-2 : tie.Need-returns-2 Inv-loop μ-loop
+returns-2 c = told (c .before .before) .too-long (c .if2 .taken)
 
 loop-again : tie.Need-loop-again Inv-loop μ-loop
-loop-again c = (omega arith, told (c .before) .next (c .if1 .left) (omega arith))
+loop-again c = (omega arith, told (c .before .before) .next (c .before .if1 .left) (c .if2 .left) (omega arith))
 
-returns-2 : tie.Need-returns-2 Inv-loop μ-loop
-returns-2 c =
+returns-3 : tie.Need-returns-3 Inv-loop μ-loop
+returns-3 c =
     let turn = c .before in
     let l = turn .loop in
     let entry = turn .before .before .before in
@@ -96,9 +96,10 @@ all-led-spec =
     second-of-requires
     train-length-requires
     returns
-    add-marks
+    returns-2
+    (λ c. omega arith)
     (λ c. omega arith)
     (λ c. omega arith)
     (λ c. omega arith)
     loop-again
-    returns-2)
+    returns-3)
