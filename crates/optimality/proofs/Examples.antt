@@ -21,7 +21,8 @@
 --     other-round-shorter  three of them
 --     other-round-routes   but rack 1 comes to 1 and then to 2, in the plan to 2 and then to 1: the same positions in another order
 --     nine-replayed        nine racks behind one another in a row of positions go one position on, the foremost first
---     nine-shortest        two steps are the fewest that keep routes and visits: one would be a train of nine (motion's StepCases, `nine-not`)
+--     nine-shortest        two steps are the fewest that keep routes and visits: one would be a train of nine (`nine-not` in motion's
+--                          StepCases)
 --     case-1-record        over records: the maker answers 2 steps, and none fewer is accepted of those that keep routes and visits
 -- Assumes nothing.
 use Prim.Native.Nat.{ℕ, zero, suc, _<_}

@@ -36,7 +36,8 @@ use Rattle.motion.proofs.StepTestsLaws.{left}
 use Rattle.tables.proofs.TableLaws.{zeros-at}
 use Rattle.scheduling.specs.Making.{Timed, ofRack, ofLeaving, placeLeaving, turnFor, timed, greatest, inStep}
 use Rattle.scheduling.proofs.Timing.{ofRack-same, ofRack-other, ofLeaving-same, ofLeaving-other, inStep-same, inStep-other}
-use Rattle.scheduling.proofs.Timing.{ByRule, leads, behind, later, turnFor-byRule, byRule-place, placeLeaving-same, placeLeaving-other}
+use Rattle.scheduling.proofs.Timing.{placeLeaving-same, placeLeaving-other}
+use Rattle.scheduling.proofs.Timing.{ByRule, leads, behind, later, turnFor-byRule, byRule-place}
 use Rattle.motion.specs.LegalStep.{longestTrain}
 use Rattle.scheduling.specs.Filling.{Pass, started, turnNumber, turnBy, noted, passed, pass, emptyWindow}
 

@@ -81,8 +81,8 @@ const LONGEST: usize = 8;
 
 // One pass over the k moves of a plan's tail: enters those of the 4096 steps after step `first` into the window, and
 // gives the greatest step.
-// A rack's last step is kept where it now stands, so that no arrangement is needed. A turn is a move's step and the moves ahead of it in its
-// chain there as one number, so that behind the last place of a full train comes the first of the next step.
+// A rack's last step is kept where it now stands, so that no arrangement is needed. A turn is a move's step and the moves ahead of it in
+// its chain there as one number, so that behind the last place of a full train comes the first of the next step.
 fn fill(
     tail: &[u8],
     named: bool,
