@@ -56,10 +56,13 @@ extern "C" {
  *
  * Since version 2.1 a train has at most WICHTEAB_TRAIN_LONGEST moves. A timetable stored earlier with a longer one
  * is refused with 42; wichteab_timetable_make makes a new one of its plan.
+ *
+ * Since version 2.2 an order on whose floor a position has five or more edges is not planned: it is refused with 26.
+ * Plans and timetables stored earlier for such floors are taken as before.
  */
-#define WICHTEAB_VERSION "2.1.0"
+#define WICHTEAB_VERSION "2.2.0"
 #define WICHTEAB_VERSION_MAJOR 2
-#define WICHTEAB_VERSION_MINOR 1
+#define WICHTEAB_VERSION_MINOR 2
 #define WICHTEAB_VERSION_PATCH 0
 
 /*
@@ -130,6 +133,7 @@ enum {
     WICHTEAB_PLAN_BUFFER = 23,           /* the plan buffer is shorter than 18 * n * n * n + 3 bytes */
     WICHTEAB_FLOOR_ORDER = 24,           /* it is a ring, and the racks stand in another order round it at the
                                             goal, so that no plan exists; judged before 23 */
+    WICHTEAB_FLOOR_SIDES = 26,           /* a position has five or more edges; judged before 23 */
 
     /* The plan; place 0 unless it is named. The first move that is not legal at its turn, or that names a wrong
        rack, decides, with the first of 32, 34, 35 and 36 that applies to it; all four come before 33. */
@@ -177,9 +181,9 @@ uint64_t wichteab_order_check(const uint8_t *order, size_t order_length);
 /*
  * wichteab_floor_check: can this order be planned at all?
  *
- * Takes an order; it is only read. Accepted: the answer is 0, the floor is bi-connected, and at least two
- * positions are vacant; or it is a ring, at least one is vacant, and the racks stand in the same order round it
- * at start and goal. Refused: 10 to 14, 20, 21 and 24, place 0.
+ * Takes an order; it is only read. Accepted: the answer is 0, the floor is bi-connected, no position has more than
+ * four edges, and at least two positions are vacant; or it is a ring, at least one is vacant, and the racks stand in
+ * the same order round it at start and goal. Refused: 10 to 14, 20, 21, 24 and 26, place 0.
  */
 uint64_t wichteab_floor_check(const uint8_t *order, size_t order_length);
 
@@ -189,7 +193,7 @@ uint64_t wichteab_floor_check(const uint8_t *order, size_t order_length);
  * Takes a short order, which is only read, and a buffer for the order; WICHTEAB_ORDER_LONGEST bytes are enough
  * for any. Accepted: wichteab_expanded_length gives the order's length, and the order is at the front of the
  * buffer, on its model's floor, with the same starts and goals. It is well formed, and wichteab_floor_check
- * never refuses it with 21 or 24: with two vacancies it is planned. No two short orders give one order.
+ * never refuses it with 21, 24 or 26: with two vacancies it is planned. No two short orders give one order.
  * Refused: 50, 51, 14 and 52, the first that applies in this order, place 0.
  */
 uint64_t wichteab_order_expand(const uint8_t *short_order, size_t short_order_length, uint8_t *buffer,
@@ -200,8 +204,9 @@ uint64_t wichteab_order_expand(const uint8_t *short_order, size_t short_order_le
  *
  * Takes an order, which is only read, and a buffer of at least 18 * n * n * n + 3 bytes (see
  * wichteab_plan_buffer_length), whatever it holds. Every order that wichteab_floor_check accepts is planned:
- * with two vacancies or more, on a bi-connected floor that is no ring, every arrangement is reached from
- * every other; on a ring with a vacancy, every one with the racks in the same order round it. Accepted:
+ * with two vacancies or more, on a bi-connected floor of at most four edges to a position that is no ring, every
+ * arrangement is reached from every other; on a ring with a vacancy, every one with the racks in the same order
+ * round it. Accepted:
  * wichteab_plan_moves gives the number of moves, at most 8 * n * n * n, and 0 where each start is its goal;
  * the plan is at the front of the buffer, in edition two, wichteab_plan_length(2, moves) bytes long, and
  * wichteab_plan_check accepts it with these moves. Refused: as wichteab_floor_check, and then 23, place 0; the
@@ -403,6 +408,9 @@ static inline const char *wichteab_reason(uint32_t number)
         return "The plan buffer is too short: n positions need 18 * n * n * n + 3 bytes.";
     case WICHTEAB_FLOOR_ORDER:
         return "The racks stand in another order round the ring at the goal: no moves lead there.";
+    case WICHTEAB_FLOOR_SIDES:
+        return "A position of the floor has five or more edges: a rack has four sides, so no position may have "
+               "more than four.";
     case WICHTEAB_PLAN_LENGTH:
         return "The plan was cut short, or other bytes follow it: its length is not the one its count of moves "
                "gives in its edition.";

@@ -21,6 +21,7 @@ static const struct fault faults[] = {
     {WICHTEAB_FLOOR_RING, 22, "floor"},
     {WICHTEAB_PLAN_BUFFER, 23, "floor"},
     {WICHTEAB_FLOOR_ORDER, 24, "floor"},
+    {WICHTEAB_FLOOR_SIDES, 26, "floor"},
     {WICHTEAB_PLAN_LENGTH, 30, "plan"},
     {WICHTEAB_PLAN_PADDING, 31, "plan"},
     {WICHTEAB_PLAN_MOVE, 32, "plan"},

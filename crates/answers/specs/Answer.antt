@@ -49,6 +49,7 @@ numberOf Fault.FloorOrder = 24
 numberOf Fault.SecondBuffer = 37
 numberOf Fault.PlanRack = 36
 numberOf Fault.ConvertedBuffer = 38
+numberOf Fault.FloorSides = 26
 
 -- as an arm of a match on f tells it: f is some case, and r is that case's number
 pub record HasNumber (f : Fault) (r : ℕ) : Type 0 where

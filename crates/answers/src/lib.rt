@@ -62,6 +62,8 @@ pub enum Fault {
     PlanRack,
     // The converter's buffer is shorter than the plan in the other edition.
     ConvertedBuffer,
+    // A position has five or more edges.
+    FloorSides,
 }
 
 // Document 01's number of a fault.
@@ -104,6 +106,7 @@ fn case_number(fault: Fault) -> u64
         Fault::SecondBuffer => 37,
         Fault::PlanRack => 36,
         Fault::ConvertedBuffer => 38,
+        Fault::FloorSides => 26,
     }
 }
 

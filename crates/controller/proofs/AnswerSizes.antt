@@ -35,6 +35,7 @@ use Rattle.motion.proofs.StepDecision.{legalStep?}
 use Rattle.motion.proofs.Test.{cond-either}
 use Rattle.motion.proofs.Lawful.{Stops, stops-some, stepFault-none, stepFault-small, replaySteps-stopped}
 use Rattle.floor.specs.FloorAnswer.{biConnected?, disordered?, holds, vacanciesOwed, floorAnswer}
+use Rattle.floor.specs.Sides.{fourSided?}
 use Rattle.models.specs.Grid.{unknownModel}
 use Rattle.models.specs.ShortOrder.{modelCode, wrongShort}
 use Rattle.models.specs.Expansion.{fullOrder, expanded, expandAnswer}
@@ -155,7 +156,8 @@ floor-sized o =
     (λ v e. refuse-sized (ltb (positionCount o) (rackCount o + vacanciesOwed (floorOf o))) 20 0 _ tt tt (lit< tt)
     (λ _. refuse-sized (not (holds (biConnected? (floorOf o)))) 21 0 _ tt tt (lit< tt)
     (λ _. refuse-sized (holds (disordered? (floorOf o) (rackCount o) (startsOf o) (goalsOf o))) 24 0 _ tt tt (lit< tt)
-    (λ _. accepts no-counts))))
+    (λ _. refuse-sized (not (holds (fourSided? (floorOf o)))) 26 0 _ tt tt (lit< tt)
+    (λ _. accepts no-counts)))))
 
 pub expand-sized : (s : List ℕ) (n : ℕ) → Sized OneCount (expandAnswer s n)
 unfolding expandAnswer

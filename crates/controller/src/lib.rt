@@ -48,7 +48,7 @@ pub extern "C" fn wichteab_order_check(order: &[u8]) -> u64
     }
 }
 
-// Judges an order by 10 to 14, 20, 21 and 24: whether its floor can be planned at all.
+// Judges an order by 10 to 14, 20, 21, 24 and 26: whether its floor can be planned at all.
 #[no_mangle]
 pub extern "C" fn wichteab_floor_check(order: &[u8]) -> u64
     ensures { λ r. ⌜ Tells nothing nothingOf (floorAnswer (now (order .entry))) r ⌝ }
@@ -72,8 +72,8 @@ pub extern "C" fn wichteab_order_expand(short: &[u8], buffer: &mut [u8]) -> u64
     }
 }
 
-// Makes a plan for an order and writes it to the front of the buffer, judged by 10 to 14, 20, 21, 24 and 23. Accepted, it gives the plan's
-// moves.
+// Makes a plan for an order and writes it to the front of the buffer, judged by 10 to 14, 20, 21, 24, 26 and 23. Accepted, it gives the
+// plan's moves.
 #[no_mangle]
 pub extern "C" fn wichteab_plan_make(order: &[u8], buffer: &mut [u8]) -> u64
     ensures { λ r. ⌜ ((a : Answer) × Tells oneCount planMovesOf a r

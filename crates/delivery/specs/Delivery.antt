@@ -102,7 +102,7 @@ pub record Delivered (o P T : List ℕ) (a : Answers) (P′ T′ : List ℕ) : T
 -- "For every well-formed order on a bi-connected floor of n positions, n from 4 to 64, that is not a single ring and has at least two
 -- vacant positions, given a plan buffer of at least" 18 × n × n × n + 3 "bytes, whatever it held before". Request (h): "the plan buffer
 -- named in demand 3 is this one". Request (d): "The never-fails result takes in these rings", n from 3 on: `Plannable` is the sum of the
--- two kinds.
+-- two kinds. Request (j): it "covers floors of at most four neighbours to a position".
 abbrev pub Delivers : List ℕ → List ℕ → List ℕ → Answers → List ℕ → List ℕ → Type 0
 Delivers o P T a P′ T′ =
     let n = positionCount o in Plannable o → 18 * (n * (n * n)) + 3 ≤ length P → Delivered o P T a P′ T′

@@ -23,6 +23,7 @@ use Rattle.order.specs.Order.{badEdge, ascending, wrongEdges}
 use Rattle.order.proofs.EdgeLaws.{isPair-same, ascending-first, rest-ascends, good-edge}
 use Rattle.tables.proofs.TableLaws.{zeros-at}
 use Rattle.sets.specs.Sets.{bit, Has}
+use Rattle.sets.specs.Sum.{sumBelow}
 use Rattle.sets.proofs.SetLaws.{has-or-not, bit-zero}
 use Rattle.graph.specs.Connected.{Ring}
 use Rattle.graph.specs.Rows.{Edge}
@@ -38,7 +39,7 @@ pub record Raised (g h : List ℕ) (q p : ℕ) : Type 0 where
 
 module _ (g h : List ℕ) where
   row-same : (a k : ℕ) → ((b : ℕ) → b < k → bit (getD h a 0) b ≡ bit (getD g a 0) b) → rowSum h a k ≡ rowSum g a k
-  unfolding rowSum
+  unfolding sumBelow
   row-same a zero same = refl
   row-same a (suc k) same =
       let r = row-same a k (λ b l. same b (omega arith)) in
@@ -47,7 +48,7 @@ module _ (g h : List ℕ) where
 
   module _ (q p : ℕ) (raised : Raised g h q p) where
     row-more : p < q → (k : ℕ) → k ≤ q → p < k → rowSum h q k ≡ rowSum g q k + 1
-    unfolding rowSum
+    unfolding sumBelow
     row-more lp zero m l = omega arith
     row-more lp (suc k) m l =
         by-cases (ℕ-discrete p k)
@@ -145,7 +146,7 @@ none-at : (a b : ℕ) → bit (getD (replicate 64 0) a 0) b ≡ 0
 none-at a b = ap (λ (s : ℕ). bit s b) (zeros-at 64 a) ∙ bit-zero b
 
 row-none : (a k : ℕ) → rowSum (replicate 64 0) a k ≡ 0
-unfolding rowSum
+unfolding sumBelow
 row-none a zero = refl
 row-none a (suc k) = let r = row-none a k in let z = none-at a k in omega arith
 

@@ -2,12 +2,14 @@
 --
 --     holds-yes, holds-no      a decision says yes of what holds, and no of what does not
 --     holds-true, holds-false  and what it says is so
---     floor-over               above an accepted order the judgement is 20, 21 and 24
+--     floor-over               above an accepted order the judgement is 20, 21, 24 and 26
 --     owed-on, owed-off        how many vacancies a ring owes, and any other floor
 --     plannable, plannable-is  accepted is plannable, and plannable is accepted
---     floorRefusals o          20, 21 and 24
+--     floorRefusals o          20, 21, 24 and 26
 --     told-disordered          24 is answered only of a well-formed order whose order round the ring differs
 --     few-never                two racks or fewer never meet 24
+--     told-sides               26 is answered only of a well-formed order whose floor has a position of five edges or more
+--     onRing-plannable         a ring passes 26
 --     onRing-rows              a ring, by its rows, is one
 --     offRing-rows             another floor, by its rows, is bi-connected and no ring: what crates/breakdown asks of a floor
 --     offRing-size             it has four positions at least, and more edges than positions
@@ -29,6 +31,7 @@ use Rattle.order.specs.Floor.{Floor}
 use Rattle.order.specs.Order.{positionCount, rackCount, floorOf, startsOf, goalsOf, counts, orderAnswer, WellFormed}
 use Rattle.order.proofs.OrderLaws.{well-formed, accepted-is, order-past}
 use Rattle.tables.proofs.AcceptedLaws.{well-placed}
+use Rattle.sets.specs.Sum.{sumBelow}
 use Rattle.sets.proofs.SetLaws.{bit-two}
 use Rattle.graph.specs.Connected.{BiConnected, Ring}
 use Rattle.graph.specs.Rows.{Edge}
@@ -41,6 +44,8 @@ use Rattle.ring.proofs.OrderLaws.{few-ordered}
 use Rattle.order.specs.Tables.{rowsOf}
 use Rattle.floor.proofs.FloorRows.{floor-rows, biConnected-rows}
 use Rattle.floor.proofs.EdgesCounted.{edges-counted, ring-rows}
+use Rattle.floor.specs.Sides.{FourSided, fourSided?}
+use Rattle.floor.proofs.SidesLaws.{sides-same, ring-sides}
 use Rattle.floor.specs.Plannable.{OffRing, OnRing, Plannable}
 
 never : true ≡ false → ⊥
@@ -63,13 +68,14 @@ module _ {A : Type 0} where
   holds-false (yes a) e x = never e
   holds-false (no f) e x = f x
 
--- 20, 21 and 24
+-- 20, 21, 24 and 26
 abbrev pub floorRefusals : List ℕ → Answer
 floorRefusals o =
     refuse (ltb (positionCount o) (rackCount o + vacanciesOwed (floorOf o))) 20 0
     (refuse (not (holds (biConnected? (floorOf o)))) 21 0
     (refuse (holds (disordered? (floorOf o) (rackCount o) (startsOf o) (goalsOf o))) 24 0
-    (accepted [])))
+    (refuse (not (holds (fourSided? (floorOf o)))) 26 0
+    (accepted []))))
 
 pub floor-over : (o v : List ℕ) → orderAnswer o ≡ accepted v → floorAnswer o ≡ floorRefusals o
 unfolding floorAnswer
@@ -88,18 +94,25 @@ plannable o v e =
     let F = floorOf o in
     let crowded = ltb (positionCount o) (rackCount o + vacanciesOwed F) in
     let disordered = disordered? F (rackCount o) (startsOf o) (goalsOf o) in
-    let a₂ = refuse (holds disordered) 24 0 (accepted []) in
+    let sided = fourSided? F in
+    let a₃ = refuse (not (holds sided)) 26 0 (accepted []) in
+    let a₂ = refuse (holds disordered) 24 0 a₃ in
     let a₁ = refuse (not (holds (biConnected? F))) 21 0 a₂ in
     let low = passUp-low (orderAnswer o) (floorRefusals o) v e in
     let e₀ : floorRefusals o ≡ accepted v = passUp-high (orderAnswer o) (floorRefusals o) v e in
     let e₁ : a₁ ≡ accepted v = refuse-else crowded 20 0 a₁ v e₀ in
     let e₂ : a₂ ≡ accepted v = refuse-else (not (holds (biConnected? F))) 21 0 a₂ v e₁ in
+    let e₃ : a₃ ≡ accepted v = refuse-else (holds disordered) 24 0 a₃ v e₂ in
     let room = ltb-false (positionCount o) (rackCount o + vacanciesOwed F) (refuse-not crowded 20 0 a₁ v e₀) in
-    let ordered = holds-false disordered (refuse-not (holds disordered) 24 0 (accepted []) v e₂) in
+    let ordered = holds-false disordered (refuse-not (holds disordered) 24 0 a₃ v e₂) in
+    let four = holds-true sided (not-false (holds sided) (refuse-not (not (holds sided)) 26 0 (accepted []) v e₃)) in
+    let form = well-formed o (low .0) (low .1) in
+    let w = well-placed o form in
     record {
-      right = well-formed o (low .0) (low .1);
+      right = form;
       biConnected = holds-true (biConnected? F) (not-false (holds (biConnected? F)) (refuse-not (not (holds
           (biConnected? F))) 21 0 a₂ v e₁));
+      sides = λ p l. subst (λ (k : ℕ). k ≤ 4) (sides-same F (w .edges-below) (w .few-positions) (w .edges-right) p) (four p l);
       kind = by-cases (ring? F)
           (λ r. inr (record {
             ring = r;
@@ -114,6 +127,9 @@ pub plannable-is : (o : List ℕ) → Plannable o → floorAnswer o ≡ accepted
 plannable-is o p =
     let F = floorOf o in
     let disordered = disordered? F (rackCount o) (startsOf o) (goalsOf o) in
+    let w = well-placed o (p .right) in
+    let four : FourSided F = λ q l.
+    subst (λ (k : ℕ). k ≤ 4) (sym (sides-same F (w .edges-below) (w .few-positions) (w .edges-right) q)) (p .sides q l) in
     floor-over o (counts o) (accepted-is o (p .right))
     ∙ ⊎-elim
     (λ k. rw (
@@ -121,12 +137,14 @@ plannable-is o p =
           (subst (λ (x : ℕ). rackCount o + x ≤ positionCount o) (sym (owed-off F (k .noRing))) (k .vacancies)),
       holds-yes (biConnected? F) (p .biConnected),
       holds-no disordered (λ d. k .noRing (d .ring)),
+      holds-yes (fourSided? F) four,
     ) refl)
     (λ k. rw (
       le-ltb (positionCount o) (rackCount o + vacanciesOwed F)
           (subst (λ (x : ℕ). rackCount o + x ≤ positionCount o) (sym (owed-on F (k .ring))) (k .vacancy)),
       holds-yes (biConnected? F) (p .biConnected),
       holds-no disordered (λ d. d .other (k .order)),
+      holds-yes (fourSided? F) four,
     ) refl)
     (p .kind)
 
@@ -138,18 +156,46 @@ told-disordered o e =
     let below = passUp-past (orderAnswer o) (floorRefusals o) 24 0 (order-past o 24 0 (lit< tt)) e in
     let t₀ = refuse-past (ltb (positionCount o) (rackCount o + vacanciesOwed F)) 20 0 _ 24 0 (λ z. omega arith) (below .1) in
     let t₁ = refuse-past (not (holds (biConnected? F))) 21 0 _ 24 0 (λ z. omega arith) (t₀ .1) in
-    (well-formed o (below .0 .0) (below .0 .1), told (disordered? F (rackCount o) (startsOf o) (goalsOf o)) (t₁ .1))
+    let disordered = disordered? F (rackCount o) (startsOf o) (goalsOf o) in
+    (well-formed o (below .0 .0) (below .0 .1), told disordered (not (holds (fourSided? F))) (t₁ .1))
   where
-    told : {A : Type 0} (d : Dec A) → refuse (holds d) 24 0 (accepted []) ≡ refused 24 0 → A
-    told (yes a) e = a
-    told (no f) e = absurd (not-both 24 0 [] (sym e))
+    told : {A : Type 0} (d : Dec A) (t : Bool) → refuse (holds d) 24 0 (refuse t 26 0 (accepted [])) ≡ refused 24 0 → A
+    told (yes a) t e = a
+    told (no f) t e = absurd (not-both 24 0 [] (sym (refuse-past t 26 0 (accepted []) 24 0 (λ z. omega arith) e .1)))
 
 pub few-never : (o : List ℕ) → rackCount o ≤ 2 → floorAnswer o ≢ refused 24 0
 few-never o l e = told-disordered o e .1 .other (few-ordered (rackCount o) _ _ l)
 
+pub told-sides : (o : List ℕ) → floorAnswer o ≡ refused 26 0 → WellFormed o × (FourSided (floorOf o) → ⊥)
+unfolding floorAnswer
+told-sides o e =
+    let F = floorOf o in
+    let below = passUp-past (orderAnswer o) (floorRefusals o) 26 0 (order-past o 26 0 (lit< tt)) e in
+    let t₀ = refuse-past (ltb (positionCount o) (rackCount o + vacanciesOwed F)) 20 0 _ 26 0 (λ z. omega arith) (below .1) in
+    let t₁ = refuse-past (not (holds (biConnected? F))) 21 0 _ 26 0 (λ z. omega arith) (t₀ .1) in
+    let t₂ = refuse-past (holds (disordered? F (rackCount o) (startsOf o) (goalsOf o))) 24 0 _ 26 0 (λ z. omega arith) (t₁ .1) in
+    (well-formed o (below .0 .0) (below .0 .1), told (fourSided? F) (t₂ .1))
+  where
+    told : {A : Type 0} (d : Dec A) → refuse (not (holds d)) 26 0 (accepted []) ≡ refused 26 0 → A → ⊥
+    told (yes a) e b = not-both 26 0 [] (sym e)
+    told (no f) e b = f b
+
+pub onRing-plannable : (o : List ℕ) → WellFormed o → OnRing o → Plannable o
+onRing-plannable o right k =
+    let w = well-placed o right in
+    let F = floorOf o in
+    record {
+      right = right;
+      biConnected = k .ring .biConnected;
+      sides = λ p l.
+          subst (λ (x : ℕ). x ≤ 4) (sides-same F (w .edges-below) (w .few-positions) (w .edges-right) p)
+          (ring-sides F (w .edges-below) (w .few-positions) (w .edges-right) (k .ring) p l);
+      kind = inr k;
+    }
+
 -- no more positions below k are joined to a than there are
 row-most : (g : List ℕ) (a k : ℕ) → rowSum g a k ≤ k
-unfolding rowSum
+unfolding sumBelow
 row-most g a zero = omega arith
 row-most g a (suc k) =
     let r = row-most g a k in

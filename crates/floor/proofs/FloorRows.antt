@@ -4,6 +4,7 @@
 --     joining-edge                       one position more in a row is one edge more
 --     joined-edges                       the edges of a list are in its rows besides what was there before
 --     joined-turned                      an edge joins both ways
+--     none-there                         at the start there is no edge
 --     edge-joins, joins-edge             the rows of a floor have the floor's edges and no others
 --     biConnected-rows                   bi-connected by the rows is bi-connected
 --     joined-other                       an edge joins two different positions
@@ -116,7 +117,7 @@ unfolding joined
 joined-turned F a b = or-comm (some (isPair (a, b)) (F .edges)) (some (isPair (b, a)) (F .edges))
 
 -- at the start there is no edge
-none-there : (a b : ℕ) → Edge (replicate 64 0) a b → ⊥
+pub none-there : (a b : ℕ) → Edge (replicate 64 0) a b → ⊥
 none-there a b h = has-none b (subst (λ (s : ℕ). Has s b) (zeros-at 64 a) h)
 
 module _ (F : Floor) (small : BelowPairs 64 (F .edges)) where

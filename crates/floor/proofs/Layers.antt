@@ -7,11 +7,11 @@
 --     counts-are, handed    the counts that an acceptance hands on
 --     refused-too, order-handed    a refusal hands on no counts
 --     rows-right, rows-counted, rings, ring-tables    the rows that the order's edges fill are those of its floor
---     apart, plain      off rings 21, and acceptance, from what the search of the rows says
+--     apart, many-sided, plain    off rings 21, 26, and acceptance, from what the search of the rows says
 -- Assumes nothing.
 use Prim.Native.Nat.{ℕ, _+_, _≤_, _<_}
 use mathlib.Core.Path.{_≡_, refl, sym, ap, ap₂, _∙_}
-use mathlib.Core.Bool.{Bool, true, false}
+use mathlib.Core.Bool.{Bool, true, false, false≢true}
 use mathlib.Core.List.{List, [], _∷_}
 use mathlib.Core.Logic.{_↔_}
 use native.Mathlib.Omega.{arith}
@@ -25,14 +25,16 @@ use Rattle.order.specs.Order.{positionCount, edgeCount, rackCount, floorOf, sta
 use Rattle.tables.specs.Accepted.{OrderGave}
 use Rattle.tables.proofs.AcceptedLaws.{order-gave}
 use Rattle.graph.specs.Connected.{BiConnected, Ring}
-use Rattle.graph.specs.EdgeCount.{edgeCount as edgesIn}
+use Rattle.graph.specs.EdgeCount.{edgeCount as edgesIn, FourSided as FourInRows}
 use Rattle.graph.specs.Rows.{Edge, Rows}
 use Rattle.floor.specs.FloorAnswer.{Joins, SameRound, biConnected?, disordered?, vacanciesOwed, holds, floorAnswer}
 use Rattle.order.specs.Tables.{rowsOf, decodedRows, decodedStarts, decodedGoals}
 use Rattle.floor.specs.RingTables.{RingTables}
+use Rattle.floor.specs.Sides.{FourSided, fourSided?}
 use Rattle.floor.proofs.FloorRows.{biConnected-rows, filled-is, filled-rows}
 use Rattle.floor.proofs.FloorLaws.{holds-yes, holds-no, floorRefusals, floor-over, owed-on, owed-off}
 use Rattle.floor.proofs.EdgesCounted.{edges-counted, ring-rows}
+use Rattle.floor.proofs.SidesLaws.{sides-rows, ring-sides}
 
 pub edges-length : (o : List ℕ) → length (floorOf o .edges) ≡ edgeCount o
 unfolding floorOf
@@ -115,12 +117,14 @@ module _ (o : List ℕ) (n e m : ℕ) (a : accepted (n ∷ e ∷ m ∷ []) ≡ o
 
   pub ring-plain : RingFloor → m < n → Order → accepted [] ≡ floorAnswer o
   ring-plain ring h same =
+      let w = gave .placed-well in
       sym
       (over
       ∙ rw (
         vacant 1 (owed-on (floorOf o) ring) (omega arith),
         holds-yes (biConnected? (floorOf o)) (ring .biConnected),
         holds-no (disordered? (floorOf o) (rackCount o) (startsOf o) (goalsOf o)) (λ d. d .other same),
+        holds-yes (fourSided? (floorOf o)) (ring-sides (floorOf o) (w .edges-below) (w .few-positions) (w .edges-right) ring),
       ) refl)
 
   module _ (g : List ℕ) (filled : g ≡ decodedRows o) where
@@ -158,18 +162,33 @@ module _ (o : List ℕ) (n e m : ℕ) (a : accepted (n ∷ e ∷ m ∷ []) ≡ o
           (over
           ∙ rw (
             vacant 2 (owed-off (floorOf o) off) room,
-            holds-no (biConnected? (floorOf o)) (λ b. never (sym f ∙ t .1 (same .1 b))),
+            holds-no (biConnected? (floorOf o)) (λ b. false≢true (sym f ∙ t .1 (same .1 b))),
           ) refl)
-        where
-          never : false ≡ true → ⊥
-          never z = let w : _≡_ {A = ℕ} 0 1 = cc in omega arith
 
-      pub plain : r ≡ true → accepted [] ≡ floorAnswer o
-      plain y =
-          sym
-          (over
-          ∙ rw (
-            vacant 2 (owed-off (floorOf o) off) room,
-            holds-yes (biConnected? (floorOf o)) (same .0 (t .0 y)),
-            holds-no (disordered? (floorOf o) (rackCount o) (startsOf o) (goalsOf o)) (λ d. off (d .ring)),
-          ) refl)
+      module _ (y : r ≡ true) (q : Bool) (u : (q ≡ true) ↔ FourInRows n g) where
+        four : FourInRows n g ↔ FourSided (floorOf o)
+        four =
+            let w = gave .placed-well in
+            rw (gave .positions-are, rows-are) (sides-rows (floorOf o) (w .edges-below) (w .few-positions) (w .edges-right))
+
+        pub many-sided : q ≡ false → refused 26 0 ≡ floorAnswer o
+        many-sided f =
+            sym
+            (over
+            ∙ rw (
+              vacant 2 (owed-off (floorOf o) off) room,
+              holds-yes (biConnected? (floorOf o)) (same .0 (t .0 y)),
+              holds-no (disordered? (floorOf o) (rackCount o) (startsOf o) (goalsOf o)) (λ d. off (d .ring)),
+              holds-no (fourSided? (floorOf o)) (λ b. false≢true (sym f ∙ u .1 (four .1 b))),
+            ) refl)
+
+        pub plain : q ≡ true → accepted [] ≡ floorAnswer o
+        plain z =
+            sym
+            (over
+            ∙ rw (
+              vacant 2 (owed-off (floorOf o) off) room,
+              holds-yes (biConnected? (floorOf o)) (same .0 (t .0 y)),
+              holds-no (disordered? (floorOf o) (rackCount o) (startsOf o) (goalsOf o)) (λ d. off (d .ring)),
+              holds-yes (fourSided? (floorOf o)) (four .0 (u .0 z)),
+            ) refl)

@@ -4,3 +4,4 @@ pub mod ExamplesLaws
 pub mod FloorLaws
 pub mod FloorRows
 pub mod RoundTables
+pub mod SidesLaws

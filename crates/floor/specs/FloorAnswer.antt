@@ -1,5 +1,5 @@
--- The planner's judgement of an order before it measures its buffer, from document 01, "The floor" and "Returned numbers", and request (d),
--- "Ring floors".
+-- The planner's judgement of an order before it measures its buffer, from document 01, "The floor" and "Returned numbers", and requests
+-- (d), "Ring floors", and (j), "Four sides only".
 --
 --     Joins F a b        an edge of the floor F joins a and b
 --     passes? t          the test t passes or not
@@ -11,7 +11,8 @@
 --     disordered? F m A B    that is so or not
 --     holds d            the decision d says yes
 --     vacanciesOwed F    how many positions of the floor F have to be vacant
---     floorAnswer o      the answer for the order o: the order reader's refusal, else the first of 20, 21, 24 that applies, else accepted
+--     floorAnswer o      the answer for the order o: the order reader's refusal, else the first of 20, 21, 24, 26 that applies, else
+--                        accepted
 -- What a decision decides is its type: `BiConnected` and `Ring` are defined by walks (crates/graph, Connected), `SameOrder` by any three
 -- racks (crates/ring, Order). How it does so (WayDecision, RoundDecision) is no part of what is promised.
 -- Assumes nothing.
@@ -30,6 +31,7 @@ use Rattle.ring.specs.Circle.{roundOf, placeIn}
 use Rattle.ring.specs.Order.{SameOrder}
 use Rattle.floor.specs.WayDecision.{alike?, both?, not?, decideBiConnected}
 use Rattle.floor.specs.RoundDecision.{sameOrder?}
+use Rattle.floor.specs.Sides.{fourSided?}
 
 abbrev pub Joins : Floor → ℕ → ℕ → Type 0
 Joins F a b = T (joined F a b)
@@ -77,11 +79,13 @@ abbrev pub vacanciesOwed : Floor → ℕ
 vacanciesOwed F = cond (holds (ring? F)) 1 2
 
 -- "The lowest number that applies is returned, from these sets: planner 10 to 14 and 20 to 23". The place is 0. "22 is no longer met."
--- 21: "floor not bi-connected"; "24 the order round the ring differs; after 21, before 23"
+-- 21: "floor not bi-connected"; "24 the order round the ring differs; after 21, before 23";
+-- "26 a position has five or more edges; after 24, before 23"
 unfoldable pub floorAnswer : List ℕ → Answer
 floorAnswer o =
     passUp (orderAnswer o)
     (refuse (ltb (positionCount o) (rackCount o + vacanciesOwed (floorOf o))) 20 0
     (refuse (not (holds (biConnected? (floorOf o)))) 21 0
     (refuse (holds (disordered? (floorOf o) (rackCount o) (startsOf o) (goalsOf o))) 24 0
-    (accepted []))))
+    (refuse (not (holds (fourSided? (floorOf o)))) 26 0
+    (accepted [])))))

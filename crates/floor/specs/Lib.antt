@@ -3,5 +3,6 @@ pub mod Verdict
 pub mod WayDecision
 pub mod RoundDecision
 pub mod RingTables
+pub mod Sides
 pub mod Plannable
 pub mod CaseBookOrders

@@ -45,8 +45,8 @@ fn same_round(rows: &[u64; 64], starts: &[u8; 64], goals: &[u8; 64], n: usize, m
     ring::same_order(n, m, &from, &to)
 }
 
-// 10 to 14, 20, 21 and 24: the verdict on any byte string as an order that is to be planned. Off rings 20 needs no search of the floor. An
-// acceptance hands on the order's counts; the tables are what decoding the order leaves.
+// 10 to 14, 20, 21, 24 and 26: the verdict on any byte string as an order that is to be planned. Off rings 20 needs no search of the floor;
+// on a ring each position has two edges. An acceptance hands on the order's counts; the tables are what decoding the order leaves.
 pub fn judge(
     order: &[u8],
     rows: &mut [u64; 64],
@@ -79,6 +79,9 @@ pub fn judge(
     }
     if !graph::is_biconnected(rows, n) {
         return FloorVerdict::Refused(Fault::FloorNotBiconnected, 0);
+    }
+    if !graph::is_four_sided(rows, n) {
+        return FloorVerdict::Refused(Fault::FloorSides, 0);
     }
     FloorVerdict::Accepted(counts)
 }

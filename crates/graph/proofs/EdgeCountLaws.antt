@@ -9,6 +9,7 @@
 --     rowsSum-more        two edges at least at each position, and three at one of them
 --     Neighbours, biConnected-neighbours    on a bi-connected floor each position has two neighbours at least
 --     biConnected-edges   a bi-connected floor has as many edges as positions at least
+--     ring-two            on a ring no position has three neighbours
 -- Assumes nothing.
 use Prim.Native.Nat.{ℕ, zero, suc, _+_, _*_, _-_, _≤_, _<_}
 use mathlib.Core.Path.{_≡_, refl, sym, ap, _∙_}
@@ -18,8 +19,9 @@ use native.Mathlib.Decide.{ℕ-discrete, decLt}
 use native.Mathlib.Omega.{arith}
 use lib.ListN.{getD}
 use Rattle.sets.specs.Sets.{bit}
+use Rattle.sets.specs.Sum.{sumBelow}
 use Rattle.graph.proofs.WalkLaws.{walk-starts}
-use Rattle.graph.specs.Connected.{BiConnected}
+use Rattle.graph.specs.Connected.{BiConnected, Ring}
 use Rattle.graph.proofs.ConnectedLaws.{third}
 use Rattle.graph.specs.Rows.{Edge, Rows}
 use Rattle.graph.proofs.RowLaws.{edge-same, edge-loopless}
@@ -35,12 +37,12 @@ columnSum g zero k = 0
 columnSum g (suc a) k = columnSum g a k + bit (getD g a 0) k
 
 rows-wider : (g : List ℕ) (m k : ℕ) → rowsSum g m (suc k) ≡ rowsSum g m k + columnSum g m k
-unfolding rowsSum rowSum columnSum
+unfolding rowsSum sumBelow columnSum
 rows-wider g zero k = refl
 rows-wider g (suc a) k = let r = rows-wider g a k in omega arith
 
 column-row : {n : ℕ} (g : List ℕ) → Rows n g → (a k : ℕ) → a ≤ k → k < n → columnSum g a k ≡ rowSum g k a
-unfolding columnSum rowSum
+unfolding columnSum sumBelow
 column-row g m zero k l h = refl
 column-row g m (suc a) k l h =
     let r = column-row g m a k (omega arith) h in
@@ -48,7 +50,7 @@ column-row g m (suc a) k l h =
     omega arith
 
 pub handshake : {n : ℕ} (g : List ℕ) → Rows n g → (k : ℕ) → k ≤ n → rowsSum g k k ≡ 2 * edgeCount g k
-unfolding rowsSum rowSum edgeCount
+unfolding rowsSum sumBelow edgeCount
 handshake g m zero l = refl
 handshake g m (suc k) l =
     let r = handshake g m k (omega arith) in
@@ -65,7 +67,7 @@ record TwoOnes (g : List ℕ) (a p q k : ℕ) : Type 0 where
 
 two-ones : (g : List ℕ) (a p q n : ℕ) → p < q → bit (getD g a 0) p ≡ 1 → bit (getD g a 0) q ≡ 1
     → ((b : ℕ) → b < n → b ≢ p → b ≢ q → bit (getD g a 0) b ≡ 0) → (k : ℕ) → k ≤ n → TwoOnes g a p q k
-unfolding rowSum
+unfolding sumBelow
 two-ones g a p q n l e f rest zero h = record { before = λ x. refl; middle = λ x. omega arith; after = λ x. omega arith }
 two-ones g a p q n l e f rest (suc k) h =
     let r = two-ones g a p q n l e f rest k (omega arith) in
@@ -103,7 +105,7 @@ rowsSum-two g (suc m) n two =
     omega arith
 
 rowSum-mono : (g : List ℕ) (a j d : ℕ) → rowSum g a j ≤ rowSum g a (j + d)
-unfolding rowSum
+unfolding sumBelow
 rowSum-mono g a j zero = let i : j + 0 ≡ j = omega arith in let e : rowSum g a (j + 0) ≡ rowSum g a j = ap (rowSum g a) i in omega arith
 rowSum-mono g a j (suc d) =
     let r = rowSum-mono g a j d in
@@ -113,7 +115,7 @@ rowSum-mono g a j (suc d) =
 
 -- a 1 at p adds to what stands before it
 rowSum-past : (g : List ℕ) (a p k : ℕ) → p < k → bit (getD g a 0) p ≡ 1 → rowSum g a p + 1 ≤ rowSum g a k
-unfolding rowSum
+unfolding sumBelow
 rowSum-past g a p k l e =
     let r = rowSum-mono g a (suc p) (k - suc p) in
     let i : suc p + (k - suc p) ≡ k = omega arith in
@@ -200,3 +202,13 @@ module _ {n : ℕ} {g : List ℕ} (rows : Rows n g) (bi : BiConnected n (Edge g)
       let twice = handshake g rows n (omega arith) in
       let rows = rowsSum-least g n n biConnected-degree in
       omega arith
+
+pub ring-two : {n : ℕ} {g : List ℕ} → Rows n g → Ring n (Edge g) (edgeCount g n) → (a : ℕ) → a < n → rowSum g a n ≤ 2
+ring-two {n} {g} rows ring a below =
+    by-cases (decLt 2 (rowSum g a n))
+    (λ three.
+    let more = rowsSum-more g a n n (biConnected-degree rows (ring .biConnected)) below three in
+    let twice = handshake g rows n (omega arith) in
+    let count = ring .count in
+    omega arith)
+    (λ few. omega arith)

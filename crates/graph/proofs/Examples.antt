@@ -16,6 +16,7 @@ use native.Mathlib.Omega.{arith}
 use lib.Dec.{T, leb, ltb, eqb, leb→le, ltb→lt, eqb→eq}
 use lib.ListN.{getD, length, List·getD-eq-default}
 use Rattle.sets.specs.Sets.{bit, Has}
+use Rattle.sets.specs.Sum.{sumBelow}
 use Rattle.sets.proofs.SetLaws.{has-none, has-below}
 use Rattle.graph.specs.Rows.{Edge, Rows}
 use Rattle.graph.specs.EdgeCount.{rowSum, edgeCount}
@@ -117,7 +118,7 @@ unfolding floorF bit
 floorF-rows = rows-tested 4 floorF tt
 
 pub floorF-edges : edgeCount floorF 4 ≡ 5
-unfolding floorF edgeCount rowSum bit
+unfolding floorF edgeCount sumBelow bit
 floorF-edges = refl
 
 pub triangle-rows : Rows 3 triangle
@@ -125,5 +126,5 @@ unfolding triangle bit
 triangle-rows = rows-tested 3 triangle tt
 
 pub triangle-edges : edgeCount triangle 3 ≡ 3
-unfolding triangle edgeCount rowSum bit
+unfolding triangle edgeCount sumBelow bit
 triangle-edges = refl

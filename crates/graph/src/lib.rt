@@ -8,7 +8,7 @@ ghost use lib.ListN.{getD, length};
 ghost use Rattle.sets.specs.Sets.{Has};
 ghost use Rattle.graph.specs.Walk.{Symmetric};
 ghost use Rattle.graph.specs.Connected.{Whole, Connected, ConnectedWithout, BiConnected, Ring};
-ghost use Rattle.graph.specs.EdgeCount.{edgeCount};
+ghost use Rattle.graph.specs.EdgeCount.{edgeCount, FourSided};
 ghost use Rattle.graph.specs.Rows.{Edge, Rows};
 ghost use Rattle.graph.specs.Levels.{Touches, Spread, Descent, Traced};
 ghost use Rattle.graph.specs.Nearest.{Nearest};
@@ -164,4 +164,19 @@ pub fn is_ring(rows: &[u64; 64], n: usize, e: usize) -> bool
         return false;
     }
     is_biconnected(rows, n)
+}
+
+// Is no position joined to more than four others?
+pub fn is_four_sided(rows: &[u64; 64], n: usize) -> bool
+    requires { ⌜ Rows n (now rows) ⌝ }
+    ensures { λ r. ⌜ (r ≡ true) ↔ FourSided n (now (rows .entry)) ⌝ }
+{
+    let mut p: usize = 0;
+    while p < n {
+        if 4 < sets::size(rows[p]) {
+            return false;
+        }
+        p += 1;
+    }
+    true
 }

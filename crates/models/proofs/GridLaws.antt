@@ -7,6 +7,7 @@
 --                       for each further position
 --     model-breakdown   it is a breakdown of each model
 --     model-biConnected, model-noRing    so each is bi-connected, and it is no ring
+--     model-sides       no position of a model has five or more edges
 --     one-model         no two have as many positions
 --     ModelSize F, model-size    1 to 64 positions, at most 255 edges, and more of them than positions
 --     model-below       of positions below 64
@@ -33,6 +34,7 @@ use Rattle.graph.specs.Connected.{BiConnected, Ring}
 use Rattle.breakdown.specs.Breakdown.{Breakdown}
 use Rattle.breakdown.proofs.StageLaws.{breakdown-biConnected}
 use Rattle.floor.specs.FloorAnswer.{Joins}
+use Rattle.floor.specs.Sides.{countOf, edgesAt, FourSided}
 use Rattle.floor.proofs.FloorRows.{joined-turned}
 use Rattle.models.specs.Grid.{modelRows, modelColumns, rowsOf, columnsOf, unknownModel}
 use Rattle.models.specs.Grid.{toRight, toBelow, edgesOn, gridEdges, grid, modelFloor}
@@ -110,6 +112,10 @@ module _ (k : ℕ) where
       let F = modelFloor k in
       leb 1 (F .positions) && (leb (F .positions) 64 && (leb (length (F .edges)) 255 && ltb (F .positions) (length (F .edges))))
 
+  -- no position has five or more edges
+  abbrev isFourSided : Bool
+  isFourSided = from 0 (modelFloor k .positions) (λ p. leb (edgesAt (modelFloor k) p) 4)
+
 all-broken : T (from 1 5 isBroken)
 unfolding from certifies joined some isPair grid gridEdges edgesOn toRight toBelow rowsOf columnsOf
 all-broken = tt
@@ -117,6 +123,10 @@ all-broken = tt
 all-sized : T (from 1 5 isSized)
 unfolding from modelFloor grid gridEdges edgesOn toRight toBelow rowsOf columnsOf
 all-sized = tt
+
+all-sided : T (from 1 5 isFourSided)
+unfolding from countOf modelFloor grid gridEdges edgesOn toRight toBelow rowsOf columnsOf
+all-sided = tt
 
 all-measured : T (from 1 5 isMeasured)
 unfolding from modelFloor grid gridEdges edgesOn toRight toBelow rowsOf columnsOf
@@ -178,6 +188,12 @@ module _ (k : ℕ) (known : unknownModel k ≡ false) where
 
   pub model-noRing : Ring (modelFloor k .positions) (Joins (modelFloor k)) (length (modelFloor k .edges)) → ⊥
   model-noRing r = let e = r .count in let l = model-size .more-edges in omega arith
+
+  pub model-sides : FourSided (modelFloor k)
+  model-sides p l =
+      let F = modelFloor k in
+      leb→le (edgesAt F p) 4
+      (from-each 0 (F .positions) (λ p. leb (edgesAt F p) 4) (models-each isFourSided all-sided k known) p (omega arith) (omega arith))
 
   pub model-edges : wrongEdges (modelFloor k) ≡ false
   model-edges = falsely (wrongEdges (modelFloor k)) (models-each (λ k. not (wrongEdges (modelFloor k))) all-ascend k known)

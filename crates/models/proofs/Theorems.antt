@@ -1,13 +1,13 @@
 -- Every order on a model's floor, whoever wrote it and with any number of racks, is planned where two positions are vacant.
 --
 --     same-floor          such an order's floor is the model's, edge for edge
---     never-turned        21, 22 and 24 never apply to it
+--     never-turned        21, 22, 24 and 26 never apply to it
 --     model-plannable     with m + 2 at most n nothing turns it away before the plan buffer is measured: the never-fails theorem applies
 --     model-planned       so the planner's judgement before it measures is acceptance
 --     full-sound          what a short order that is accepted stands for
 --     written-out         what is written is well formed, on the model's floor, and reads back
 --     one-short           two accepted short orders that are written out as the same record are the same bytes
---     short-never-turned, short-plannable    so 21, 22 and 24 never apply to what is written, and with two vacancies it is planned
+--     short-never-turned, short-plannable    so 21, 22, 24 and 26 never apply to what is written, and with two vacancies it is planned
 -- Assumes nothing.
 use Prim.Native.Nat.{ℕ, _+_, _≤_}
 use mathlib.Core.Path.{_≡_, refl, sym, ap, subst, _∙_}
@@ -29,7 +29,9 @@ use Rattle.order.proofs.Theorems.{same-edges}
 use Rattle.graph.specs.Connected.{BiConnected, Ring}
 use Rattle.tables.proofs.AcceptedLaws.{well-placed}
 use Rattle.floor.specs.FloorAnswer.{Joins, biConnected?, disordered?, floorAnswer}
+use Rattle.floor.specs.Sides.{FourSided, fourSided?}
 use Rattle.floor.specs.Plannable.{Plannable}
+use Rattle.floor.proofs.SidesLaws.{sides-same}
 use Rattle.floor.proofs.FloorLaws.{holds-yes, holds-no, owed-off, floor-over, plannable-is}
 use Rattle.models.specs.Grid.{unknownModel, modelFloor}
 use Rattle.models.specs.ShortOrder.{modelCode, shortStarts, shortGoals, shortOf, wrongShort}
@@ -37,7 +39,7 @@ use Rattle.models.specs.Expansion.{fullOrder, expanded, expandAnswer}
 use Rattle.models.specs.Theorems.{HasModel, NeverTurned, WrittenOut}
 use Rattle.models.proofs.ExpansionLaws.{length-starts, length-goals, Sound, accepted-expand}
 use Rattle.models.proofs.ShortLaws.{short-of-read}
-use Rattle.models.proofs.GridLaws.{model-biConnected, model-noRing, model-size, model-edges, model-below, one-model}
+use Rattle.models.proofs.GridLaws.{model-biConnected, model-noRing, model-sides, model-size, model-edges, model-below, one-model}
 
 module _ (o : List ℕ) (k : ℕ) (h : HasModel o k) where
   pub same-floor : floorOf o ≡ modelFloor k
@@ -54,7 +56,10 @@ module _ (o : List ℕ) (k : ℕ) (h : HasModel o k) where
   order-noRing : Ring (floorOf o .positions) (Joins (floorOf o)) (length (floorOf o .edges)) → ⊥
   order-noRing = subst (λ (F : Floor). Ring (F .positions) (Joins F) (length (F .edges)) → ⊥) (sym same-floor) (model-noRing k (h .known))
 
-  -- only 20 is left of 20, 21 and 24
+  order-sides : FourSided (floorOf o)
+  order-sides = subst FourSided (sym same-floor) (model-sides k (h .known))
+
+  -- only 20 is left of 20, 21, 24 and 26
   crowded-or-accepted : floorAnswer o ≡ refuse (ltb (positionCount o) (rackCount o + 2)) 20 0 (accepted [])
   crowded-or-accepted =
       floor-over o (counts o) (accepted-is o (h .right))
@@ -62,6 +67,7 @@ module _ (o : List ℕ) (k : ℕ) (h : HasModel o k) where
         owed-off (floorOf o) order-noRing,
         holds-yes (biConnected? (floorOf o)) order-biConnected,
         holds-no (disordered? (floorOf o) (rackCount o) (startsOf o) (goalsOf o)) (λ d. order-noRing (d .ring)),
+        holds-yes (fourSided? (floorOf o)) order-sides,
       ) refl
 
   pub never-turned : NeverTurned o
@@ -70,6 +76,7 @@ module _ (o : List ℕ) (k : ℕ) (h : HasModel o k) where
         not-21 = λ place e. never 21 place (λ x. omega arith) e;
         not-22 = λ place e. never 22 place (λ x. omega arith) e;
         not-24 = λ place e. never 24 place (λ x. omega arith) e;
+        not-26 = λ place e. never 26 place (λ x. omega arith) e;
       }
     where
       neither : (t : Bool) (number place : ℕ) → (number ≡ 20 → ⊥) → refuse t 20 0 (accepted []) ≡ refused number place → ⊥
@@ -80,12 +87,15 @@ module _ (o : List ℕ) (k : ℕ) (h : HasModel o k) where
       never number place d e = neither (ltb (positionCount o) (rackCount o + 2)) number place d (sym crowded-or-accepted ∙ e)
 
   pub model-plannable : rackCount o + 2 ≤ positionCount o → Plannable o
-  model-plannable vacancies = record {
-    right = h .right;
-    biConnected = order-biConnected;
-    kind = inl
-        (record { noRing = order-noRing; vacancies = vacancies });
-  }
+  model-plannable vacancies =
+      let w = well-placed o (h .right) in
+      record {
+        right = h .right;
+        biConnected = order-biConnected;
+        sides = λ p l.
+            subst (λ (k : ℕ). k ≤ 4) (sides-same (floorOf o) (w .edges-below) (w .few-positions) (w .edges-right) p) (order-sides p l);
+        kind = inl (record { noRing = order-noRing; vacancies = vacancies });
+      }
 
   pub model-planned : rackCount o + 2 ≤ positionCount o → floorAnswer o ≡ accepted []
   model-planned vacancies = plannable-is o (model-plannable vacancies)

@@ -1,17 +1,19 @@
 -- What the plan program writes for the case book's orders, whatever stood in the lent bytes, by computation.
 --
---     allOfSixteen      16 positions, every two of them joined, and no racks
+--     fourByFour         the model of 4 by 4 positions, and no racks
 --     large              it can be planned, though not in 65,536 bytes
+--     allOfSixteen       16 positions, every two of them joined, and no racks: 26, though 23 applies too
 --     refusals-met       the planner's refusals of these orders, with 65,536 bytes
 --     floor-line         the line of 23, byte for byte
---     lines-met          no input; F with three racks; the path of four; three positions in a ring; the 16 positions: a line each
+--     lines-met          no input; F with three racks; the path of four; a ring the other way round; the two floors of 16 positions: a line
+--                        each
 --     moves₁, plan₁      the plan of "Programs", and its record in edition two
 --     plan-met           the order of "Programs": that record may be written
 --     lent-met           what is asked of the lent bytes can be met
 -- Assumes nothing.
 use Prim.Native.Nat.{ℕ, _≤_}
 use mathlib.Core.Path.{_≡_, refl, ap, subst, _∙_}
-use mathlib.Core.Bool.{true}
+use mathlib.Core.Bool.{true, false}
 use mathlib.Core.List.{List, [], _∷_}
 use native.Mathlib.Omega.{arith}
 use lib.ListN.{length, getD, replicate, length-replicate}
@@ -39,39 +41,57 @@ use Rattle.ring.specs.Circle.{placeIn, roundOf, follow, onward}
 use Rattle.floor.specs.FloorAnswer.{biConnected?, ring?, roundPlace, disordered?, floorAnswer}
 use Rattle.floor.specs.RoundDecision.{rack?, inTurn?, sameOrder?}
 use Rattle.floor.specs.Plannable.{Plannable}
-use Rattle.floor.proofs.FloorLaws.{plannable}
+use Rattle.floor.specs.Sides.{countOf, fourSided?}
+use Rattle.floor.proofs.FloorLaws.{plannable-is}
 use Rattle.floor.specs.CaseBookOrders.{mirrored, threeRacks, pathOfFour}
 use Rattle.floor.proofs.ExamplesLaws.{twoRacks}
+use Rattle.models.specs.Grid.{rowsOf, columnsOf, unknownModel, grid, modelFloor}
+use Rattle.models.specs.ShortOrder.{shortRecord}
+use Rattle.models.specs.Expansion.{expanded}
+use Rattle.models.proofs.Theorems.{model-plannable}
+use Rattle.models.proofs.EveryShort.{model-order}
 use Rattle.planner.specs.Moves.{Solves}
 use Rattle.planner.specs.Planner.{refusals, made}
 use Rattle.plan_program.specs.Printed.{Printed}
 use Rattle.plan_program.proofs.PrintedLaws.{made-printed, line-printed}
 
+unfoldable pub fourByFour : List ℕ
+fourByFour = expanded (shortRecord (record { model = 3; starts = []; goals = [] }))
+
+known : unknownModel 3 ≡ false
+unfolding unknownModel
+known = refl
+
+sixteen : positionCount fourByFour ≡ 16
+unfolding fourByFour floorOf modelFloor grid rowsOf columnsOf
+sixteen = model-order 3 known .0 .positions
+
+-- the hypotheses of `printed-large` hold of something
+pub large : Plannable fourByFour × (16 ≤ positionCount fourByFour)
+unfolding fourByFour
+large = let m = model-order 3 known in (model-plannable fourByFour 3 (m .0) (m .1), omega (arith, sixteen))
+
 unfoldable pub allOfSixteen : List ℕ
 allOfSixteen = orderRecord (record { floor = floorFrom 16 (λ a b. true); starts = []; goals = [] })
 
--- the hypotheses of `printed-large` hold of something
-pub large : Plannable allOfSixteen × (16 ≤ positionCount allOfSixteen)
-unfolding allOfSixteen orderRecord orderBits floorFrom listed isEdge bits pairBits positionBits toBytes padded pad bytes floorAnswer
-    biConnected? ring? disordered? roundPlace sameOrder? rack? inTurn? placeIn roundOf follow onward firstFrom stands joined some isPair
-    orderAnswer wrongLength misfits recordLength unitCount wrongPositions paddingSet padSet unclean
-    wrongEdges badEdge precedes ascending wrongRacks wrongPlaces repeats orderOf floorOf startsOf goalsOf counts positionCount
-    edgeCount rackCount field number bitsOf pairs positions
-large = (plannable allOfSixteen [] refl, lit≤ tt)
+large-refused : refusals fourByFour 65536 ≡ refused 23 0
+unfolding refusals
+large-refused = rw (plannable-is fourByFour (large .0), sixteen) refl
 
 pub refusals-met :
     (refusals [] 65536 ≡ refused 10 0)
     × (refusals threeRacks 65536 ≡ refused 20 0)
     × (refusals pathOfFour 65536 ≡ refused 21 0)
     × (refusals mirrored 65536 ≡ refused 24 0)
-    × (refusals allOfSixteen 65536 ≡ refused 23 0)
+    × (refusals fourByFour 65536 ≡ refused 23 0)
+    × (refusals allOfSixteen 65536 ≡ refused 26 0)
     × (refusals twoRacks 65536 ≡ accepted [])
 unfolding refusals allOfSixteen orderRecord orderBits floorFrom listed isEdge bits pairBits positionBits toBytes padded pad bytes
-    floorAnswer biConnected? ring? disordered? roundPlace sameOrder? rack? inTurn? placeIn roundOf follow onward firstFrom stands joined
-    some isPair orderAnswer wrongLength misfits recordLength unitCount wrongPositions paddingSet
-    padSet unclean wrongEdges badEdge precedes ascending wrongRacks wrongPlaces repeats orderOf floorOf startsOf goalsOf counts positionCount
-    edgeCount rackCount field number bitsOf pairs positions
-refusals-met = (refl, refl, refl, refl, refl, refl)
+    floorAnswer biConnected? ring? fourSided? countOf disordered? roundPlace sameOrder? rack? inTurn? placeIn roundOf follow onward
+    firstFrom stands joined some isPair orderAnswer wrongLength misfits recordLength unitCount wrongPositions paddingSet padSet unclean
+    wrongEdges badEdge precedes ascending wrongRacks wrongPlaces repeats orderOf floorOf startsOf goalsOf counts positionCount edgeCount
+    rackCount field number bitsOf pairs positions
+refusals-met = (refl, refl, refl, refl, large-refused, refl, refl)
 
 -- refused 23 0 floor
 pub floor-line : refusalLine 23 0
@@ -107,16 +127,18 @@ module _ (B : List ℕ) (lent : length B ≡ 65536) where
       × Printed threeRacks B (written B 0 (refusalLine 20 0)) (length (refusalLine 20 0))
       × Printed pathOfFour B (written B 0 (refusalLine 21 0)) (length (refusalLine 21 0))
       × Printed mirrored B (written B 0 (refusalLine 24 0)) (length (refusalLine 24 0))
-      × Printed allOfSixteen B (written B 0 (refusalLine 23 0)) (length (refusalLine 23 0))
+      × Printed fourByFour B (written B 0 (refusalLine 23 0)) (length (refusalLine 23 0))
+      × Printed allOfSixteen B (written B 0 (refusalLine 26 0)) (length (refusalLine 26 0))
   lines-met = (
     line-printed lent (refusals-met .0),
     line-printed lent (refusals-met .1),
     line-printed lent (refusals-met .2),
     line-printed lent (refusals-met .3),
     line-printed lent (refusals-met .4),
+    line-printed lent (refusals-met .5),
   )
 
   pub plan-met : Printed twoRacks B (written B 0 plan₁) 12
   plan-met =
       subst (λ (p : List ℕ). Printed twoRacks B (written B 0 p) 12) record₁
-      (made-printed lent (made moves₁ (ap (refusals twoRacks) lent ∙ refusals-met .5) solves₁) refl)
+      (made-printed lent (made moves₁ (ap (refusals twoRacks) lent ∙ refusals-met .6) solves₁) refl)

@@ -19,7 +19,7 @@ use Rattle.planner.specs.Moves.{Solves}
 use Rattle.planner.specs.declared.PlannerVerdict.{PlannerVerdict}
 use Rattle.planner.specs.declared.PlannerVerdict.the-variants.{Planned, Refused}
 
--- "planner 10 to 14 and 20 to 23"; 24 comes before 23, and is the floor judge's; 23: "plan buffer shorter than" the size of
+-- "planner 10 to 14 and 20 to 23"; 24 and then 26 come before 23, and are the floor judge's; 23: "plan buffer shorter than" the size of
 -- request (h): the planner "needs 18 × n × n × n + 3 bytes, and 23 uses that size"
 unfoldable pub refusals : List ℕ → ℕ → Answer
 refusals o b =

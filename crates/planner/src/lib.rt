@@ -133,8 +133,8 @@ fn passed_up(floor: FloorVerdict) -> PlannerVerdict
     }
 }
 
-// 10 to 14, 20, 21, 24 and 23, or a plan: its record at the front of the buffer, in edition two, which has the spare bits 01, and how many
-// moves it has.
+// 10 to 14, 20, 21, 24, 26 and 23, or a plan: its record at the front of the buffer, in edition two, which has the spare bits 01, and how
+// many moves it has.
 pub fn make(order: &[u8], buffer: &mut [u8]) -> PlannerVerdict
     ensures { λ r. ⌜ PlanMade (now (order .entry)) (now (buffer .entry)) (answerOf r) (now (buffer .exit)) ⌝ }
 {

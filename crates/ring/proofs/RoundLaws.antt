@@ -20,9 +20,9 @@ use lib.ListN.{getD, length}
 use Rattle.sets.specs.Sets.{bit}
 use Rattle.sets.specs.First.{firstFrom}
 use Rattle.graph.specs.Connected.{Ring}
-use Rattle.graph.specs.EdgeCount.{rowSum, edgeCount}
+use Rattle.graph.specs.EdgeCount.{edgeCount}
 use Rattle.graph.specs.Rows.{Edge, Rows}
-use Rattle.graph.proofs.EdgeCountLaws.{handshake, rowsSum-more, rowSum-least-three, biConnected-neighbours, biConnected-degree}
+use Rattle.graph.proofs.EdgeCountLaws.{rowSum-least-three, biConnected-neighbours, ring-two}
 use Rattle.ring.specs.Circle.{Circle, onward, follow, roundOf, edgeIn, placeIn}
 use Rattle.ring.proofs.CircleLaws.{Degree, Finds, way-circle}
 
@@ -181,9 +181,7 @@ module _ {n : ℕ} {g : List ℕ} (rows : Rows n g) (ring : Ring n (Edge g) (edg
         two = λ b x y z hx hy hz dxy dxz dyz.
             let three = rowSum-least-three g b n x y z (rows .inside b x hx .1) (rows .inside b y hy .1) (rows .inside b z hz .1)
             dxy dxz dyz hx hy hz in
-            let more = rowsSum-more g b n n (biConnected-degree rows (ring .biConnected)) (rows .inside b x hx .0) three in
-            let twice = handshake g rows n (omega arith) in
-            let count = ring .count in
+            let most = ring-two rows ring b (rows .inside b x hx .0) in
             omega arith;
       }
 

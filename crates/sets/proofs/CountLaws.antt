@@ -12,6 +12,7 @@
 --     Pair, ones-pair with two positions at least, two of them
 --     ones-third      with two positions, there is no third
 --     pigeonhole      k different numbers below n: k is at most n
+--     sum-same, ones-sum    a sum goes by its values; below n, where no other position is in the set, the digits add up to how many are
 -- Assumes nothing.
 use Prim.Native.Nat.{ℕ, zero, suc, _+_, _/_, _%_, _^_, _≤_, _<_}
 use mathlib.Core.Path.{_≡_, refl, sym, ap, subst, _∙_}
@@ -26,6 +27,7 @@ use lib.Bits.{bitOr}
 use lib.Dec.{eqb}
 use lib.Count.{ones, ones-step}
 use Rattle.sets.specs.Sets.{bit, Has}
+use Rattle.sets.specs.Sum.{sumBelow}
 use Rattle.sets.proofs.SetLaws.{bit-low, bit-high, bit-two, has-none, has-or-not, has-or, has-only, has-some}
 
 ones-none : ones 0 ≡ 0
@@ -269,3 +271,30 @@ ones-third s a b p most other ha hb hp =
         ⊎-elim
         (λ x. ⊎-elim (λ y. subst (Has s) (sym (has-only a q .0 y)) ha) (λ y. subst (Has s) (sym y) hb) (joined (2 ^ a) b q .0 x))
         (λ x. subst (Has s) (sym x) hp) h
+
+pub sum-same : (f g : ℕ → ℕ) (k : ℕ) → ((p : ℕ) → p < k → f p ≡ g p) → sumBelow f k ≡ sumBelow g k
+unfolding sumBelow
+sum-same f g zero same = refl
+sum-same f g (suc k) same =
+    let r = sum-same f g k (λ p l. same p (omega arith)) in
+    let s = same k (omega arith) in
+    omega arith
+
+-- the first value apart
+sum-first : (f : ℕ → ℕ) (k : ℕ) → sumBelow f (suc k) ≡ f 0 + sumBelow (λ p. f (suc p)) k
+unfolding sumBelow
+sum-first f zero = omega arith
+sum-first f (suc k) = let r = sum-first f k in omega arith
+
+pub ones-sum : (n s : ℕ) → ((p : ℕ) → Has s p → p < n) → sumBelow (bit s) n ≡ ones s
+ones-sum zero s none =
+    let r = ones-most 0 s none in
+    let z : sumBelow (bit s) 0 ≡ 0 = unfold sumBelow in refl in
+    omega arith
+ones-sum (suc n) s below =
+    let first = sum-first (bit s) n in
+    let low = bit-low s in
+    let rest = sum-same (λ p. bit s (suc p)) (bit (s / 2)) n (λ p l. bit-high s p) in
+    let r = ones-sum n (s / 2) (λ p h. let l = below (suc p) (bit-high s p ∙ h) in omega arith) in
+    let a = ones-step s in
+    omega arith

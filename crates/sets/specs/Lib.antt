@@ -1,2 +1,3 @@
 pub mod Sets
 pub mod First
+pub mod Sum

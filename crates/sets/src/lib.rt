@@ -3,6 +3,7 @@ ghost use mathlib.Core.Bool.{true};
 ghost use mathlib.Core.Logic.{_↔_, _≢_, _⊎_};
 ghost use mathlib.Core.Path.{_≡_};
 ghost use Prim.Native.Nat.{ℕ, _≤_, _<_};
+ghost use lib.Count.{ones};
 ghost use Rattle.sets.specs.Sets.{Has};
 
 // The set of v alone.
@@ -40,6 +41,13 @@ pub fn lowest(s: u64) -> usize
     ensures { λ r. ⌜ ((p : ℕ) → Has s p → r ≤ p) ⌝ }
 {
     u64::trailing_zeros(s) as usize
+}
+
+// How many positions are in s.
+pub fn size(s: u64) -> usize
+    ensures { λ r. ⌜ r ≡ ones s ⌝ }
+{
+    u64::count_ones(s) as usize
 }
 
 // What is in s and not in t.

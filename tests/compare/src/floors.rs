@@ -46,6 +46,7 @@ kinds! {
         Dense,
         BiConnected,
         AlmostBiConnected,
+        FourSided,
     }
 }
 
@@ -107,6 +108,7 @@ pub fn floor_of_shape(random: &mut Random, shape: Shape) -> Floor {
         Shape::Dense => random_edges(random, n, Vec::new(), MOST_EDGES),
         Shape::BiConnected => bi_connected(random, n.max(3)),
         Shape::AlmostBiConnected => almost_bi_connected(random, n.max(4)),
+        Shape::FourSided => four_sided(random, n.max(3)),
     }
 }
 
@@ -156,21 +158,70 @@ fn random_edges(random: &mut Random, n: usize, edges: Vec<(usize, usize)>, most:
 
 /// A ring and handles on it, then perhaps further edges. n is at least 3.
 pub fn bi_connected(random: &mut Random, n: usize) -> Floor {
-    let edges = ring_and_handles(random, 0, n);
+    let edges = ring_and_handles(random, 0, n, n);
     let most = edges.len() + random.below(n);
     random_edges(random, n, edges, most)
 }
 
-/// The edges of a bi-connected floor on the positions from `first` to below `end`, at least 3.
-fn ring_and_handles(random: &mut Random, first: usize, end: usize) -> Vec<(usize, usize)> {
+/// How many of the edges have this position at one of their ends.
+fn edges_at(edges: &[(usize, usize)], position: usize) -> usize {
+    edges.iter().filter(|&&(a, b)| a == position || b == position).count()
+}
+
+/// Edges more, up to so many, chosen at random among those whose ends both have fewer than `sides`.
+fn more_edges(random: &mut Random, n: usize, edges: &mut Vec<(usize, usize)>, more: usize, sides: usize) {
+    let most = edges.len() + more;
+    let mut pairs = all_pairs(n);
+    random.shuffle(&mut pairs);
+    for (a, b) in pairs {
+        let free = edges_at(edges, a) < sides && edges_at(edges, b) < sides;
+        if edges.len() < most && free && !edges.contains(&(a, b)) && !edges.contains(&(b, a)) {
+            edges.push((a, b));
+        }
+    }
+}
+
+/// A bi-connected floor of at most four neighbours to a position: such a ring with handles, then perhaps further edges,
+/// up to as many as positions. n is at least 3.
+pub fn four_sided(random: &mut Random, n: usize) -> Floor {
+    let mut edges = ring_and_handles(random, 0, n, 4);
+    let more = random.between(0, n);
+    more_edges(random, n, &mut edges, more, 4);
+    renumbered(random, n, edges)
+}
+
+/// A bi-connected floor on which one position has exactly so many neighbours, and the others have at most four, where
+/// there are enough of those with fewer; n is above `sides`, and `sides` at least 4.
+pub fn with_sides(random: &mut Random, n: usize, sides: usize) -> Floor {
+    let mut edges = ring_and_handles(random, 0, n, 4);
+    let more = random.between(0, n / 2);
+    more_edges(random, n, &mut edges, more, 4);
+    let middle = random.below(n);
+    let mut others: Vec<usize> = (0..n).filter(|&other| other != middle).collect();
+    random.shuffle(&mut others);
+    others.sort_by_key(|&other| edges_at(&edges, other) >= 4);
+    for other in others {
+        let joined = edges.contains(&(middle, other)) || edges.contains(&(other, middle));
+        if !joined && edges_at(&edges, middle) < sides {
+            edges.push((middle, other));
+        }
+    }
+    renumbered(random, n, edges)
+}
+
+/// The edges of a bi-connected floor on the positions from `first` to below `end`, at least 3. No position has more
+/// than `sides` of them, at least 3.
+fn ring_and_handles(random: &mut Random, first: usize, end: usize, sides: usize) -> Vec<(usize, usize)> {
     let mut settled = random.between(3, end - first);
     let mut edges: Vec<_> = ring(settled).into_iter().map(|(a, b)| (first + a, first + b)).collect();
     while first + settled < end {
         let inner = random.between(1, usize::min(4, end - first - settled));
-        let ends = random.distinct(2, settled);
-        let mut walk = vec![first + usize::from(ends[0])];
+        let mut ends: Vec<usize> =
+            (first..first + settled).filter(|&at| edges_at(&edges, at) < sides).collect();
+        random.shuffle(&mut ends);
+        let mut walk = vec![ends[0]];
         walk.extend(first + settled..first + settled + inner);
-        walk.push(first + usize::from(ends[1]));
+        walk.push(ends[1]);
         edges.extend(walk.windows(2).map(|two| (two[0], two[1])));
         settled += inner;
     }
@@ -180,17 +231,17 @@ fn ring_and_handles(random: &mut Random, first: usize, end: usize) -> Vec<(usize
 /// A bi-connected floor spoilt: two such parts that share one position, or an edge between them, or one
 /// position hung on by a single edge. n is at least 4.
 fn almost_bi_connected(random: &mut Random, n: usize) -> Floor {
-    let mut edges = ring_and_handles(random, 0, n - 1);
+    let mut edges = ring_and_handles(random, 0, n - 1, n);
     if n < 7 || random.one_in(3) {
         edges.push((random.below(n - 1), n - 1));
         return renumbered(random, n, edges);
     }
     let cut = random.between(3, n - 4);
-    edges = ring_and_handles(random, 0, cut);
+    edges = ring_and_handles(random, 0, cut, n);
     match random.one_in(2) {
-        true => edges.extend(ring_and_handles(random, cut - 1, n)),
+        true => edges.extend(ring_and_handles(random, cut - 1, n, n)),
         false => {
-            edges.extend(ring_and_handles(random, cut, n));
+            edges.extend(ring_and_handles(random, cut, n, n));
             edges.push((random.below(cut), random.between(cut, n - 1)));
         }
     }
@@ -209,6 +260,22 @@ mod tests {
             assert!((1..=64).contains(&n) && edges.len() <= MOST_EDGES);
             assert!(edges.iter().all(|&(a, b)| a < b && usize::from(b) < n));
             assert!(edges.windows(2).all(|two| two[0] < two[1]));
+        }
+    }
+
+    fn most_sides(floor: &Floor) -> u32 {
+        floor.neighbours().iter().map(|joined| joined.count_ones()).max().unwrap_or(0)
+    }
+
+    #[test]
+    fn no_more_sides_than_asked_for() {
+        let mut random = Random::new(2);
+        for _ in 0..5_000 {
+            let n = random.between(3, 64);
+            assert!(most_sides(&four_sided(&mut random, n)) <= 4);
+            let sides = random.between(4, 7);
+            let n = random.between(sides + 1, 64);
+            assert!(most_sides(&with_sides(&mut random, n, sides)) >= sides as u32);
         }
     }
 

@@ -159,6 +159,29 @@ fn case_6_the_plan_buffer() {
     assert_eq!(plan_make(ORDER, 1155), Ok(()));
 }
 
+/// A position in the middle of a ring of four, and of a ring of five, joined to each; one rack.
+#[test]
+fn four_sides_only() {
+    let four = "0A 10 04 00 10 02 00 30 04 04 20 44 08 30 C4 00 10";
+    assert_eq!(floor_check(four), Ok(()));
+    assert_eq!(plan_make(four, 2252), refused(23, 0));
+    assert_eq!(plan_make(four, 2253), Ok(()));
+    // its start is its goal, and the buffer is too short or not
+    let five = "0C 14 04 00 10 02 00 30 04 00 50 42 04 50 83 0C 41 05 00 00";
+    assert_eq!(floor_check(five), refused(26, 0));
+    assert_eq!(plan_make(five, 0), refused(26, 0));
+    assert_eq!(plan_make(five, 3891), refused(26, 0));
+    // the order is still read, and a plan for it checked and timetabled
+    assert_eq!(order_check(five), Ok((6, 10, 1)));
+    assert_eq!(plan_check(five, "00 00 00"), Ok(0));
+    assert_eq!(timetable_make(five, "00 00 00", 3), (Ok(0), hex("00 00 00")));
+    assert_eq!(timetable_check(five, "00 00 00"), Ok((0, 0)));
+    // with five racks 20 applies too, and without the ring round it 21
+    let full = "0C 14 14 00 10 02 00 30 04 00 50 42 04 50 83 0C 41 05 00 10 83 10 00 42 0C 40";
+    assert_eq!(floor_check(full), refused(20, 0));
+    assert_eq!(floor_check("0C 0A 04 00 10 02 00 30 04 00 50 01"), refused(21, 0));
+}
+
 #[test]
 fn case_7_the_empty_plan() {
     assert_eq!(plan_check(ORDER, "00 00 00"), refused(33, 1));

@@ -89,7 +89,7 @@ fn plan_then_timetable_then_check() {
     let (mut delivered, mut all_moves, mut all_steps, mut capped) = (0, 0, 0, 0);
     for _ in 0..3_000 {
         let n = if random.one_in(10) { random.between(20, 64) } else { random.between(4, 12) };
-        let floor = floors::bi_connected(&mut random, n);
+        let floor = floors::four_sided(&mut random, n);
         if floor.edges.len() == n {
             continue; // a ring
         }
@@ -117,9 +117,10 @@ fn the_function_over_the_three_calls() {
     let (mut unplanned, mut untimed, mut checked) = (0, 0, 0);
     for _ in 0..3_000 {
         let n = random.between(4, 9);
-        let floor = match random.one_in(8) {
-            true => floors::floor_of_shape(&mut random, Shape::Ring),
-            false => floors::bi_connected(&mut random, n),
+        let floor = match random.below(8) {
+            0 => floors::floor_of_shape(&mut random, Shape::Ring),
+            1 => floors::bi_connected(&mut random, n),
+            _ => floors::four_sided(&mut random, n),
         };
         let m = random.between(0, floor.n.saturating_sub(1));
         let fields = orders::order_on(&mut random, &floor, m);

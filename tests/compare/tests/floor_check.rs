@@ -39,7 +39,7 @@ fn random_floors_of_every_shape() {
             compare(&mut tally, &order.record());
         }
     }
-    tally.finish(200_000, &[0, 20, 21, 24]);
+    tally.finish(200_000, &[0, 20, 21, 24, 26]);
 }
 
 #[test]
@@ -48,7 +48,10 @@ fn floors_with_an_edge_less() {
     let mut tally = Tally::new("floor_check, an edge less");
     for _ in 0..20_000 {
         let n = random.between(4, 64);
-        let mut floor = floors::bi_connected(&mut random, n);
+        let mut floor = match random.one_in(2) {
+            true => floors::bi_connected(&mut random, n),
+            false => floors::four_sided(&mut random, n),
+        };
         // edges are taken away until the floor falls apart
         while !floor.edges.is_empty() {
             let order = orders::order_on(&mut random, &floor, 1);

@@ -142,18 +142,26 @@ fn floors_have_the_shape_they_were_made_with() {
             Shape::AlmostBiConnected,
             Shape::Tree,
             Shape::TwoParts,
+            Shape::FourSided,
         ] {
             let floor = read(&floors::floor_of_shape(&mut random, shape));
             let bi_connected = match shape {
-                Shape::Ring | Shape::BiConnected => true,
+                Shape::Ring | Shape::BiConnected | Shape::FourSided => true,
                 Shape::Complete => floor.n >= 3,
                 _ => false,
             };
             assert_eq!(second::floor::is_biconnected(&floor), bi_connected, "{shape:?}");
             assert_eq!(second::floor::is_ring(&floor), bi_connected && floor.e == floor.n, "{shape:?}");
+            let most = second::floor::most_edges(&floor);
+            match shape {
+                Shape::Ring => assert_eq!(most, 2),
+                Shape::FourSided => assert!(most <= 4),
+                Shape::Complete => assert_eq!(most, floor.n - 1),
+                _ => {}
+            }
         }
     }
-    println!("shapes of floors: 120000 floors judged");
+    println!("shapes of floors: 140000 floors judged");
 }
 
 #[test]

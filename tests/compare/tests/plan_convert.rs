@@ -148,7 +148,7 @@ fn the_planners_plans() {
     let mut tally = Tally::new("plan_convert, the planner's plans");
     for _ in 0..2_000 {
         let n = random.between(4, 12);
-        let floor = floors::bi_connected(&mut random, n);
+        let floor = floors::four_sided(&mut random, n);
         if floor.edges.len() == n {
             continue; // a ring
         }

@@ -8,7 +8,7 @@ use compare::random::Random;
 use compare::tally::{Hex, Tally};
 use compare::write::Edition;
 
-const NUMBERS: [u8; 10] = [0, 10, 11, 12, 13, 14, 20, 21, 23, 24];
+const NUMBERS: [u8; 11] = [0, 10, 11, 12, 13, 14, 20, 21, 23, 24, 26];
 
 /// Plans into the buffer and judges what came of it. The moves, or 0 if it was refused.
 fn judge(tally: &mut Tally, order: &[u8], buffer: &mut [u8]) -> usize {
@@ -49,7 +49,7 @@ fn plans_for_random_orders() {
     let mut tally = Tally::new("plan_make, random orders");
     for _ in 0..20_000 {
         let n = random_size(&mut random);
-        let floor = floors::bi_connected(&mut random, n);
+        let floor = floors::four_sided(&mut random, n);
         let m = random_rack_count(&mut random, n);
         let order = orders::order_on(&mut random, &floor, m).record();
         let length = enough(n) + random.below(3);
@@ -105,7 +105,7 @@ fn the_same_plan_whatever_the_buffer_held() {
     let mut tally = Tally::new("plan_make, buffers");
     for _ in 0..2_000 {
         let n = random_size(&mut random);
-        let floor = floors::bi_connected(&mut random, n);
+        let floor = floors::four_sided(&mut random, n);
         if floor.edges.len() == n {
             continue; // a ring: its plans are in rings.rs
         }

@@ -92,6 +92,27 @@ fn what_no_floor_is_for() {
     assert_eq!(line(&order(4, &ring, &[0, 1, 2, 3], &[0, 1, 2, 3])), "refused 20 0 floor\n");
 }
 
+/// A position in the middle of a ring of so many others, joined to each.
+fn spokes(sides: u8) -> Vec<Move> {
+    let rim = (1..sides).map(|at| (at, at + 1)).chain([(1, sides)]);
+    let mut edges: Vec<Move> = (1..=sides).map(|at| (0, at)).chain(rim).collect();
+    edges.sort_unstable();
+    edges
+}
+
+#[test]
+fn what_has_more_than_four_sides() {
+    // four spokes are planned, five are not: with no racks, with each start its goal, and with 16 positions
+    assert_eq!(written(&order(5, &spokes(4), &[0, 1], &[0, 1])), hex("00 00 01"));
+    assert_eq!(line(&order(6, &spokes(5), &[0, 1], &[1, 0])), "refused 26 0 floor\n");
+    assert_eq!(line(&order(6, &spokes(5), &[], &[])), "refused 26 0 floor\n");
+    assert_eq!(line(&order(6, &spokes(5), &[0, 1], &[0, 1])), "refused 26 0 floor\n");
+    assert_eq!(line(&order(16, &spokes(15), &[], &[])), "refused 26 0 floor\n");
+    // 20 and 21 come before it
+    assert_eq!(line(&order(6, &spokes(5), &[0, 1, 2, 3, 4], &[0, 1, 2, 3, 4])), "refused 20 0 floor\n");
+    assert_eq!(line(&order(6, &spokes(5)[..5], &[0], &[1])), "refused 21 0 floor\n");
+}
+
 #[test]
 fn fifteen_positions_are_planned_and_sixteen_are_not() {
     for n in 4..=15 {
@@ -158,7 +179,7 @@ fn random_orders() {
             }
             _ => {
                 let n = random.between(4, 16);
-                let floor = floors::bi_connected(&mut random, n);
+                let floor = floors::four_sided(&mut random, n);
                 let m = if random.one_in(2) { n - 2 } else { random.between(0, n - 2) };
                 orders::order_on(&mut random, &floor, m).record()
             }

@@ -4,12 +4,15 @@ use crate::agents::agents;
 use crate::goal::{finish_solution, transform_goal, ShiftedGoal};
 use crate::operation::{index_in, Choice, Move, World};
 use second::breakdown::{find, set_of, shortest_path, Breakdown};
-use second::floor::{self, all_positions};
+use second::floor::all_positions;
 use second::order::{Floor, Order};
 
-/// BIBOX-Solve: a plan for an order that can be planned, on a floor that is no ring; none for another.
+/// BIBOX-Solve: a plan for an order with two vacancies on a bi-connected floor that is no ring, whatever the number of
+/// neighbours to a position; none for another.
 pub fn plan(order: &Order, choice: Choice) -> Option<Vec<Move>> {
-    floor::judge(order).ok()?;
+    if order.m + 2 > order.floor.n {
+        return None;
+    }
     let Breakdown { mut ring, handles } = find(&order.floor)?;
     let agents = agents(order);
     let goal = transform_goal(&order.floor, &agents, &mut ring, choice);

@@ -1,15 +1,15 @@
 //! "The floor": connected, bi-connected, ring, and the planner's judgement before it measures its
-//! buffer. Request (d), "Ring floors".
+//! buffer. Requests (d), "Ring floors", and (j), "Four sides only".
 
 use crate::answer::{refuse, Answer};
 use crate::order::{self, Floor, Order};
 
-/// The planner's judgement without a buffer: the first of 10 to 14, 20, 21 and 24 that applies.
+/// The planner's judgement without a buffer: the first of 10 to 14, 20, 21, 24 and 26 that applies.
 pub fn check(order: &[u8]) -> Answer<()> {
     judge(&order::read(order)?)
 }
 
-/// The first of 20, 21 and 24 that applies to a well-formed order.
+/// The first of 20, 21, 24 and 26 that applies to a well-formed order.
 pub fn judge(order: &Order) -> Answer<()> {
     let ring = is_ring(&order.floor);
     // 20: "m + 2 is above n"; "On a ring, 20 is given only when no position is vacant."
@@ -25,7 +25,16 @@ pub fn judge(order: &Order) -> Answer<()> {
     if ring && !same_order_round(order) {
         return refuse(24);
     }
+    // 26: "a position has five or more edges; after 24, before 23"
+    if most_edges(&order.floor) >= 5 {
+        return refuse(26);
+    }
     Ok(())
+}
+
+/// How many edges the position has that has the most.
+pub fn most_edges(floor: &Floor) -> usize {
+    floor.neighbours.iter().map(|joined| joined.count_ones() as usize).max().unwrap_or(0)
 }
 
 /// The positions of a ring in their order round it, from 0 on.

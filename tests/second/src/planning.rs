@@ -11,7 +11,7 @@ pub fn enough(n: usize) -> usize {
     18 * n.pow(3) + 3
 }
 
-/// The planner's refusal, the first of 10 to 14, 20, 21, 24 and 23 that applies, else the order to plan.
+/// The planner's refusal, the first of 10 to 14, 20, 21, 24, 26 and 23 that applies, else the order to plan.
 pub fn judge_call(order: &[u8], buffer_length: usize) -> Answer<Order> {
     let order = order::read(order)?;
     floor::judge(&order)?;

@@ -13,7 +13,7 @@ use Rattle.order.specs.declared.Counts.{Counts}
 use Rattle.tables.specs.Accepted.{OrderGave}
 use Rattle.floor.specs.FloorAnswer.{SameRound}
 use Rattle.floor.proofs.Layers.{order-refused, order-handed, gave, handed, refused-too, crowded, ring-full, ring-other, ring-plain}
-use Rattle.floor.proofs.Layers.{RingFloor, rows-right, rows-counted, rings, ring-tables, apart, plain}
+use Rattle.floor.proofs.Layers.{RingFloor, rows-right, rows-counted, rings, ring-tables, apart, many-sided, plain}
 use borrow.Author.Needs.{needs}
 use Rattle.floor.proofs.judge.Statement.{statement}
 use Rattle.floor.proofs.judge.Tie as tie
@@ -173,17 +173,42 @@ returns-6 c =
     (t .result) (t .ensures) (not-true _ (c .if5 .taken)) in
     (down, (refused-too (bytes k) 21 0 down, called .decode .ensures .1))
 
+is-four-sided-requires : tie.Need-is-four-sided-requires
+is-four-sided-requires c κs =
+    let k = known (c .before .before .before .before .before .before) in
+    let called = k .before .before .before in
+    rows-right (bytes k) (told k .positions) (told k .edges) (told k .racks) (accepted-by k) _ (called .decode .ensures .1 .0)
+
 returns-7 : tie.Need-returns-7
 returns-7 c =
-    let searched = c .before in
+    let counted = c .before in
+    let passed = counted .before .before in
+    let searched = passed .before in
     let w = searched .before .before in
     let v = w .before .before in
     let k = known v in
     let called = k .before .before .before in
     let t = searched .is-biconnected in
+    let u = counted .is-four-sided in
+    let down = many-sided (bytes k) (told k .positions) (told k .edges) (told k .racks) (accepted-by k) _ (called .decode .ensures .1 .0)
+    (is-none v (w .before .if1 .left)) (w .if4 .left)
+    (t .result) (t .ensures) (not-false _ (passed .if5 .left)) (u .result) (u .ensures) (not-true _ (c .if6 .taken)) in
+    (down, (refused-too (bytes k) 26 0 down, called .decode .ensures .1))
+
+returns-8 : tie.Need-returns-8
+returns-8 c =
+    let counted = c .before in
+    let passed = counted .before .before in
+    let searched = passed .before in
+    let w = searched .before .before in
+    let v = w .before .before in
+    let k = known v in
+    let called = k .before .before .before in
+    let t = searched .is-biconnected in
+    let u = counted .is-four-sided in
     let up = plain (bytes k) (told k .positions) (told k .edges) (told k .racks) (accepted-by k) _ (called .decode .ensures .1 .0)
     (is-none v (w .before .if1 .left)) (w .if4 .left)
-    (t .result) (t .ensures) (not-false _ (c .if5 .left)) in
+    (t .result) (t .ensures) (not-false _ (passed .if5 .left)) (u .result) (u .ensures) (not-false _ (c .if6 .left)) in
     (up, (handed (bytes k) (told k .positions) (told k .edges) (told k .racks) (accepted-by k) up, called .decode .ensures .1))
 
 pub judge-spec : {M : Type 1} → statement M
@@ -204,4 +229,6 @@ judge-spec =
     returns-5
     is-biconnected-requires
     returns-6
-    returns-7)
+    is-four-sided-requires
+    returns-7
+    returns-8)
