@@ -11,8 +11,10 @@
  *     cc -I include program.c target/staticlib/libcontroller.a
  *
  * From an order to a checked timetable it is three calls: wichteab_plan_make, wichteab_timetable_make and
- * wichteab_timetable_check. examples/delivery.c makes them; examples/controller.c takes a timetable's steps;
- * examples/screen.c shows which rack each move of a plan takes.
+ * wichteab_timetable_check. examples/delivery.c makes them; examples/screen.c shows which rack each move of a plan
+ * takes. While a timetable is driven, a controller holds a picture of the floor, a wichteab_floor, and calls
+ * wichteab_floor_open, wichteab_floor_read, wichteab_floor_run and wichteab_floor_take_back on it;
+ * examples/controller.c does.
  *
  * What is proved: the functions under "Functions" are exported by the library. Each was proved to answer and
  * to write as described here for every input, to read and write only inside what it is lent, and to end. The
@@ -28,10 +30,10 @@
  *              have room for small tables: 512 KiB are enough for every function but wichteab_plan_shorten,
  *              which takes 1 MiB.
  *   Output     The result is one number: an answer, taken apart by the functions under "Helpers", or of the
- *              two functions that say so a length. Bytes are written only to a parameter named `buffer`, and
- *              only where the answer is accepted: the record begins at the buffer's first byte, and the bytes
- *              behind the record stay as they were. A refusal changes no byte. A buffer must not overlap
- *              another argument.
+ *              two functions that say so a length. Bytes are written only to a parameter named `buffer`, `floor`
+ *              or `racks`, and only where the answer is accepted: a record begins at the buffer's first byte, and
+ *              the bytes behind the record stay as they were. A refusal changes no byte. What is written to must
+ *              not overlap another argument.
  */
 #ifndef WICHTEAB_H
 #define WICHTEAB_H
@@ -59,10 +61,12 @@ extern "C" {
  *
  * Since version 2.2 an order on whose floor a position has five or more edges is not planned: it is refused with 26.
  * Plans and timetables stored earlier for such floors are taken as before.
+ *
+ * Version 2.3 adds the live floor.
  */
-#define WICHTEAB_VERSION "2.2.0"
+#define WICHTEAB_VERSION "2.3.0"
 #define WICHTEAB_VERSION_MAJOR 2
-#define WICHTEAB_VERSION_MINOR 2
+#define WICHTEAB_VERSION_MINOR 3
 #define WICHTEAB_VERSION_PATCH 0
 
 /*
@@ -163,8 +167,43 @@ enum {
     /* The short order, tested in the order 50, 51, 14, 52; place 0. */
     WICHTEAB_SHORT_ORDER = 50,   /* its length, its spare bit or a pad bit is wrong */
     WICHTEAB_MODEL_UNKNOWN = 51, /* its model is not 1 to 5 */
-    WICHTEAB_ORDER_BUFFER = 52   /* the order buffer is shorter than the full order */
+    WICHTEAB_ORDER_BUFFER = 52,  /* the order buffer is shorter than the full order */
+
+    /* The live floor; place 0. 60 comes before the numbers of wichteab_timetable_check, 61 and 62 after them. */
+    WICHTEAB_FLOOR_RIGHT = 60,    /* the role has no right to this call, or the floor is not open */
+    WICHTEAB_FLOOR_RUN = 61,      /* no step is left to run, or the lent step is not legal on the floor as it is */
+    WICHTEAB_FLOOR_TAKE_BACK = 62 /* there is no step to take back, or the lent step, turned round, is not legal on
+                                     the floor as it is */
 };
+
+/*
+ * The live floor
+ *
+ * A picture of the floor while a timetable is driven: where the racks stand, and how many steps were run and not
+ * taken back. The caller holds it, at first all zero, which is closed:
+ *
+ *     wichteab_floor floor = WICHTEAB_FLOOR_CLOSED;
+ *
+ * The functions below read and change it. Whatever it holds, they answer as described; who writes to it otherwise
+ * has no promise but this. Each call names a role, and a role has the rights of those before it:
+ *
+ *     WICHTEAB_VIEWER       may open the floor and read it
+ *     WICHTEAB_OPERATOR     may also run the next step
+ *     WICHTEAB_SUPERVISOR   may also take the last step back
+ *
+ * Any other number has no right at all. Each call lends the order and the timetable again, and they are checked again.
+ */
+typedef struct wichteab_floor {
+    uint8_t racks[64];  /* the rack at each position, 0 where there is none */
+    uint32_t steps;     /* the steps run and not taken back */
+    uint32_t positions; /* n of the order that it was opened with; 0 while it is closed */
+} wichteab_floor;
+
+#define WICHTEAB_FLOOR_CLOSED {{0}, 0, 0}
+
+#define WICHTEAB_VIEWER 1
+#define WICHTEAB_OPERATOR 2
+#define WICHTEAB_SUPERVISOR 3
 
 /*
  * Functions: exported and proved
@@ -299,6 +338,51 @@ uint64_t wichteab_timetable_make(const uint8_t *order, size_t order_length, cons
 uint64_t wichteab_timetable_step(const uint8_t *timetable, size_t timetable_length, uint64_t number);
 
 /*
+ * wichteab_floor_open: opens the live floor.
+ *
+ * Takes a floor, whatever it holds, a role, an order and a timetable; order and timetable are only read. Accepted: the
+ * floor is open, each rack stands at its start, and wichteab_floor_steps gives 0. A floor that was open is replaced.
+ * Refused: 60, then as wichteab_timetable_check; the floor is as it was, and open if it was.
+ */
+uint64_t wichteab_floor_open(wichteab_floor *floor, uint32_t role, const uint8_t *order, size_t order_length,
+                             const uint8_t *timetable, size_t timetable_length);
+
+/*
+ * wichteab_floor_read: shows the live floor.
+ *
+ * Takes a floor, which is only read, a role, an order and a timetable, and a table of 64 bytes. Accepted: the table has
+ * the rack at each position, 0 where there is none, and wichteab_floor_steps gives the steps run and not taken back.
+ * Refused: 60, then as wichteab_timetable_check; the table is as it was.
+ */
+uint64_t wichteab_floor_read(const wichteab_floor *floor, uint32_t role, const uint8_t *order, size_t order_length,
+                             const uint8_t *timetable, size_t timetable_length, uint8_t racks[64]);
+
+/*
+ * wichteab_floor_run: runs the next step.
+ *
+ * Takes a floor, a role, an order and a timetable. The next step is the one of the lent timetable whose number is one
+ * more than the floor's steps. It is legal by the lent order's floor, as wichteab_timetable_check has it, where the
+ * racks now stand; naming a position that the floor was not opened with it is not legal. Accepted: its racks have moved,
+ * and wichteab_floor_steps gives the steps, one more than before. Refused: 60, then as wichteab_timetable_check, then
+ * 61; the floor is as it was. With the order and timetable that the floor was opened with, 61 is given only where no
+ * step is left.
+ */
+uint64_t wichteab_floor_run(wichteab_floor *floor, uint32_t role, const uint8_t *order, size_t order_length,
+                            const uint8_t *timetable, size_t timetable_length);
+
+/*
+ * wichteab_floor_take_back: takes the last step back.
+ *
+ * Takes a floor, a role, an order and a timetable. The last step is the one of the lent timetable whose number is the
+ * floor's steps. Its moves, each turned round and then put in ascending order, have to be a legal step where the racks
+ * now stand, as for wichteab_floor_run. Accepted: its racks have moved back, and wichteab_floor_steps gives the steps,
+ * one fewer than before. Refused: 60, then as wichteab_timetable_check, then 62; the floor is as it was. With the order
+ * and timetable that the floor was opened with, 62 is given only where no step was run.
+ */
+uint64_t wichteab_floor_take_back(wichteab_floor *floor, uint32_t role, const uint8_t *order, size_t order_length,
+                                  const uint8_t *timetable, size_t timetable_length);
+
+/*
  * wichteab_order_length: where does the order end that these bytes begin with?
  *
  * Takes any bytes; they are only read, the first three at most. Returns a length, no answer: that of the
@@ -354,6 +438,12 @@ static inline uint32_t wichteab_timetable_steps(uint64_t answer)
 static inline uint32_t wichteab_timetable_moves(uint64_t answer)
 {
     return (uint32_t)(answer >> 30);
+}
+
+/* Of the four functions on the live floor, accepted: the steps run and not taken back. */
+static inline uint32_t wichteab_floor_steps(uint64_t answer)
+{
+    return (uint32_t)(answer >> 8);
 }
 
 /* Of wichteab_timetable_step, accepted: the step's first byte, as an offset in the timetable. */
@@ -452,6 +542,12 @@ static inline const char *wichteab_reason(uint32_t number)
         return "The short order names a floor model that is not sold.";
     case WICHTEAB_ORDER_BUFFER:
         return "The buffer for the order is too short for the full order.";
+    case WICHTEAB_FLOOR_RIGHT:
+        return "The role has no right to this call, or the live floor has not been opened.";
+    case WICHTEAB_FLOOR_RUN:
+        return "No step is left to run, or the next one is not legal where the racks now stand.";
+    case WICHTEAB_FLOOR_TAKE_BACK:
+        return "There is no step to take back, or the last one cannot be taken back where the racks now stand.";
     default:
         return "Refused, for a reason that this header does not know.";
     }

@@ -40,6 +40,9 @@ static const struct fault faults[] = {
     {WICHTEAB_SHORT_ORDER, 50, "other"},
     {WICHTEAB_MODEL_UNKNOWN, 51, "other"},
     {WICHTEAB_ORDER_BUFFER, 52, "other"},
+    {WICHTEAB_FLOOR_RIGHT, 60, "other"},
+    {WICHTEAB_FLOOR_RUN, 61, "other"},
+    {WICHTEAB_FLOOR_TAKE_BACK, 62, "other"},
 };
 #define FAULTS (sizeof faults / sizeof faults[0])
 

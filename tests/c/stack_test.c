@@ -206,6 +206,32 @@ static uint64_t timetable_step(void)
     return wichteab_timetable_step(timetable, timetable_length, 1);
 }
 
+/* The live floor: opened, its first step run and taken back again. */
+static wichteab_floor live = WICHTEAB_FLOOR_CLOSED;
+
+static uint64_t floor_open(void)
+{
+    return wichteab_floor_open(&live, WICHTEAB_VIEWER, order.bytes, order_length, timetable, timetable_length);
+}
+
+static uint64_t floor_read(void)
+{
+    static uint8_t racks[64];
+    return wichteab_floor_read(&live, WICHTEAB_VIEWER, order.bytes, order_length, timetable, timetable_length, racks);
+}
+
+static uint64_t floor_run(void)
+{
+    (void)floor_open();
+    return wichteab_floor_run(&live, WICHTEAB_OPERATOR, order.bytes, order_length, timetable, timetable_length);
+}
+
+static uint64_t floor_take_back(void)
+{
+    (void)floor_run();
+    return wichteab_floor_take_back(&live, WICHTEAB_SUPERVISOR, order.bytes, order_length, timetable, timetable_length);
+}
+
 /* A call and what it gave. */
 struct call {
     uint64_t (*function)(void);
@@ -320,6 +346,10 @@ static void run_all(void)
     expect(wichteab_number(checked) == 0, "and its timetable accepted");
     expect(wichteab_timetable_moves(checked) == wichteab_plan_moves(planned), "with the plan's moves");
     expect(wichteab_number(run(timetable_step, "wichteab_timetable_step")) == 0, "with a first step");
+    expect(run(floor_open, "wichteab_floor_open") == 0, "a live floor is opened with it");
+    expect(run(floor_read, "wichteab_floor_read") == 0, "read");
+    expect(run(floor_run, "wichteab_floor_run") == (uint64_t)1 << 8, "the first step run on it");
+    expect(run(floor_take_back, "wichteab_floor_take_back") == 0, "and taken back");
 }
 
 int main(void)

@@ -50,6 +50,9 @@ numberOf Fault.SecondBuffer = 37
 numberOf Fault.PlanRack = 36
 numberOf Fault.ConvertedBuffer = 38
 numberOf Fault.FloorSides = 26
+numberOf Fault.FloorRight = 60
+numberOf Fault.FloorRun = 61
+numberOf Fault.FloorTakeBack = 62
 
 -- as an arm of a match on f tells it: f is some case, and r is that case's number
 pub record HasNumber (f : Fault) (r : ℕ) : Type 0 where

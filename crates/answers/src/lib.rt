@@ -64,6 +64,12 @@ pub enum Fault {
     ConvertedBuffer,
     // A position has five or more edges.
     FloorSides,
+    // The role has no such right on the live floor.
+    FloorRight,
+    // No step is left to run, or the lent step is not legal on the live floor.
+    FloorRun,
+    // There is no step to take back, or the lent step, turned round, is not legal on the live floor.
+    FloorTakeBack,
 }
 
 // Document 01's number of a fault.
@@ -107,6 +113,9 @@ fn case_number(fault: Fault) -> u64
         Fault::PlanRack => 36,
         Fault::ConvertedBuffer => 38,
         Fault::FloorSides => 26,
+        Fault::FloorRight => 60,
+        Fault::FloorRun => 61,
+        Fault::FloorTakeBack => 62,
     }
 }
 

@@ -65,6 +65,10 @@ pub data NoCounts : List ℕ → Type 0 where
 pub data OneCount : List ℕ → Type 0 where
   one-count : {k : ℕ} → k < 2 ^ 22 → OneCount (k ∷ [])
 
+-- the steps on a live floor, whoever wrote it
+pub data WordCount : List ℕ → Type 0 where
+  word-count : {k : ℕ} → k < 2 ^ 32 → WordCount (k ∷ [])
+
 pub data StepsMoves : List ℕ → Type 0 where
   steps-moves : {steps moves : ℕ} → steps < 2 ^ 22 → moves < 2 ^ 30 → StepsMoves (steps ∷ moves ∷ [])
 

@@ -5,7 +5,7 @@
 --     packed-back               so does the answer that has them
 --     tells                     the one law: the number of a sized answer tells it
 --     told-apart                one number tells one answer
---     nothing-packs, record-length-packs, plan-moves-pack, made-steps-pack, steps-moves-pack, offset-length-packs
+--     nothing-packs, record-length-packs, plan-moves-pack, made-steps-pack, floor-steps-pack, steps-moves-pack, offset-length-packs
 --                               each packing of `Packed`
 --     uncounted-sized, uncounted-same    an answer without its counts is sized, and has the same number where no counts are given
 -- Assumes nothing.
@@ -24,6 +24,7 @@ use Rattle.controller.specs.Unpacked.{
   recordLengthOf,
   planMovesOf,
   madeStepsOf,
+  floorStepsOf,
   stepsAndMovesOf,
   offsetAndLengthOf,
   takenApart,
@@ -38,6 +39,8 @@ use Rattle.controller.proofs.AnswerSizes.{
   no-counts,
   OneCount,
   one-count,
+  WordCount,
+  word-count,
   StepsMoves,
   steps-moves,
   OffsetLength,
@@ -98,6 +101,15 @@ made-steps-pack = record { room = plan-moves-pack .room; read = read }
   where
     read : (v : List ℕ) → OneCount v → madeStepsOf (oneCount v * 256) ≡ v
     read (k ∷ []) (one-count few) = let k-is : k * 256 / 2 ^ 8 % 2 ^ 22 % 2 ^ 32 ≡ k = omega arith in ap (λ (x : ℕ). x ∷ []) k-is
+
+pub floor-steps-pack : Packs oneCount floorStepsOf WordCount
+floor-steps-pack = record { room = room; read = read }
+  where
+    room : (v : List ℕ) → WordCount v → oneCount v < 2 ^ 56
+    room (k ∷ []) (word-count few) = omega arith
+
+    read : (v : List ℕ) → WordCount v → floorStepsOf (oneCount v * 256) ≡ v
+    read (k ∷ []) (word-count few) = let k-is : k * 256 / 2 ^ 8 % 2 ^ 32 ≡ k = omega arith in ap (λ (x : ℕ). x ∷ []) k-is
 
 pub steps-moves-pack : Packs stepsAndMoves stepsAndMovesOf StepsMoves
 steps-moves-pack = record { room = room; read = read }

@@ -2,7 +2,7 @@
 -- quotient by 2 ^ k, a mask of k ones the remainder by 2 ^ k, a cast to uint32_t the remainder by 2 ^ 32; size_t is as wide as the number.
 --
 --     numberIn r, placeIn r        wichteab_number, wichteab_place
---     nothingOf r, recordLengthOf r, planMovesOf r, madeStepsOf r, stepsAndMovesOf r, offsetAndLengthOf r
+--     nothingOf r, recordLengthOf r, planMovesOf r, madeStepsOf r, floorStepsOf r, stepsAndMovesOf r, offsetAndLengthOf r
 --                                  what a caller reads of an accepted answer
 --     takenApart values r          the answer that a caller makes of the number r: its number, and then its place or what `values` reads
 --     uncounted a                  the answer a, without the counts of an accepted input
@@ -39,6 +39,10 @@ planMovesOf r = r / 2 ^ 8 % 2 ^ 32 ∷ []
 -- wichteab_timetable_steps: (uint32_t)(answer >> 8 & 0x3FFFFF)
 abbrev pub madeStepsOf : ℕ → List ℕ
 madeStepsOf r = r / 2 ^ 8 % 2 ^ 22 % 2 ^ 32 ∷ []
+
+-- wichteab_floor_steps: (uint32_t)(answer >> 8)
+abbrev pub floorStepsOf : ℕ → List ℕ
+floorStepsOf r = r / 2 ^ 8 % 2 ^ 32 ∷ []
 
 -- the steps likewise; wichteab_timetable_moves: (uint32_t)(answer >> 30)
 abbrev pub stepsAndMovesOf : ℕ → List ℕ

@@ -1,9 +1,13 @@
 // The C interface: include/wichteab.h says the same in C's words. Every function takes byte strings as pointer and length and
 // returns one number; none changes a byte that it was lent to read, and a refusal changes no byte at all. The number is an answer, packed,
-// or for the last two functions a length.
+// or a length. The last four functions take the live floor's picture, a struct that the caller holds: each copies it out, calls a function
+// on the copy and stores what that left, without a branch.
 use answers::Fault;
 use converting::ConverterVerdict;
 use floor::FloorVerdict;
+use live::Driven;
+use live::Floor;
+use live::LiveVerdict;
 use models::ExpandVerdict;
 use order::OrderVerdict;
 use plan::PlanVerdict;
@@ -26,9 +30,11 @@ ghost use Rattle.scheduling.specs.Maker.{makerAnswer, bufferAfter};
 ghost use Rattle.shortening.specs.Shortener.{shortenerAnswer, bufferAfter as planBufferAfter};
 ghost use Rattle.timetable.specs.Timetable.{timetableAnswer, stepAnswer};
 ghost use Rattle.timetable.specs.RecordLength.{wholeTimetableLength};
+ghost use Rattle.live.specs.Roles.{roleOf, opening, reading, running, takingBack};
+ghost use Rattle.live.specs.Calls.{callAnswer, byAnswer, pictureAfter, answerOf as liveAnswerOf};
 ghost use Rattle.controller.specs.Packed.{packed, nothing, oneCount, stepsAndMoves, lengthAndOffset};
 ghost use Rattle.controller.specs.Unpacked.{Tells, uncounted, nothingOf, planMovesOf, madeStepsOf, stepsAndMovesOf};
-ghost use Rattle.controller.specs.Unpacked.{offsetAndLengthOf, recordLengthOf};
+ghost use Rattle.controller.specs.Unpacked.{offsetAndLengthOf, recordLengthOf, floorStepsOf};
 
 // A refusal as one number.
 fn refusal(fault: Fault, place: u32) -> u64
@@ -175,4 +181,142 @@ pub extern "C" fn wichteab_timetable_length(bytes: &[u8]) -> u64
     ensures { λ r. ⌜ r ≡ wholeTimetableLength (now (bytes .entry)) ⌝ }
 {
     timetable::record_length(bytes) as u64
+}
+
+// A live floor after a call, with the call's answer as one number.
+pub struct Called {
+    pub floor: Floor,
+    pub number: u64,
+}
+
+// The verdict of a call on the live floor as one number.
+fn live_number(verdict: LiveVerdict) -> u64
+    ensures { λ r. ⌜ Tells oneCount floorStepsOf (liveAnswerOf verdict) r ⌝ }
+{
+    match verdict {
+        LiveVerdict::Accepted(steps) => (steps as u64) * 256,
+        LiveVerdict::Refused(fault, place) => refusal(fault, place),
+    }
+}
+
+// What a call left, with its verdict as one number.
+fn numbered(driven: Driven) -> Called
+    ensures { λ r. ⌜ Tells oneCount floorStepsOf (liveAnswerOf (driven .verdict)) (r .number) × (r .floor ≡ driven .floor) ⌝ }
+{
+    let floor = driven.floor;
+    let verdict = driven.verdict;
+    Called {
+        floor,
+        number: live_number(verdict),
+    }
+}
+
+// A picture opened, by a role's number, on a picture by value.
+fn called_open(floor: Floor, role: u32, order: &[u8], timetable: &[u8]) -> Called
+    ensures { λ r. ⌜ Tells oneCount floorStepsOf
+        (callAnswer opening (roleOf role) floor (now (order .entry)) (now (timetable .entry))) (r .number)
+        × (r .floor ≡ pictureAfter opening (roleOf role) floor (now (order .entry)) (now (timetable .entry))) ⌝ }
+{
+    numbered(live::open(floor, live::role_of(role), order, timetable))
+}
+
+// Opens the live floor with an order and a timetable, judged by 60, 10 to 14 and 40 to 43: each rack stands at its start. Accepted, it
+// gives 0, the steps run.
+#[no_mangle]
+pub extern "C" fn wichteab_floor_open(
+    floor: &mut Floor,
+    role: u32,
+    order: &[u8],
+    timetable: &[u8],
+) -> u64
+    ensures { λ r. ⌜ Tells oneCount floorStepsOf
+        (callAnswer opening (roleOf role) (now (floor .entry)) (now (order .entry)) (now (timetable .entry))) r
+        × (now (floor .exit) ≡ pictureAfter opening (roleOf role) (now (floor .entry)) (now (order .entry)) (now (timetable .entry))) ⌝ }
+{
+    let called = called_open(*floor, role, order, timetable);
+    *floor = called.floor;
+    called.number
+}
+
+// A picture read, by a role's number.
+fn called_read(floor: Floor, role: u32, order: &[u8], timetable: &[u8], racks: &mut [u8; 64]) -> u64
+    ensures { λ r. ⌜ Tells oneCount floorStepsOf
+        (callAnswer reading (roleOf role) floor (now (order .entry)) (now (timetable .entry))) r
+        × (now (racks .exit) ≡ byAnswer (callAnswer reading (roleOf role) floor (now (order .entry)) (now (timetable .entry)))
+        (floor .racks) (now (racks .entry))) ⌝ }
+{
+    live_number(live::read(floor, live::role_of(role), order, timetable, racks))
+}
+
+// Reads the live floor, judged by 60, 10 to 14 and 40 to 43. Accepted, the table has the rack at each position, and it gives the steps run
+// and not taken back.
+#[no_mangle]
+pub extern "C" fn wichteab_floor_read(
+    floor: &Floor,
+    role: u32,
+    order: &[u8],
+    timetable: &[u8],
+    racks: &mut [u8; 64],
+) -> u64
+    ensures { λ r. ⌜ Tells oneCount floorStepsOf
+        (callAnswer reading (roleOf role) (now (floor .entry)) (now (order .entry)) (now (timetable .entry))) r
+        × (now (racks .exit) ≡ byAnswer
+        (callAnswer reading (roleOf role) (now (floor .entry)) (now (order .entry)) (now (timetable .entry)))
+        (now (floor .entry) .racks) (now (racks .entry))) ⌝ }
+{
+    called_read(*floor, role, order, timetable, racks)
+}
+
+// The next step run, by a role's number, on a picture by value.
+fn called_run(floor: Floor, role: u32, order: &[u8], timetable: &[u8]) -> Called
+    ensures { λ r. ⌜ Tells oneCount floorStepsOf
+        (callAnswer running (roleOf role) floor (now (order .entry)) (now (timetable .entry))) (r .number)
+        × (r .floor ≡ pictureAfter running (roleOf role) floor (now (order .entry)) (now (timetable .entry))) ⌝ }
+{
+    numbered(live::run(floor, live::role_of(role), order, timetable))
+}
+
+// Runs the next step of the lent timetable on the live floor, judged by 60, 10 to 14, 40 to 43 and 61. Accepted, it gives the steps run and
+// not taken back.
+#[no_mangle]
+pub extern "C" fn wichteab_floor_run(
+    floor: &mut Floor,
+    role: u32,
+    order: &[u8],
+    timetable: &[u8],
+) -> u64
+    ensures { λ r. ⌜ Tells oneCount floorStepsOf
+        (callAnswer running (roleOf role) (now (floor .entry)) (now (order .entry)) (now (timetable .entry))) r
+        × (now (floor .exit) ≡ pictureAfter running (roleOf role) (now (floor .entry)) (now (order .entry)) (now (timetable .entry))) ⌝ }
+{
+    let called = called_run(*floor, role, order, timetable);
+    *floor = called.floor;
+    called.number
+}
+
+// The last step taken back, by a role's number, on a picture by value.
+fn called_take_back(floor: Floor, role: u32, order: &[u8], timetable: &[u8]) -> Called
+    ensures { λ r. ⌜ Tells oneCount floorStepsOf
+        (callAnswer takingBack (roleOf role) floor (now (order .entry)) (now (timetable .entry))) (r .number)
+        × (r .floor ≡ pictureAfter takingBack (roleOf role) floor (now (order .entry)) (now (timetable .entry))) ⌝ }
+{
+    numbered(live::take_back(floor, live::role_of(role), order, timetable))
+}
+
+// Takes the last step back, as the lent timetable has it, judged by 60, 10 to 14, 40 to 43 and 62. Accepted, it gives the steps run and not
+// taken back.
+#[no_mangle]
+pub extern "C" fn wichteab_floor_take_back(
+    floor: &mut Floor,
+    role: u32,
+    order: &[u8],
+    timetable: &[u8],
+) -> u64
+    ensures { λ r. ⌜ Tells oneCount floorStepsOf
+        (callAnswer takingBack (roleOf role) (now (floor .entry)) (now (order .entry)) (now (timetable .entry))) r
+        × (now (floor .exit) ≡ pictureAfter takingBack (roleOf role) (now (floor .entry)) (now (order .entry)) (now (timetable .entry))) ⌝ }
+{
+    let called = called_take_back(*floor, role, order, timetable);
+    *floor = called.floor;
+    called.number
 }

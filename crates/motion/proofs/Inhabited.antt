@@ -25,7 +25,7 @@ use Rattle.motion.specs.Move.{onFloor, legalMove, faultBy, moveFault, go
 use Rattle.motion.specs.Step.{leaves, enters}
 use Rattle.motion.specs.Replay.{ended, stopped, replayFrom, replayMoves, trace}
 use Rattle.motion.proofs.Lawful.{Leads, Stops, replayMoves-ended, replayMoves-stopped}
-use Rattle.motion.proofs.MoveLaws.{turned}
+use Rattle.motion.specs.TurnedStep.{turned}
 use Rattle.motion.proofs.Reversal.{undo, leads-undo}
 use Rattle.motion.specs.Sound.{Sound}
 use Rattle.motion.proofs.SoundLaws.{isSound, isSound-sound}

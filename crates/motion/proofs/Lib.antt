@@ -25,4 +25,5 @@ pub mod StepTestsLaws
 pub mod Test
 pub mod TraceLaws
 pub mod Trains
+pub mod TurnedStepLaws
 pub mod Untouched

@@ -15,7 +15,6 @@
 --     moved-other       each other rack stays
 --     moved-unheld      a move from a position without a rack changes nothing
 --     legal-apart       a legal move's two positions differ
---     turned m          the move m turned round: from the position entered to the position left
 --     turned-legal      a legal move, turned round, is legal after it
 --     turned-back       and takes its rack back
 -- Assumes nothing.
@@ -34,6 +33,7 @@ use Rattle.order.specs.Floor.{Floor, some, isPair, joined}
 use Rattle.motion.specs.Arrangement.{Arrangement, occupied, vacant}
 use Rattle.motion.proofs.ArrangementLaws.{occupied-rack, vacant-racks, occupied-vacant}
 use Rattle.motion.specs.Move.{onFloor, legalMove, faultBy, moveFault, goesTo, after, afterMove}
+use Rattle.motion.specs.TurnedStep.{turned}
 use Rattle.motion.proofs.Test.{and-parts, equal?}
 
 pub joined-sym : (F : Floor) (a b : ℕ) → joined F a b ≡ joined F b a
@@ -149,9 +149,6 @@ moved-unheld A m v =
 
 pub legal-apart : (F : Floor) (A : Arrangement) (m : ℕ × ℕ) → T (legalMove F A m) → m .0 ≢ m .1
 legal-apart F A m l e = let t = legal-parts F A m .0 l in occupied-vacant A (m .0) (t .1) (rw e (t .2))
-
-unfoldable pub turned : ℕ × ℕ → ℕ × ℕ
-turned m = (m .1, m .0)
 
 module _ (F : Floor) (A : Arrangement) (m : ℕ × ℕ) (l : T (legalMove F A m)) where
   turned-onFloor : T (onFloor F (m .1, m .0))

@@ -13,7 +13,8 @@ use mathlib.Core.Path.{_≡_, refl, sym, ap, _∙_}
 use lib.ListN.{length, length-map, length-reverse}
 use Rattle.order.specs.Floor.{Floor}
 use Rattle.motion.specs.Arrangement.{Arrangement}
-use Rattle.motion.proofs.MoveLaws.{turned, turned-legal, turned-back}
+use Rattle.motion.specs.TurnedStep.{turned}
+use Rattle.motion.proofs.MoveLaws.{turned-legal, turned-back}
 use Rattle.motion.proofs.Lawful.{Leads, still, _then_, lawful-one, lawful-append}
 
 unfoldable pub undo : List (ℕ × ℕ) → List (ℕ × ℕ)

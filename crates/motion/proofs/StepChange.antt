@@ -2,12 +2,16 @@
 -- time steps, with chains of at most eight racks, and for each change there is one step.
 --
 --     Change F m A B     points (i), (iii) and (iv) of Definition 2, between a valid arrangement A and the next, B
+--     Lead m A B a k     a chain of k racks from the rack a to a leader that enters a position which no rack held
+--     lead-chain         it is a chain as Definition 2 has it; lead-more: one rack more, which follows its first
 --     legal-takes        a legal step takes the rack at a position left to the position entered
 --     legal-others       and leaves every other rack where it is
 --     legal-valid        arrangements stay valid over legal steps
---     legal-change       a legal step makes a change that Definition 2 allows
+--     legal-along        it takes racks along edges
+--     legal-change       and makes a change that Definition 2 allows
 --     legal-short        in chains of at most eight racks
---     legal-stepOf       and it is the step between the two arrangements
+--     step-has, step-only   its moves are those by which a rack changes place
+--     legal-stepOf       so it is the step between the two arrangements
 --     chain-same         the chain of a rack that moves has one length
 --     short-iff          so if one is short then all are
 --     change-legal       the step between two arrangements is legal, if Definition 2 allows the change and chains are short
@@ -49,14 +53,14 @@ pub record Change (F : Floor) (m : ℕ) (A B : Arrangement) : Type 0 where
 -- chains of racks
 
 -- A chain of k racks whose leader enters a position that no rack held, the leader's own included. That its racks are distinct follows.
-record Lead (m : ℕ) (A B : Arrangement) (a k : ℕ) : Type 0 where
-  last : ℕ
-  counted : suc last ≡ k
-  b : ℕ → ℕ
-  agents : (i : ℕ) → i ≤ last → IsRack m (b i)
-  first : b 0 ≡ a
-  leading : (c : ℕ) → IsRack m c → stands A c ≢ stands B (b last)
-  following : (i : ℕ) → i < last → stands B (b i) ≡ stands A (b (suc i))
+pub record Lead (m : ℕ) (A B : Arrangement) (a k : ℕ) : Type 0 where
+  pub last : ℕ
+  pub counted : suc last ≡ k
+  pub b : ℕ → ℕ
+  pub agents : (i : ℕ) → i ≤ last → IsRack m (b i)
+  pub first : b 0 ≡ a
+  pub leading : (c : ℕ) → IsRack m c → stands A c ≢ stands B (b last)
+  pub following : (i : ℕ) → i < last → stands B (b i) ≡ stands A (b (suc i))
 
 module _ {F : Floor} {m : ℕ} {A B : Arrangement} {a k : ℕ} (valid : UniquelyInvertible F m A) (c : Lead m A B a k) where
   -- what follows two places with the same rack would be the same, up to the leader, which follows none
@@ -74,7 +78,7 @@ module _ {F : Floor} {m : ℕ} {A B : Arrangement} {a k : ℕ} (valid : Uniquely
       dite (decLt i j) (λ l. lead-apart (c .last - j) i j l (omega arith) e)
       (λ l. lead-apart (c .last - i) j i (omega arith) (omega arith) (sym e))
 
-  lead-chain : (b : RackChain m A B a) × (suc (b .last) ≡ k)
+  pub lead-chain : (b : RackChain m A B a) × (suc (b .last) ≡ k)
   lead-chain = (
     record {
       last = c .last;
@@ -93,7 +97,7 @@ before : ℕ → (ℕ → ℕ) → ℕ → ℕ
 before a b zero = a
 before a b (suc i) = b i
 
-lead-more : {m : ℕ} {A B : Arrangement} {a a′ k : ℕ} → IsRack m a → stands B a ≡ stands A a′ → Lead m A B a′ k → Lead m A B a (suc k)
+pub lead-more : {m : ℕ} {A B : Arrangement} {a a′ k : ℕ} → IsRack m a → stands B a ≡ stands A a′ → Lead m A B a′ k → Lead m A B a (suc k)
 unfolding before
 lead-more {m} {A} {B} {a} r e c =
     record {
@@ -158,7 +162,7 @@ module _ {F : Floor} {m : ℕ} {A : Arrangement} {ms : List (ℕ × ℕ)} (valid
         apart = λ a b r t ne e. ne (valid-same valid r t (goesTo-same (standing r) (standing t) (sym (goes r) ∙ e ∙ goes t)));
       }
 
-  legal-along : AlongEdges F m A (after A ms)
+  pub legal-along : AlongEdges F m A (after A ms)
   legal-along a r = rw (goes r) (on (goesTo-cases ms (stands A a)))
     where
       on : Goes ms (stands A a) → (stands A a ≡ goesTo ms (stands A a)) ⊎ T (joined F (stands A a) (goesTo ms (stands A a)))
@@ -196,7 +200,7 @@ module _ {F : Floor} {m : ℕ} {A : Arrangement} {ms : List (ℕ × ℕ)} (valid
   pub legal-change : Change F m A (after A ms)
   legal-change = record { invertible = legal-valid; along = legal-along; led = legal-led }
 
-  step-only : (x : ℕ × ℕ) → Taken A (after A ms) x → List·Memᴰ x ms
+  pub step-only : (x : ℕ × ℕ) → Taken A (after A ms) x → List·Memᴰ x ms
   step-only x t = on (goesTo-cases ms (x .0))
     where
       to : goesTo ms (x .0) ≡ x .1
@@ -206,7 +210,7 @@ module _ {F : Floor} {m : ℕ} {A : Arrangement} {ms : List (ℕ × ℕ)} (valid
       on (taken y n f g) = Memᴰ·cast (λ j. (sym f j, (sym to ∙ g) j)) n
       on (stays h g) = absurd (t .apart (sym g ∙ to))
 
-  step-has : (x : ℕ × ℕ) → List·Memᴰ x ms → Taken A (after A ms) x
+  pub step-has : (x : ℕ × ℕ) → List·Memᴰ x ms → Taken A (after A ms) x
   step-has x k =
       let w = valid-rack valid (s .held x k) in
       record { rack = w .0; is = own A (valid .racks) (w .1); from = w .2; to = legal-takes (w .1) k (w .2); apart = legal-move F A ms s k }

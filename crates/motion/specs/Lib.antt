@@ -12,3 +12,4 @@ pub mod ParallelPathFinding
 pub mod TrainCap
 pub mod StepOf
 pub mod StepSolutions
+pub mod TurnedStep

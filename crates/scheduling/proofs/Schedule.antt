@@ -24,7 +24,8 @@ use Rattle.order.specs.Floor.{Floor}
 use Rattle.motion.specs.Arrangement.{Arrangement, vacant}
 use Rattle.motion.proofs.ArrangementLaws.{occupied-rack, vacant-racks}
 use Rattle.motion.specs.Move.{legalMove, after, afterMove}
-use Rattle.motion.proofs.MoveLaws.{legal-parts, move-length, moved-rack, moved-other, turned, turned-legal}
+use Rattle.motion.proofs.MoveLaws.{legal-parts, move-length, moved-rack, moved-other, turned-legal}
+use Rattle.motion.specs.TurnedStep.{turned}
 use Rattle.motion.proofs.Untouched.{vacant-move}
 use Rattle.motion.specs.Sound.{Sound}
 use Rattle.motion.proofs.SoundLaws.{move-sound}

@@ -19,7 +19,8 @@ use Rattle.motion.specs.Arrangement.{Arrangement, rackAt}
 use Rattle.motion.specs.Move.{legalMove, afterMove, afterListed}
 use Rattle.motion.proofs.Lawful.{Leads, still, _then_, lawful-first, lawful-append, lawful-apart}
 use Rattle.motion.proofs.ListedLaws.{rightly, legalListed, LeadsListed}
-use Rattle.motion.proofs.MoveLaws.{turned, turned-back}
+use Rattle.motion.proofs.MoveLaws.{turned-back}
+use Rattle.motion.specs.TurnedStep.{turned}
 use Rattle.motion.proofs.Test.{and-parts}
 use Rattle.shortening.specs.Stack.{moveOf, Apart, Taken, off-top, from-under, Pushed, cancelled, kept, Passes, begun, next, laid}
 use Rattle.shortening.proofs.RemovalLaws.{rack-kept, first-legal, then-legal, alike}

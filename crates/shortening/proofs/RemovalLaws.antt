@@ -28,7 +28,8 @@ use Rattle.motion.specs.Problem.{arrangementAt}
 use Rattle.motion.specs.Replay.{trace}
 use Rattle.motion.proofs.ArrangementLaws.{occupied-rack, vacant-racks}
 use Rattle.motion.proofs.Lawful.{Leads, still, _then_, lawful-first, lawful-append, lawful-apart}
-use Rattle.motion.proofs.MoveLaws.{legal-parts, move-length, moved-rack, moved-other, turned, turned-back}
+use Rattle.motion.proofs.MoveLaws.{legal-parts, move-length, moved-rack, moved-other, turned-back}
+use Rattle.motion.specs.TurnedStep.{turned}
 use Rattle.motion.proofs.Test.{equal?}
 use Rattle.motion.proofs.Untouched.{vacant-move}
 use Rattle.shortening.specs.Rule.{moveAt, rackOf, between, cancels, without, Shortens, done, again}

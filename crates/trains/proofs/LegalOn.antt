@@ -1,6 +1,7 @@
 -- A step is legal by the tables exactly if it is legal.
 --
 --     every-same        two tests that agree pass the same lists
+--     legal-step-same   by the matrix of a floor and a table a step is judged as on an arrangement whose racks stand at the same positions
 --     legal-step-on     by the matrix of a floor and the table of an arrangement a step is judged as document 01 has it
 -- Assumes nothing.
 use Prim.Native.Nat.{ℕ, _-_}
@@ -34,14 +35,18 @@ module _ (F : Floor) (below : BelowPairs 64 (F .edges)) (right : wrongEdges F �
   edges-on (more₂ {p = m} a b r) =
       ap₂ _&&_ (matrix-joined F (m .0) (m .1) below a b ∙ sym (onFloor-joined F right (m .0) (m .1))) (edges-on r)
 
-  pub legal-step-on : (A : Arrangement) (h : List ℕ) → Holds A h → {ms : List (ℕ × ℕ)} → BelowPairs 64 ms
+  -- all that counts of the racks is where they stand
+  pub legal-step-same : (A : Arrangement) (h : List ℕ) → ((p : ℕ) → heldAt h p ≡ occupied A p) → {ms : List (ℕ × ℕ)} → BelowPairs 64 ms
       → legalStepOn (matrixOf F) h ms ≡ legalStep F A ms
   unfolding legalStepOn soundMoves allLed legalStep
-  legal-step-on A h holds {ms} b =
-      let same : (p : ℕ) → heldAt h p ≡ occupied A p = held-occupied A h holds in
+  legal-step-same A h same {ms} b =
       rw (
         edges-on b,
         every-same (λ m. heldAt h (m .0)) (λ m. occupied A (m .0)) (λ m. same (m .0)) ms,
         every-same (λ m. ledOn (longestTrain - 1) ms h (m .1)) (λ m. led (longestTrain - 1) ms A (m .1))
             (λ m. led-same A h same ms (longestTrain - 1) (m .1)) ms,
       ) refl
+
+  pub legal-step-on : (A : Arrangement) (h : List ℕ) → Holds A h → {ms : List (ℕ × ℕ)} → BelowPairs 64 ms
+      → legalStepOn (matrixOf F) h ms ≡ legalStep F A ms
+  legal-step-on A h holds b = legal-step-same A h (held-occupied A h holds) b

@@ -32,10 +32,16 @@ const THEOREMS: &[(&str, &[&str])] = &[
     ("crates/planner/specs/Rings.antt", &[]),
     ("crates/shortening/specs/Theorems.antt", &[]),
     ("crates/converting/specs/Theorems.antt", &[]),
+    ("crates/live/specs/Picture.antt", &["LegalHere"]),
+    ("crates/live/specs/Theorems.antt", &[]),
 ];
 
 /// A decision carries the proof that it decides: what it decides stands in its type, and nobody has to believe the rest.
-const DECISIONS: [&str; 2] = ["crates/floor/specs/WayDecision.antt", "crates/floor/specs/RoundDecision.antt"];
+const DECISIONS: [&str; 3] = [
+    "crates/floor/specs/WayDecision.antt",
+    "crates/floor/specs/RoundDecision.antt",
+    "crates/live/specs/HereDecision.antt",
+];
 
 pub struct Definition {
     pub name: String,

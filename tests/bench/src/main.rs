@@ -13,6 +13,8 @@ use compare::short_orders::{self, MODELS};
 use compare::timetables;
 use compare::trains;
 use compare::write::{Edition, Order, EDITIONS};
+use second::live::{Call, Role};
+use second::motion::Arrangement;
 use std::hint::black_box;
 use std::time::Instant;
 
@@ -34,6 +36,7 @@ fn main() {
     plan_shorten();
     timetable_check();
     timetable_step();
+    live_floor();
     timetable_make();
     quality::print_table();
     quality::print_rings();
@@ -315,6 +318,37 @@ fn timetable_step() {
             calls,
             || proved::timetable_step(black_box(&timetable), steps as u64),
             || compare::packed::part(second::timetable::step(black_box(&timetable), steps as u64)),
+        );
+    }
+}
+
+/// The last step of a timetable taken back and run again, the timetable checked by both calls.
+fn live_floor() {
+    for (steps, calls) in [(223, 200), (1_000_000, 1)] {
+        let (order, timetable, _) = grid_timetable(62, steps);
+        let mut picture = second::live::CLOSED;
+        let mut call =
+            |kind| second::live::call(&mut picture, kind, Some(Role::Supervisor), &order, &timetable);
+        call(Call::Open).expect("opened");
+        // after the last step each rack stands at its goal
+        let goals = second::order::read(&order).expect("a sound order");
+        picture.racks = Arrangement::of(goals.goals()).racks();
+        picture.steps = steps as u32;
+        let mut floor =
+            proved::Floor { racks: picture.racks, steps: picture.steps, positions: picture.positions };
+        compare_speed(
+            "live floor",
+            &format!("taken back and run again, the last of {steps} steps"),
+            calls,
+            || {
+                let back = proved::floor_take_back(black_box(&mut floor), 3, &order, &timetable);
+                back + proved::floor_run(black_box(&mut floor), 3, &order, &timetable)
+            },
+            || {
+                let mut call =
+                    |kind| second::live::call(&mut picture, kind, Some(Role::Supervisor), &order, &timetable);
+                compare::packed::count(call(Call::TakeBack)) + compare::packed::count(call(Call::Run))
+            },
         );
     }
 }

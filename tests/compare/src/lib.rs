@@ -20,6 +20,7 @@
 //! | `readers`    | every function that reads a plan, on one that is refused           |
 //! | `cancelling` | plans made to cancel                                               |
 //! | `timetables` | timetables, and damage                                             |
+//! | `live`       | pairs of an order and a timetable for one live floor               |
 //! | `trains`     | steps and plans with trains of a given length                      |
 //! | `programs`   | the programs, run on an input                                      |
 
@@ -30,6 +31,7 @@ pub mod breakdowns;
 pub mod cancelling;
 pub mod cases;
 pub mod floors;
+pub mod live;
 pub mod orders;
 pub mod packed;
 pub mod plans;

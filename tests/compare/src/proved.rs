@@ -1,7 +1,18 @@
 //! The functions of include/wichteab.h, and those of crates/inspection. A byte string passes as a pointer and then its length; every
 //! function returns one 64-bit number.
 
+/// The live floor as a C caller holds it: `wichteab_floor`.
+#[repr(C)]
+#[derive(Clone, Copy, PartialEq, Eq, Debug)]
+pub struct Floor {
+    pub racks: [u8; 64],
+    pub steps: u32,
+    pub positions: u32,
+}
+
 mod symbols {
+    use super::Floor;
+
     extern "C" {
         pub fn wichteab_order_check(order: *const u8, order_length: usize) -> u64;
         pub fn wichteab_floor_check(order: *const u8, order_length: usize) -> u64;
@@ -52,6 +63,39 @@ mod symbols {
             short_order_length: usize,
             buffer: *mut u8,
             buffer_length: usize,
+        ) -> u64;
+        pub fn wichteab_floor_open(
+            floor: *mut Floor,
+            role: u32,
+            order: *const u8,
+            order_length: usize,
+            timetable: *const u8,
+            timetable_length: usize,
+        ) -> u64;
+        pub fn wichteab_floor_read(
+            floor: *const Floor,
+            role: u32,
+            order: *const u8,
+            order_length: usize,
+            timetable: *const u8,
+            timetable_length: usize,
+            racks: *mut [u8; 64],
+        ) -> u64;
+        pub fn wichteab_floor_run(
+            floor: *mut Floor,
+            role: u32,
+            order: *const u8,
+            order_length: usize,
+            timetable: *const u8,
+            timetable_length: usize,
+        ) -> u64;
+        pub fn wichteab_floor_take_back(
+            floor: *mut Floor,
+            role: u32,
+            order: *const u8,
+            order_length: usize,
+            timetable: *const u8,
+            timetable_length: usize,
         ) -> u64;
         pub fn wichteab_order_length(bytes: *const u8, length: usize) -> u64;
         pub fn wichteab_timetable_length(bytes: *const u8, length: usize) -> u64;
@@ -164,6 +208,59 @@ pub fn order_expand(short_order: &[u8], buffer: &mut [u8]) -> u64 {
             short_order.len(),
             buffer.as_mut_ptr(),
             buffer.len(),
+        )
+    }
+}
+
+pub fn floor_open(floor: &mut Floor, role: u32, order: &[u8], timetable: &[u8]) -> u64 {
+    unsafe {
+        symbols::wichteab_floor_open(
+            floor,
+            role,
+            order.as_ptr(),
+            order.len(),
+            timetable.as_ptr(),
+            timetable.len(),
+        )
+    }
+}
+
+pub fn floor_read(floor: &Floor, role: u32, order: &[u8], timetable: &[u8], racks: &mut [u8; 64]) -> u64 {
+    unsafe {
+        symbols::wichteab_floor_read(
+            floor,
+            role,
+            order.as_ptr(),
+            order.len(),
+            timetable.as_ptr(),
+            timetable.len(),
+            racks,
+        )
+    }
+}
+
+pub fn floor_run(floor: &mut Floor, role: u32, order: &[u8], timetable: &[u8]) -> u64 {
+    unsafe {
+        symbols::wichteab_floor_run(
+            floor,
+            role,
+            order.as_ptr(),
+            order.len(),
+            timetable.as_ptr(),
+            timetable.len(),
+        )
+    }
+}
+
+pub fn floor_take_back(floor: &mut Floor, role: u32, order: &[u8], timetable: &[u8]) -> u64 {
+    unsafe {
+        symbols::wichteab_floor_take_back(
+            floor,
+            role,
+            order.as_ptr(),
+            order.len(),
+            timetable.as_ptr(),
+            timetable.len(),
         )
     }
 }

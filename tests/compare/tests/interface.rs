@@ -53,7 +53,7 @@ fn the_headers_numbers_are_the_faults_of_the_code() {
     let mut expected: BTreeMap<String, u32> =
         faults.iter().map(|(name, &number)| (upper_snake(name), number)).collect();
     expected.insert("ACCEPTED".to_string(), 0);
-    assert!(faults.len() >= 28, "only {} faults were found", faults.len());
+    assert!(faults.len() >= 31, "only {} faults were found", faults.len());
     assert_eq!(numbers(&text("include/wichteab.h"), "WICHTEAB_", " = "), expected);
 }
 
@@ -188,6 +188,50 @@ fn what_the_delivery_example_prints() {
         text("examples/delivery.expected") == expected,
         "examples/delivery.expected is due to read:\n{expected}"
     );
+}
+
+/// What stands where after so many steps, and the step's moves before it, from the second implementation; the reason of
+/// 60 stands in the header.
+#[test]
+fn what_the_controller_example_prints() {
+    use second::live::{call, Call, Picture, Role, CLOSED};
+    let order = file("examples/casebook.order");
+    let timetable = file("examples/casebook.timetable");
+    let steps = [["0>1", "3>2"], ["1>3", "2>0"]].map(|moves| format!("run {}\n", moves.join(" ")));
+    let mut picture = CLOSED;
+    let mut expected = String::new();
+    let shown = |picture: &Picture| {
+        let row = picture.racks[..picture.positions as usize].iter();
+        let row: Vec<String> =
+            row.map(|&rack| if rack == 0 { ".".into() } else { rack.to_string() }).collect();
+        format!("{}: {}\n", picture.steps, row.join(" "))
+    };
+    let mut made = |kind: Call, role: Role, line: &str| {
+        let answer = call(&mut picture, kind, Some(role), &order, &timetable);
+        expected += &match answer {
+            Ok(_) => line.to_string() + &shown(&picture),
+            Err(refusal) => {
+                format!("refused {} {} other: {}\n", refusal.number, refusal.place, reason_of_60())
+            }
+        };
+    };
+    made(Call::Open, Role::Viewer, "");
+    made(Call::Run, Role::Viewer, "");
+    made(Call::Run, Role::Operator, &steps[0]);
+    made(Call::Run, Role::Operator, &steps[1]);
+    made(Call::TakeBack, Role::Supervisor, "taken back\n");
+    made(Call::Run, Role::Supervisor, &steps[1]);
+    assert!(
+        text("examples/controller.expected") == expected,
+        "examples/controller.expected is due to read:\n{expected}"
+    );
+}
+
+/// The header's sentence for 60.
+fn reason_of_60() -> String {
+    let header = text("include/wichteab.h");
+    let (_, behind) = header.split_once("case WICHTEAB_FLOOR_RIGHT:").expect("a reason");
+    behind.split('"').nth(1).expect("a sentence").to_string()
 }
 
 /// A line for each move: its number, its rack and its positions.

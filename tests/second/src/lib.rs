@@ -20,6 +20,7 @@
 //! | `clearing`  | request (b), the nearest vacancy  |                    |
 //! | `shortening` | requests (e) and (h), shorter plans | 37              |
 //! | `converting` | request (h), the other edition   | 38                 |
+//! | `live`      | request (k), the live floor       | 60 to 62           |
 //! | `shortest`  | requests (g) and (i), no shorter timetable |           |
 #![forbid(unsafe_code)]
 
@@ -28,6 +29,7 @@ pub mod breakdown;
 pub mod clearing;
 pub mod converting;
 pub mod floor;
+pub mod live;
 pub mod making;
 pub mod models;
 pub mod motion;

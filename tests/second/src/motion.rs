@@ -32,6 +32,16 @@ impl Arrangement {
         Arrangement { rack_at }
     }
 
+    /// The arrangement with this rack at each position, whoever wrote them.
+    pub fn with_racks(rack_at: [u8; 64]) -> Arrangement {
+        Arrangement { rack_at }
+    }
+
+    /// The rack at each position.
+    pub fn racks(&self) -> [u8; 64] {
+        self.rack_at
+    }
+
     #[inline]
     pub fn is_vacant(&self, position: usize) -> bool {
         self.rack_at[position] == 0

@@ -1,0 +1,10 @@
+pub mod Driving
+pub mod Examples
+pub mod Following
+pub mod Gate
+pub mod HereLaws
+pub mod Knowing
+pub mod Lending
+pub mod Steps
+pub mod Theorems
+pub mod Turning
