@@ -12,7 +12,7 @@
 //! | `plan`      | Records, the plan; (c) and (h)    | 30 to 36           |
 //! | `timetable` | Records, the timetable            | 40 to 43, 45       |
 //! | `making`    | Making the timetable, request (i) | 44                 |
-//! | `floor`     | The floor, request (d)            | 20, 21, 24         |
+//! | `floor`     | The floor, requests (d) and (j)   | 20, 21, 24, 26     |
 //! | `breakdown` | Breakdown and planning            |                    |
 //! | `planning`  | Breakdown and planning, demand 3, (h) | 23             |
 //! | `program`   | Programs                          |                    |
