@@ -294,7 +294,7 @@ static uint64_t turn_edition(const char *name)
     return answer;
 }
 
-/* One rack goes to and fro between two positions, so often that the shortener takes its largest tables. Edition one. */
+/* One rack goes to and fro between two positions, so often that the shortener and the timetable maker take their largest tables. Edition one. */
 static void put_to_and_fro(unsigned moves)
 {
     static const uint8_t to_and_fro[] = {0x00, 0x10, 0x40}; /* 0>1, 1>0 */
@@ -316,10 +316,11 @@ static void put_to_and_fro(unsigned moves)
     }
 }
 
-/* So many moves to and fro, in both editions: none is left. */
+/* So many moves to and fro, in both editions: each takes a step of its own, and none is left when it is shortened. */
 static void run_to_and_fro(unsigned moves)
 {
     put_to_and_fro(moves);
+    expect(run(timetable_make, "wichteab_timetable_make, many moves") == (uint64_t)moves << 8, "each move has a step of its own");
     expect(run_on(SHORTENER_STACK, plan_shorten, "wichteab_plan_shorten, many moves") == 0, "of the moves none is left");
     expect(turn_edition("wichteab_plan_convert, many moves") == (uint64_t)moves << 8, "they are converted");
     expect(run_on(SHORTENER_STACK, plan_shorten, "wichteab_plan_shorten, many moves, edition two") == 0,

@@ -1,2 +1,3 @@
 pub mod AnswerSizes
+pub mod LentFloor
 pub mod PackedLaws

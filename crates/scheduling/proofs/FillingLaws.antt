@@ -1,16 +1,19 @@
 -- Laws of a pass over any moves: no step is above the number of moves so far, and the window's entries are positions.
 --
 --     set-most                a table whose entries are at most b, with one more entry of at most b
---     Early j P               no step is above j
---     early-started, early-passed, early-pass    nor is it, with each move, above one more
---     latest-few              so there are at most as many steps as moves
---     greatest-same           the greatest step is the same whatever the window
+--     early-started, early-passed, early-pass    where no step is above j, none is, with each move, above one more
+--     latest-few, latest-some   so there are at most as many steps as moves; where there are moves there is a step
 --     entries-empty, entries-pass              every entry of the window is a position, plus 1, or 0
+--     Same h P Q              the passes P and Q have the same tables, and the greatest step of P is that of Q or h
+--     same-pass               so they have after the same moves, whatever their windows
+--     same-window             with the same window too, and of the same steps, it stays the same
+--     pass-append             a pass over moves and the moves behind them
 -- Assumes nothing.
-use Prim.Native.Nat.{ℕ, zero, suc, _+_, _-_, _*_, _/_, _≤_, _<_}
+use Prim.Native.Nat.{ℕ, zero, suc, _+_, _-_, _*_, _/_, _≤_, _<_, max}
 use mathlib.Core.Path.{_≡_, refl}
-use mathlib.Core.List.{List, [], _∷_}
+use mathlib.Core.List.{List, [], _∷_, _++_}
 use native.Mathlib.Omega.{arith}
+use native.Mathlib.Nat.{add-zero, le-refl}
 use lib.ListN.{length, getD, set}
 use lib.Dec.{ltb}
 use Rattle.field.specs.Bytes.{BelowPairs, none₂, more₂}
@@ -18,7 +21,7 @@ use Rattle.motion.proofs.Test.{cond-either}
 use Rattle.tables.proofs.TableLaws.{zeros-at}
 use Rattle.scheduling.specs.Rows.{EntriesFit}
 use Rattle.motion.specs.LegalStep.{longestTrain}
-use Rattle.scheduling.specs.Filling.{Pass, started, turnNumber, turnBy, noted, passed, pass, emptyWindow, latest}
+use Rattle.scheduling.specs.Filling.{Pass, started, turnNumber, turnBy, noted, passed, pass, Early, emptyWindow, latest}
 
 pub set-most : (b : ℕ) (l : List ℕ) (i v : ℕ) → ((p : ℕ) → getD l p 0 ≤ b) → v ≤ b → (p : ℕ) → getD (set l i v) p 0 ≤ b
 set-most b [] i v h k p = h p
@@ -26,12 +29,6 @@ set-most b (x ∷ l) zero v h k zero = k
 set-most b (x ∷ l) zero v h k (suc p) = h (suc p)
 set-most b (x ∷ l) (suc i) v h k zero = h 0
 set-most b (x ∷ l) (suc i) v h k (suc p) = set-most b l i v (λ q. h (suc q)) k p
-
--- no step is above j: no turn's number above that of its last place
-pub record Early (j : ℕ) (P : Pass) : Type 0 where
-  pub arrivals : (p : ℕ) → getD (P .arrived) p 0 ≤ j
-  pub leavings : (p : ℕ) → getD (P .left) p 0 ≤ turnNumber j longestTrain
-  pub most : P .greatest ≤ j
 
 pub early-started : (w : List ℕ) → Early 0 (started w)
 unfolding started
@@ -53,10 +50,12 @@ early-passed first j P e m =
       most = omega (arith, e .most);
     }
 
-pub early-pass : (first j : ℕ) (P : Pass) → Early j P → (ms : List (ℕ × ℕ)) → pass first P ms .greatest ≤ j + length ms
+pub early-pass : (first j : ℕ) (P : Pass) → Early j P → (ms : List (ℕ × ℕ)) → Early (j + length ms) (pass first P ms)
 unfolding pass
-early-pass first j P e [] = omega (arith, e .most)
-early-pass first j P e (m ∷ ms) = omega (arith, early-pass first (j + 1) (passed first P m) (early-passed first j P e m) ms)
+early-pass first j P e [] = rw (add-zero j) e
+early-pass first j P e (m ∷ ms) =
+    let more : j + suc (length ms) ≡ j + 1 + length ms = omega arith in
+    rw more (early-pass first (j + 1) (passed first P m) (early-passed first j P e m) ms)
 
 -- the window's entries
 
@@ -79,20 +78,50 @@ pub entries-empty : EntriesFit emptyWindow
 unfolding emptyWindow
 entries-empty = record { at-most = λ i. omega (arith, zeros-at 262144 i) }
 
--- the greatest step is the same whatever the window
+-- two passes over the same moves
 
-same-greatest : (f g : ℕ) (P Q : Pass) (ms : List (ℕ × ℕ)) → P .arrived ≡ Q .arrived → P .left ≡ Q .left → P .greatest ≡ Q .greatest
-    → pass f P ms .greatest ≡ pass g Q ms .greatest
+pub record Same (h : ℕ) (P Q : Pass) : Type 0 where
+  pub arrivals : P .arrived ≡ Q .arrived
+  pub leavings : P .left ≡ Q .left
+  pub most : P .greatest ≡ max h (Q .greatest)
+
+pub same-pass : (h f g : ℕ) (P Q : Pass) (ms : List (ℕ × ℕ)) → Same h P Q → Same h (pass f P ms) (pass g Q ms)
 unfolding pass
-same-greatest f g P Q [] a l e = e
-same-greatest f g P Q (m ∷ ms) a l e =
-    same-greatest f g (passed f P m) (passed g Q m) ms (unfold passed in rw (a, l) refl) (unfold passed in rw (a, l) refl)
-    (unfold passed in rw (a, l, e) refl)
+same-pass h f g P Q [] e = e
+same-pass h f g P Q (m ∷ ms) e =
+    same-pass h f g (passed f P m) (passed g Q m) ms
+    (record {
+      arrivals = unfold passed in rw (e .arrivals, e .leavings) refl;
+      leavings = unfold passed in rw (e .arrivals, e .leavings) refl;
+      most = unfold passed in rw (e .arrivals, e .leavings) (omega (arith, e .most));
+    })
 
-pub greatest-same : (first : ℕ) (ms : List (ℕ × ℕ)) → pass first (started emptyWindow) ms .greatest ≡ latest ms
-unfolding latest
-greatest-same first ms = same-greatest first 0 (started emptyWindow) (started emptyWindow) ms refl refl refl
+pub same-window : (f : ℕ) (P Q : Pass) (ms : List (ℕ × ℕ)) → P .arrived ≡ Q .arrived → P .left ≡ Q .left → P .window ≡ Q .window
+    → pass f P ms .window ≡ pass f Q ms .window
+unfolding pass
+same-window f P Q [] a l w = w
+same-window f P Q (m ∷ ms) a l w =
+    same-window f (passed f P m) (passed f Q m) ms (unfold passed in rw (a, l) refl) (unfold passed in rw (a, l) refl)
+    (unfold passed in rw (a, l, w) refl)
+
+pub pass-append : (f : ℕ) (P : Pass) (a b : List (ℕ × ℕ)) → pass f P (a ++ b) ≡ pass f (pass f P a) b
+unfolding pass
+pass-append f P [] b = refl
+pass-append f P (m ∷ a) b = pass-append f (passed f P m) a b
+
+greatest-grows : (f : ℕ) (P : Pass) (ms : List (ℕ × ℕ)) → P .greatest ≤ pass f P ms .greatest
+unfolding pass passed
+greatest-grows f P [] = le-refl (P .greatest)
+greatest-grows f P (m ∷ ms) = omega (arith, greatest-grows f (passed f P m) ms)
+
+pub latest-some : (ms : List (ℕ × ℕ)) → 0 < length ms → 1 ≤ latest ms
+unfolding latest pass
+latest-some [] h = absurd (omega arith)
+latest-some (m ∷ ms) h =
+    let P : Pass = passed 0 (started emptyWindow) m in
+    let first : 1 ≤ P .greatest = unfold passed turnBy in omega arith in
+    omega (arith, greatest-grows 0 P ms)
 
 pub latest-few : (ms : List (ℕ × ℕ)) → latest ms ≤ length ms
 unfolding latest
-latest-few ms = omega (arith, early-pass 0 0 (started emptyWindow) (early-started emptyWindow) ms)
+latest-few ms = omega (arith, early-pass 0 0 (started emptyWindow) (early-started emptyWindow) ms .most)

@@ -1,6 +1,8 @@
 pub mod Writing
 pub mod Leaving
 pub mod Passing
+pub mod StretchLaws
+pub mod Stretching
 pub mod Windowing
 pub mod Making
 pub mod FillingLaws

@@ -2,23 +2,25 @@
 --
 --     WroteRows t s n at b next row                  the steps of the first rows of the window t are written into s
 --     rows-first, rows-length, rows-room, rows-more, rows-all    from row to row
---     filled-latest, filled-few, filled-fit, filled-steps, filled-room, filled-wrote    what a filled window has
---     Known ms s n, known-first, known-later, known-on, known-last          that s is the number of steps, from the first window on
+--     filled-fit, filled-few, filled-steps, filled-room, filled-wrote    what a filled window has
+--     counted-first, counted-later, counted-latest, counted-on, counted-last    the number of steps, known from the first window on
 --     WroteWindows ms s b at n                       the steps of the first n windows are written into s
 --     windows-none, windows-length, windows-room, windows-more, windows-all      from window to window
 -- Assumes nothing.
-use Prim.Native.Nat.{ℕ, zero, suc, _+_, _-_, _*_, _/_, _≤_, _<_, min}
+use Prim.Native.Nat.{ℕ, zero, suc, _+_, _-_, _*_, _/_, _≤_, _<_, min, max}
 use mathlib.Core.Path.{_≡_, refl, sym, ap, _∙_, subst}
 use mathlib.Core.List.{List, [], _∷_, _++_, append-nil}
 use native.Mathlib.Omega.{arith}
-use native.Mathlib.Decide.{ℕ-discrete}
+use mathlib.Core.Logic.{dite}
+use native.Mathlib.Decide.{ℕ-discrete, decLt}
 use native.Mathlib.Numerals.{add-one}
 use native.Mathlib.Nat.{add-zero, le-refl}
 use Rattle.field.specs.Bytes.{BelowPairs}
 use Rattle.field.specs.Writing.{written, Fits, Wrote}
 use Rattle.field.proofs.WritingLaws.{fits-next, wrote-none, wrote-then, wrote-length, fits-as, wrote-as}
-use Rattle.scheduling.specs.Filling.{started, emptyWindow, windowOf, latest, PassMade}
-use Rattle.scheduling.proofs.FillingLaws.{greatest-same, entries-empty, entries-pass}
+use Rattle.scheduling.specs.Filling.{started, windowOf, latest}
+use Rattle.scheduling.specs.Stretches.{Begun, Counted}
+use Rattle.scheduling.proofs.FillingLaws.{latest-some, entries-empty, entries-pass}
 use Rattle.scheduling.specs.Windows.{rowsOf, windowSteps, windows, allSteps}
 use lib.ListN.{length, length-append}
 use Rattle.scheduling.specs.Rows.{EntriesFit, rowMoves, rows, stepBytes, stepsBytes}
@@ -77,12 +79,10 @@ module _ (t s : List ℕ) (n at : ℕ) where
           let all : n ≡ row = omega arith in
           rw all w
 
-module _ (ms : List (ℕ × ℕ)) (first r : ℕ) (w : List ℕ) (f : PassMade first emptyWindow ms r w) where
-  pub filled-latest : r ≡ latest ms
-  filled-latest = f .greatest-is ∙ greatest-same first ms
-
+module _ (ms : List (ℕ × ℕ)) (first r : ℕ) (w : List ℕ) (er : r ≡ latest ms) (ew : w ≡ windowOf ms first) where
   pub filled-fit : BelowPairs 64 ms → EntriesFit w
-  filled-fit b = rw (f .window-is) (entries-pass first _ b (unfold started in entries-empty))
+  unfolding windowOf
+  filled-fit b = rw ew (entries-pass first _ b (unfold started in entries-empty))
 
   module _ (n : ℕ) (e : n ≡ rowsOf r first) where
     pub filled-few : n ≤ 4096
@@ -90,15 +90,15 @@ module _ (ms : List (ℕ × ℕ)) (first r : ℕ) (w : List ℕ) (f : PassMade f
     filled-few = omega (arith, e)
 
     pub filled-steps : rows w 0 n ≡ windowSteps ms first
-    unfolding windowSteps windowOf
-    filled-steps = rw (e, filled-latest, f .window-is) refl
+    unfolding windowSteps
+    filled-steps = rw (e, er, ew) refl
 
     pub filled-room : (at : ℕ) (B : List ℕ) → Fits B at (stepsBytes (windowSteps ms first)) → Fits B at (stepsBytes (rows w 0 n))
     filled-room at B fits = fits-as (ap stepsBytes filled-steps) fits
 
     pub filled-wrote : (at next : ℕ) (B b : List ℕ) → Wrote B at (stepsBytes (rows w 0 n)) b next
-        → (r ≡ latest ms) × Wrote B at (stepsBytes (windowSteps ms first)) b next
-    filled-wrote at next B b v = (filled-latest, wrote-as (ap stepsBytes filled-steps) v)
+        → Wrote B at (stepsBytes (windowSteps ms first)) b next
+    filled-wrote at next B b v = wrote-as (ap stepsBytes filled-steps) v
 
 -- one window after another
 
@@ -116,23 +116,26 @@ windows-most ms n (suc k) =
     ))
 
 -- how many steps there are is known from the first window on
-pub record Known (ms : List (ℕ × ℕ)) (s n : ℕ) : Type 0 where
-  pub later : 0 < n → s ≡ latest ms
-  pub first : n ≡ 0 → s ≡ 1
+module _ (ms : List (ℕ × ℕ)) (d : List ℕ) (s n : ℕ) (c : Counted ms d s n) where
+  -- the greater of s and what a pass finds
+  pub counted-latest : 0 < length ms → (r : ℕ) → r ≤ latest ms → (Begun d → r ≡ latest ms) → max s r ≡ latest ms
+  counted-latest some r h new =
+      dite (decLt 0 n) (λ k. omega (arith, c .later k))
+      (λ k. let none = c .at-first (omega arith) in omega (arith, none .0, new (none .1), latest-some ms some))
 
-pub known-first : (ms : List (ℕ × ℕ)) → Known ms 1 0
-known-first ms = record { later = λ h. absurd (omega arith); first = λ h. refl }
+  pub counted-on : 4096 * n < s → n + 1 ≤ latest ms / 4096 + 1
+  counted-on h = dite (decLt 0 n) (λ k. omega (arith, c .later k)) (λ k. omega arith)
 
-pub known-later : (ms : List (ℕ × ℕ)) (s n : ℕ) → s ≡ latest ms → Known ms s (n + 1)
-known-later ms s n e = record { later = λ h. e; first = λ h. absurd (omega arith) }
+  pub counted-last : s ≤ 4096 * n → s ≡ latest ms
+  counted-last h =
+      dite (decLt 0 n) (λ k. c .later k)
+      (λ k. absurd (omega (arith, c .at-first (omega arith) .0)))
 
-pub known-on : (ms : List (ℕ × ℕ)) (s n : ℕ) → Known ms s n → 4096 * n < s → n + 1 ≤ latest ms / 4096 + 1
-known-on ms s zero k h = omega arith
-known-on ms s (suc n) k h = omega (arith, k .later (omega arith))
+pub counted-first : (ms : List (ℕ × ℕ)) (d : List ℕ) → Begun d → Counted ms d 1 0
+counted-first ms d b = record { at-first = λ h. (refl, b); later = λ h. absurd (omega arith) }
 
-pub known-last : (ms : List (ℕ × ℕ)) (s n : ℕ) → Known ms s n → s ≤ 4096 * n → s ≡ latest ms
-known-last ms s zero k h = absurd (omega (arith, k .first refl))
-known-last ms s (suc n) k h = k .later (omega arith)
+pub counted-later : (ms : List (ℕ × ℕ)) (d : List ℕ) (s n : ℕ) → s ≡ latest ms → Counted ms d s (n + 1)
+counted-later ms d s n e = record { at-first = λ h. absurd (omega arith); later = λ h. e }
 
 module _ (ms : List (ℕ × ℕ)) (s : List ℕ) where
   unfoldable pub WroteWindows : List ℕ → ℕ → ℕ → Type 0

@@ -1,6 +1,7 @@
 -- One pass over a plan's moves with two tables, an entry for each position: the rule's numbers for a move are looked up by one load each.
 -- Step and place are one number there, so that behind the eighth place of a step comes the first of the next.
--- Of the moves, those of a window of 4096 steps are entered into a table as Rows has it.
+-- Of the moves, those of a window of 4096 steps are entered into a table as Rows has it. A pass may go on behind earlier moves, from the
+-- tables that they left: these are kept as one row of 128 numbers, 64 for the arrivals and 64 for the leavings.
 --
 --     Pass                     what a pass has come to
 --     started w                before the first move, with the empty window w
@@ -9,16 +10,20 @@
 --     noted first w t a b      the window w, of the steps after step `first`, with the move from a to b of step t
 --     passed first P m         the pass P with the move m
 --     pass first P ms          the pass P with the moves ms
---     PassMade first w ms r v  a pass over ms from the window w gives the greatest step r and the window v
+--     passIn row w g           the pass with the tables of a row, the window w and the greatest step g
+--     Early j P                no step is above j: no turn's number above that of its last place
+--     Due last d x y ms        no step above step `last` that a pass over ms from the tables x and y gives is before step d
+--     PassMade first row w ms g d row′ w′    a pass over ms from the row and the window w gives the greatest step g, the row row′ and the
+--                              window w′, and no step behind the window is before step d
 --     emptyWindow              a window without moves
 --     windowOf ms first        the window of the steps after step `first` that a pass over the moves ms fills
 --     latest ms                the greatest step that it finds
 -- Assumes nothing.
-use Prim.Native.Nat.{ℕ, _+_, _-_, _*_, _/_, max}
+use Prim.Native.Nat.{ℕ, _+_, _-_, _*_, _/_, _≤_, _<_, max}
 use mathlib.Core.Path.{_≡_}
 use mathlib.Core.Bool.{cond}
 use mathlib.Core.List.{List, [], _∷_}
-use lib.ListN.{getD, set, replicate}
+use lib.ListN.{length, getD, set, take, drop, replicate}
 use lib.Dec.{ltb}
 use Rattle.motion.specs.LegalStep.{longestTrain}
 
@@ -59,10 +64,24 @@ unfoldable pub pass : ℕ → Pass → List (ℕ × ℕ) → Pass
 pass first P [] = P
 pass first P (m ∷ ms) = pass first (passed first P m) ms
 
--- what a pass from the window w gives: the greatest step r and the window w′
-pub record PassMade (first : ℕ) (w : List ℕ) (ms : List (ℕ × ℕ)) (r : ℕ) (w′ : List ℕ) : Type 0 where
-  pub greatest-is : r ≡ pass first (started w) ms .greatest
-  pub window-is : w′ ≡ pass first (started w) ms .window
+unfoldable pub passIn : List ℕ → List ℕ → ℕ → Pass
+passIn row w g = record { arrived = take 64 row; left = drop 64 row; window = w; greatest = g }
+
+pub record Early (j : ℕ) (P : Pass) : Type 0 where
+  pub arrivals : (p : ℕ) → getD (P .arrived) p 0 ≤ j
+  pub leavings : (p : ℕ) → getD (P .left) p 0 ≤ turnNumber j longestTrain
+  pub most : P .greatest ≤ j
+
+pub data Due (last d : ℕ) : List ℕ → List ℕ → List (ℕ × ℕ) → Type 0 where
+  due-none : {x y : List ℕ} → Due last d x y []
+  due-more : {x y : List ℕ} {m : ℕ × ℕ} {ms : List (ℕ × ℕ)} (turn : ℕ) → turn ≡ turnBy x y (m .0) (m .1)
+      → (last < turn / longestTrain → d ≤ turn / longestTrain)
+      → Due last d (set x (m .1) (turn / longestTrain)) (set y (m .0) turn) ms → Due last d x y (m ∷ ms)
+
+pub record PassMade (first : ℕ) (row w : List ℕ) (ms : List (ℕ × ℕ)) (g d : ℕ) (row′ w′ : List ℕ) : Type 0 where
+  pub pass-is : passIn row′ w′ g ≡ pass first (passIn row w 0) ms
+  pub due-is : Due (first + 4096) d (take 64 row) (drop 64 row) ms
+  pub size : length row′ ≡ length row
 
 unfoldable pub emptyWindow : List ℕ
 emptyWindow = replicate 262144 0

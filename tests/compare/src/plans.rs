@@ -73,6 +73,27 @@ pub fn sound_on(random: &mut Random, floor: Floor, m: usize, k: usize) -> Sample
     Sample { floor, order, moves }
 }
 
+/// A plan in which a rack drives alone for a while, and then another one: up to so many moves in all, each drive of so
+/// many at most. Moves that stand side by side in the plan may then go into steps that are far apart.
+pub fn in_drives(random: &mut Random, floor: Floor, m: usize, parts: &[(usize, usize)]) -> Sample {
+    let mut order = orders::order_on(random, &floor, m);
+    let mut racks = Racks::new(&floor, &order.starts);
+    let mut moves = vec![];
+    for &(k, longest) in parts {
+        while moves.len() < k {
+            let mut one = racks.random_move(random).expect("some rack can move");
+            for _ in 0..random.between(1, longest).min(k - moves.len()) {
+                racks.make(&[one]);
+                moves.push(one);
+                // the position just left is vacant, so there is one to go to
+                one = (one.1, random.member(racks.joined(one.1) & racks.vacant()));
+            }
+        }
+    }
+    order.goals = racks.places();
+    Sample { floor, order, moves }
+}
+
 /// Rack 1 goes to and fro between two positions.
 pub fn to_and_fro(k: usize) -> Sample {
     let floor = Floor::new(2, [(0, 1)]);

@@ -1,15 +1,16 @@
 //! The proved timetable maker against the second one: the answer, and every byte of the buffer. The timetable of a
 //! plan is the same in both editions.
 
-use compare::floors;
+use compare::floors::{self, Floor};
 use compare::packed;
 use compare::plans;
 use compare::proved;
 use compare::random::Random;
 use compare::tally::{Hex, Tally};
 use compare::trains;
-use compare::write::EDITIONS;
+use compare::write::{Drive, EDITIONS};
 use second::motion::NO_CAP;
+use std::collections::HashSet;
 
 const NUMBERS: [u8; 14] = [0, 10, 11, 12, 13, 14, 30, 31, 32, 33, 34, 35, 36, 44];
 
@@ -128,6 +129,71 @@ fn long_plans() {
     tally.close(24);
 }
 
+/// Lengths at which the plan is passed in more stretches, stretches become longer, or the steps fill a window.
+#[test]
+fn lengths_around_the_limits() {
+    let mut random = Random::new(0x5EED_5006);
+    let mut tally = Tally::new("timetable_make, lengths around the limits");
+    let limits = [4_096, 8_192, 16_384, 16_512, 20_480, 32_640, 32_768, 65_536];
+    let lengths = limits.into_iter().flat_map(|limit| [limit - 1, limit, limit + 1]);
+    for (k, m) in lengths.flat_map(|k| [1, 7, 62].map(|m| (k, m))) {
+        let sample = plans::sound_on(&mut random, floors::grid(8, 8), m, k);
+        for edition in EDITIONS {
+            let mut buffer = random.bytes(3 * k + 10);
+            compare(&mut tally, &sample.order.record(), &sample.plan(edition).record(), &mut buffer);
+        }
+    }
+    tally.close(144);
+}
+
+/// Racks that drive far and then take turns, so that few moves of the plan have steps in many windows.
+#[test]
+fn racks_far_apart_in_steps() {
+    let mut random = Random::new(0x5EED_5007);
+    let mut tally = Tally::new("timetable_make, racks far apart in steps");
+    // a rack has one position to go to, and no other rack enters it
+    let pairs = || Floor::new(64, (0..32).map(|pair| (2 * pair, 2 * pair + 1)));
+    let mut most = 0;
+    for parts in [
+        &[(60_000, 20_000)][..],
+        &[(600_000, 40_000), (700_000, 2)],
+        &[(150_000, 40_000), (180_000, 100), (400_000, 9_000)],
+        &[(20_000, 2), (120_000, 100_000), (140_000, 1), (500_000, 60_000)],
+    ] {
+        for m in [2, 5, 12, 25] {
+            for floor in [pairs(), floors::grid(8, 8), floors::bi_connected(&mut random, 64)] {
+                let apart = floor.edges.len() == 32;
+                let sample = plans::in_drives(&mut random, floor, m, parts);
+                let k = sample.moves.len();
+                for edition in EDITIONS {
+                    let mut buffer = random.bytes(3 * k + 10);
+                    compare(&mut tally, &sample.order.record(), &sample.plan(edition).record(), &mut buffer);
+                }
+                if apart {
+                    most = most.max(windows_of_a_stretch(&sample));
+                }
+            }
+        }
+    }
+    println!("  a stretch has moves in up to {most} windows");
+    assert!(most >= 10, "no stretch has moves in more than {most} windows");
+    tally.close(96);
+}
+
+/// In how many windows of 4,096 steps some 128th part of a plan has moves, where no rack meets another: a rack's step
+/// is then the number of its moves.
+fn windows_of_a_stretch(sample: &plans::Sample) -> usize {
+    let mut steps = [0; 65];
+    let mut windows = |part: &[Drive]| {
+        let window = |&(_, rack): &Drive| {
+            steps[usize::from(rack)] += 1;
+            (steps[usize::from(rack)] - 1) / 4_096
+        };
+        part.iter().map(window).collect::<HashSet<usize>>().len()
+    };
+    sample.drives().chunks(sample.moves.len() / 128 + 1).map(|part| windows(part)).max().unwrap_or(0)
+}
+
 #[test]
 fn the_limit_of_the_longest_plan() {
     let most = (1 << 22) - 1;
@@ -137,6 +203,13 @@ fn the_limit_of_the_longest_plan() {
     for edition in EDITIONS {
         let plan = sample.plan(edition).record();
         assert_eq!(compare(&mut tally, &sample.order.record(), &plan, &mut buffer), 44);
+    }
+    tally.close(2);
+    let mut tally = Tally::new("timetable_make, 4194303 moves");
+    buffer.push(0xAA);
+    for edition in EDITIONS {
+        let plan = sample.plan(edition).record();
+        assert_eq!(compare(&mut tally, &sample.order.record(), &plan, &mut buffer) >> 8, most as u64);
     }
     tally.close(2);
 }

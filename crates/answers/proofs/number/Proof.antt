@@ -4,11 +4,8 @@ use borrow.Author.Needs.{needs}
 use Rattle.answers.proofs.number.Statement.{statement}
 use Rattle.answers.proofs.number.Tie as tie
 
-case-number-requires : tie.Need-case-number-requires
-case-number-requires c κs = search needs
-
 returns : tie.Need-returns
 returns c = number-is _ _ (c .case-number .ensures)
 
 pub number-spec : {M : Type 1} → statement M
-number-spec = tie.close (tie.spec case-number-requires returns)
+number-spec = tie.close (tie.spec (λ c κs. search needs) returns)

@@ -47,12 +47,6 @@ module _ (c : tie.After-make-move) where
   table : Table (start .args .circle .positions) (row (c .make-move .result .racks))
   table = table-went (start .pre .0 .inside) (step .trip .went) (start .pre .1 .1 .0 .table)
 
-array-read-x : tie.Need-array-read-x
-array-read-x c = search needs
-
-cast-x : tie.Need-cast-x
-cast-x c = search needs
-
 part-requires : tie.Need-part-requires
 part-requires c κs = let p = c .before .before .before .pre in circle-places (p .0) (p .1 .0)
 
@@ -109,9 +103,6 @@ make-move-requires-2 c κs =
       fits-then (fits-then (p .1 .1 .1 .1) (step moved)) (brought-few (ring-few (p .0) (p .1 .0) _ ring) (b .0)),
     )
 
-same-length : tie.Need-same-length
-same-length c = search needs
-
 returns : tie.Need-returns
 returns c =
     let aside = c .before .before in
@@ -132,12 +123,5 @@ pub bring-aside-spec : {M : Type 1} → statement M
 bring-aside-spec =
     tie.close
     (tie.spec
-    array-read-x
-    cast-x
-    part-requires
-    make-move-requires
-    where-is-requires
-    bring-requires
-    make-move-requires-2
-    same-length
-    returns)
+    (λ c. search needs) (λ c. search needs) part-requires make-move-requires where-is-requires bring-requires make-move-requires-2
+    (λ c. search needs) returns)

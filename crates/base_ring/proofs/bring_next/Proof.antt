@@ -34,27 +34,6 @@ held c = c .before .before .before
 abbrev cleared : tie.After-without2 → tie.After-clear-within
 cleared c = c .before .before .before
 
-array-read-x : tie.Need-array-read-x
-array-read-x c = search needs
-
-cast-x : tie.Need-cast-x
-cast-x c = search needs
-
-array-read-next : tie.Need-array-read-next
-array-read-next c = search needs
-
-cast-next : tie.Need-cast-next
-cast-next c = search needs
-
-sub-last : tie.Need-sub-last
-sub-last c = search needs
-
-array-read-last : tie.Need-array-read-last
-array-read-last c = search needs
-
-cast-last : tie.Need-cast-last
-cast-last c = search needs
-
 part-requires : tie.Need-part-requires
 part-requires c κs = let p = c .before .before .before .pre in circle-places (p .0) (p .1 .0)
 
@@ -163,9 +142,6 @@ clear-within-requires-2 c κs =
       ),
     )
 
-same-length : tie.Need-same-length
-same-length c = search needs
-
 returns : tie.Need-returns
 returns c =
     let last = c .before .before in
@@ -196,19 +172,6 @@ pub bring-next-spec : {M : Type 1} → statement M
 bring-next-spec =
     tie.close
     (tie.spec
-    array-read-x
-    cast-x
-    array-read-next
-    cast-next
-    sub-last
-    array-read-last
-    cast-last
-    part-requires
-    where-is-requires
-    bring-requires
-    without-requires
-    clear-within-requires
-    without-requires-2
-    clear-within-requires-2
-    same-length
-    returns)
+    (λ c. search needs) (λ c. search needs) (λ c. search needs) (λ c. search needs) (λ c. search needs) (λ c. search needs)
+    (λ c. search needs) part-requires where-is-requires bring-requires without-requires clear-within-requires without-requires-2
+    clear-within-requires-2 (λ c. search needs) returns)

@@ -49,27 +49,6 @@ module _ (c : tie.After-bring-aside) where
       let less = start .pre .1 .0 .less in
       exchange-fits size d (omega arith) few (start .pre .1 .1 .1 .1)
 
-array-read-x : tie.Need-array-read-x
-array-read-x c = search needs
-
-cast-x : tie.Need-cast-x
-cast-x c = search needs
-
-array-read-next : tie.Need-array-read-next
-array-read-next c = search needs
-
-cast-next : tie.Need-cast-next
-cast-next c = search needs
-
-sub-last : tie.Need-sub-last
-sub-last c = search needs
-
-array-read-last : tie.Need-array-read-last
-array-read-last c = search needs
-
-cast-last : tie.Need-cast-last
-cast-last c = search needs
-
 bring-aside-requires : tie.Need-bring-aside-requires
 bring-aside-requires c κs =
     let at = c .before .before in
@@ -132,9 +111,6 @@ undo-requires c κs =
       ((s .args .rows .now, made third .past, _, made third .undoing), exchange-space size (made third) (s .pre .1 .1 .1 .1)),
     )
 
-same-length : tie.Need-same-length
-same-length c = search needs
-
 returns : tie.Need-returns
 returns c =
     let back = c .before .before in
@@ -147,16 +123,5 @@ pub exchange-spec : {M : Type 1} → statement M
 exchange-spec =
     tie.close
     (tie.spec
-    array-read-x
-    cast-x
-    array-read-next
-    cast-next
-    sub-last
-    array-read-last
-    cast-last
-    bring-aside-requires
-    bring-next-requires
-    swap-requires
-    undo-requires
-    same-length
-    returns)
+    (λ c. search needs) (λ c. search needs) (λ c. search needs) (λ c. search needs) (λ c. search needs) (λ c. search needs)
+    (λ c. search needs) bring-aside-requires bring-next-requires swap-requires undo-requires (λ c. search needs) returns)

@@ -23,18 +23,6 @@ parted c = c .before .before .before
 abbrev cleared : tie.After-without → tie.After-clear-within
 cleared c = c .before .before .before
 
-array-read-x : tie.Need-array-read-x
-array-read-x c = search needs
-
-cast-x : tie.Need-cast-x
-cast-x c = search needs
-
-array-read-next : tie.Need-array-read-next
-array-read-next c = search needs
-
-cast-next : tie.Need-cast-next
-cast-next c = search needs
-
 part-requires : tie.Need-part-requires
 part-requires c κs = let p = c .before .before .before .pre in circle-places (p .0) (p .1 .0)
 
@@ -93,9 +81,6 @@ clear-within-requires-2 c κs =
       ),
     )
 
-same-length : tie.Need-same-length
-same-length c = search needs
-
 returns : tie.Need-returns
 returns c =
     let last = c .before .before in
@@ -122,13 +107,5 @@ pub open-ring-spec : {M : Type 1} → statement M
 open-ring-spec =
     tie.close
     (tie.spec
-    array-read-x
-    cast-x
-    array-read-next
-    cast-next
-    part-requires
-    clear-within-requires
-    without-requires
-    clear-within-requires-2
-    same-length
-    returns)
+    (λ c. search needs) (λ c. search needs) (λ c. search needs) (λ c. search needs) part-requires clear-within-requires without-requires
+    clear-within-requires-2 (λ c. search needs) returns)

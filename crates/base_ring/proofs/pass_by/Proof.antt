@@ -10,9 +10,6 @@ use Rattle.base_ring.proofs.pass_by.Tie as tie
 abbrev entry : tie.After-make-move → tie.Start
 entry c = let known = c .before .before .before in known .before
 
-make-move-requires : tie.Need-make-move-requires
-make-move-requires c κs = search needs
-
 make-move-requires-2 : tie.Need-make-move-requires-2
 make-move-requires-2 c κs =
     let known = c .before .before in
@@ -29,9 +26,6 @@ make-move-requires-2 c κs =
       fits-move (args .from) (args .x) 1 (p .leaves) (entry there .pre .1) (m .0),
     )
 
-same-length : tie.Need-same-length
-same-length c = search needs
-
 returns : tie.Need-returns
 returns c =
     let on = c .before .before in
@@ -42,4 +36,4 @@ returns c =
     (λ g e. journey-append (m .0 g (e .there)) (o .0 g (e .on)), passed-by (entry there .pre .0) (m .1 .0) (o .1 .0))
 
 pub pass-by-spec : {M : Type 1} → statement M
-pass-by-spec = tie.close (tie.spec make-move-requires make-move-requires-2 same-length returns)
+pass-by-spec = tie.close (tie.spec (λ c κs. search needs) make-move-requires-2 (λ c. search needs) returns)

@@ -23,9 +23,6 @@ Inv-loop order size x z circle₀ j₀ circle j = (j ≤ size) × (circle ≡ La
 abbrev μ-loop : tie.MeasureT-loop
 μ-loop order size x z circle₀ j₀ circle j = size - j
 
-place-of-requires : tie.Need-place-of-requires Inv-loop μ-loop
-place-of-requires c κs = c .pre
-
 loop-holds : tie.Need-loop-holds Inv-loop μ-loop
 loop-holds c = let a = c .before .args in (omega arith, laid-none (row (a .order .now)) (a .size) (c .place-of .result))
 
@@ -90,15 +87,5 @@ pub ring-from-spec : {M : Type 1} → statement M
 ring-from-spec =
     tie.close
     (tie.spec
-    Inv-loop
-    μ-loop
-    place-of-requires
-    loop-holds
-    add-circle
-    rem-circle
-    element-copy-out-circle
-    array-write-circle
-    add-j
-    loop-less
-    loop-again
+    Inv-loop μ-loop (λ c κs. c .pre) loop-holds add-circle rem-circle element-copy-out-circle array-write-circle add-j loop-less loop-again
     returns)

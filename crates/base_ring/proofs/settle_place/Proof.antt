@@ -12,12 +12,6 @@ use Rattle.base_ring.proofs.settle_place.Tie as tie
 abbrev entry : tie.After-b → tie.Start
 entry c = let known = c .before .before .before in known .before
 
-array-read-p : tie.Need-array-read-p
-array-read-p c = search needs
-
-cast-p : tie.Need-cast-p
-cast-p c = search needs
-
 element-copy-out-a : tie.Need-element-copy-out-a
 element-copy-out-a c =
     let s = c .before .before in
@@ -49,9 +43,6 @@ exchange-requires c κs =
     let held = place-held circle state (i .0) (i .1) in
     (p .0, (circle, (state .opened, (record { differ = other .if1 .left; first = goal; second = held }, p .1 .1 .1 .1))))
 
-same-length : tie.Need-same-length
-same-length c = search needs
-
 returns-2 : tie.Need-returns-2
 returns-2 c =
     let made = c .before .before in
@@ -67,11 +58,4 @@ pub settle-place-spec : {M : Type 1} → statement M
 settle-place-spec =
     tie.close
     (tie.spec
-    array-read-p
-    cast-p
-    element-copy-out-a
-    element-copy-out-b
-    returns
-    exchange-requires
-    same-length
-    returns-2)
+    (λ c. search needs) (λ c. search needs) element-copy-out-a element-copy-out-b returns exchange-requires (λ c. search needs) returns-2)

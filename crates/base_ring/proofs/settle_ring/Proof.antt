@@ -84,15 +84,4 @@ returns c =
 
 pub settle-ring-spec : {M : Type 1} → statement M
 settle-ring-spec =
-    tie.close
-    (tie.spec
-    Inv-loop
-    μ-loop
-    open-ring-requires
-    loop-holds
-    settle-place-requires
-    add-i
-    loop-less
-    loop-again
-    same-length
-    returns)
+    tie.close (tie.spec Inv-loop μ-loop open-ring-requires loop-holds settle-place-requires add-i loop-less loop-again same-length returns)

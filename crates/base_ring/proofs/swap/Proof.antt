@@ -39,9 +39,6 @@ pass-by-requires-3 c κs =
       fits-by 2 (swap-second s (m .1)) (fits-by 4 (swap-first s) (entry one .pre .1) (m .0)) (n .0),
     )
 
-same-length : tie.Need-same-length
-same-length c = search needs
-
 returns : tie.Need-returns
 returns c =
     let three = c .before .before in
@@ -62,4 +59,4 @@ returns c =
     )
 
 pub swap-spec : {M : Type 1} → statement M
-swap-spec = tie.close (tie.spec pass-by-requires pass-by-requires-2 pass-by-requires-3 same-length returns)
+swap-spec = tie.close (tie.spec pass-by-requires pass-by-requires-2 pass-by-requires-3 (λ c. search needs) returns)

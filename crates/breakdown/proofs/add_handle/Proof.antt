@@ -21,9 +21,6 @@ array-read-m c =
     let entry = after-order .before in
     let f = building-few (entry .pre .1 .1 .1) in omega arith
 
-cast-m : tie.Need-cast-m
-cast-m c = search needs
-
 way-round-requires : tie.Need-way-round-requires
 way-round-requires c κs =
     let after-start = c .before .before .before in
@@ -105,18 +102,5 @@ pub add-handle-spec : {M : Type 1} → statement M
 add-handle-spec =
     tie.close
     (tie.spec
-    array-read-m
-    cast-m
-    way-round-requires
-    sub-inner
-    extend-requires
-    add-start
-    cast-start
-    add-start-2
-    array-write-start
-    cast-left
-    array-write-left
-    array-read-right
-    array-write-right
-    add-t24
-    returns)
+    array-read-m (λ c. search needs) way-round-requires sub-inner extend-requires add-start cast-start add-start-2 array-write-start
+    cast-left array-write-left array-read-right array-write-right add-t24 returns)

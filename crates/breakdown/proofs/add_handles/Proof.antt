@@ -85,15 +85,5 @@ pub add-handles-spec : {M : Type 1} → statement M
 add-handles-spec =
     tie.close
     (tie.spec
-    Inv-loop
-    μ-loop
-    loop-holds
-    array-read-if1
-    cast-if1
-    returns
-    choose-handle-requires
-    nothing-requires
-    returns-2
-    add-handle-requires
-    loop-less
-    loop-again)
+    Inv-loop μ-loop loop-holds array-read-if1 cast-if1 returns choose-handle-requires nothing-requires returns-2 add-handle-requires
+    loop-less loop-again)

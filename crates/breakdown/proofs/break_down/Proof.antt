@@ -10,12 +10,6 @@ use Rattle.breakdown.proofs.ExistLaws.{ring-exists}
 use Rattle.breakdown.proofs.break_down.Statement.{statement}
 use Rattle.breakdown.proofs.break_down.Tie as tie
 
-choose-ring-requires : tie.Need-choose-ring-requires
-choose-ring-requires c κs = search needs
-
-nothing-requires : tie.Need-nothing-requires
-nothing-requires c κs = search needs
-
 returns : tie.Need-returns
 returns c =
     let after-choose-ring = c .before .before .before in
@@ -28,9 +22,6 @@ lay-ring-requires c κs =
     let after-choose-ring = c .before .before .before in
     let entry = after-choose-ring .before in
     (entry .pre, (omega arith, (after-choose-ring .choose-ring .ensures, refl)))
-
-nothing-requires-2 : tie.Need-nothing-requires-2
-nothing-requires-2 c κs = search needs
 
 returns-2 : tie.Need-returns-2
 returns-2 c =
@@ -45,9 +36,6 @@ returns-2 c =
           (omega arith);
     }))
 
-add-handles-requires : tie.Need-add-handles-requires
-add-handles-requires c κs = search needs
-
 returns-3 : tie.Need-returns-3
 returns-3 c =
     let after-struct-known2 = c .before .before .before in
@@ -59,11 +47,5 @@ pub break-down-spec : {M : Type 1} → statement M
 break-down-spec =
     tie.close
     (tie.spec
-    choose-ring-requires
-    nothing-requires
-    returns
-    lay-ring-requires
-    nothing-requires-2
-    returns-2
-    add-handles-requires
+    (λ c κs. search needs) (λ c κs. search needs) returns lay-ring-requires (λ c κs. search needs) returns-2 (λ c κs. search needs)
     returns-3)

@@ -19,12 +19,6 @@ loop-holds c = (omega arith, handle-none (c .args .rows .now) (c .args .settled)
 choose-handle-at-requires : tie.Need-choose-handle-at-requires Inv-loop μ-loop
 choose-handle-at-requires c κs = (c .before .before .pre, (c .loop-test .taken, c .before .loop .inv .1))
 
-add-u : tie.Need-add-u Inv-loop μ-loop
-add-u c = omega arith
-
-loop-less : tie.Need-loop-less Inv-loop μ-loop
-loop-less c = omega arith
-
 loop-again : tie.Need-loop-again Inv-loop μ-loop
 loop-again c = (omega arith, c .choose-handle-at .ensures)
 
@@ -36,4 +30,4 @@ returns c =
 pub choose-handle-spec : {M : Type 1} → statement M
 choose-handle-spec =
     tie.close
-    (tie.spec Inv-loop μ-loop loop-holds choose-handle-at-requires add-u loop-less loop-again returns)
+    (tie.spec Inv-loop μ-loop loop-holds choose-handle-at-requires (λ c. omega arith) (λ c. omega arith) loop-again returns)

@@ -22,20 +22,11 @@ Inv-loop rows n settled u best₀ rest₀ best rest =
 abbrev μ-loop : tie.MeasureT-loop
 μ-loop rows n settled u best₀ rest₀ best rest = ones rest
 
-has-requires : tie.Need-has-requires Inv-loop μ-loop
-has-requires c κs = omega arith
-
 returns : tie.Need-returns Inv-loop μ-loop
 returns c =
     let s = c .before .before in
     handle-skip (s .args .rows .now) (s .args .settled) (s .args .u) _ _ _
     (λ h. false≢true (sym (not-true _ (c .if1 .taken)) ∙ c .before .has .ensures .1 h)) (s .pre .1 .1)
-
-mul-minus : tie.Need-mul-minus Inv-loop μ-loop
-mul-minus c = omega arith
-
-element-copy-out-minus : tie.Need-element-copy-out-minus Inv-loop μ-loop
-element-copy-out-minus c = omega arith
 
 minus-requires : tie.Need-minus-requires Inv-loop μ-loop
 minus-requires c κs = tt
@@ -57,9 +48,6 @@ returns-2 c =
     let else1 = at-loop .before .before .before in
     let entry = else1 .before .before in
     handle-stop (entry .args .rows .now) (entry .args .settled) _ _ _ _ _ (c .if2 .taken) (at-loop .loop .inv .0)
-
-lowest-requires : tie.Need-lowest-requires Inv-loop μ-loop
-lowest-requires c κs = omega arith
 
 handle-size-requires : tie.Need-handle-size-requires Inv-loop μ-loop
 handle-size-requires c κs =
@@ -108,19 +96,5 @@ pub choose-handle-at-spec : {M : Type 1} → statement M
 choose-handle-at-spec =
     tie.close
     (tie.spec
-    Inv-loop
-    μ-loop
-    has-requires
-    returns
-    mul-minus
-    element-copy-out-minus
-    minus-requires
-    loop-holds
-    returns-2
-    lowest-requires
-    handle-size-requires
-    better-requires
-    without-requires
-    loop-less
-    loop-again
-    returns-3)
+    Inv-loop μ-loop (λ c κs. omega arith) returns (λ c. omega arith) (λ c. omega arith) minus-requires loop-holds returns-2
+    (λ c κs. omega arith) handle-size-requires better-requires without-requires loop-less loop-again returns-3)

@@ -19,12 +19,6 @@ loop-holds c = (omega arith, ring-none (c .args .rows .now) _ _)
 choose-ring-at-requires : tie.Need-choose-ring-at-requires Inv-loop μ-loop
 choose-ring-at-requires c κs = (c .before .before .pre, (c .loop-test .taken, c .before .loop .inv .1))
 
-add-a : tie.Need-add-a Inv-loop μ-loop
-add-a c = omega arith
-
-loop-less : tie.Need-loop-less Inv-loop μ-loop
-loop-less c = omega arith
-
 loop-again : tie.Need-loop-again Inv-loop μ-loop
 loop-again c = (omega arith, c .choose-ring-at .ensures)
 
@@ -34,4 +28,4 @@ returns c = ring-done (c .before .before .args .rows .now) (c .before .before .p
 pub choose-ring-spec : {M : Type 1} → statement M
 choose-ring-spec =
     tie.close
-    (tie.spec Inv-loop μ-loop loop-holds choose-ring-at-requires add-a loop-less loop-again returns)
+    (tie.spec Inv-loop μ-loop loop-holds choose-ring-at-requires (λ c. omega arith) (λ c. omega arith) loop-again returns)

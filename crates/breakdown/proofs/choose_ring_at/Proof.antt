@@ -19,17 +19,8 @@ Inv-loop rows n a best₀ rest₀ best rest =
 abbrev μ-loop : tie.MeasureT-loop
 μ-loop rows n a best₀ rest₀ best rest = ones rest
 
-mul-rest : tie.Need-mul-rest Inv-loop μ-loop
-mul-rest c = omega arith
-
-element-copy-out-rest : tie.Need-element-copy-out-rest Inv-loop μ-loop
-element-copy-out-rest c = omega arith
-
 loop-holds : tie.Need-loop-holds Inv-loop μ-loop
 loop-holds c = (ring-enter (c .before .args .rows .now) _ _ _ _ (c .before .pre .1 .1), λ y h. h)
-
-lowest-requires : tie.Need-lowest-requires Inv-loop μ-loop
-lowest-requires c κs = omega arith
 
 ring-size-requires : tie.Need-ring-size-requires Inv-loop μ-loop
 ring-size-requires c κs =
@@ -70,15 +61,5 @@ pub choose-ring-at-spec : {M : Type 1} → statement M
 choose-ring-at-spec =
     tie.close
     (tie.spec
-    Inv-loop
-    μ-loop
-    mul-rest
-    element-copy-out-rest
-    loop-holds
-    lowest-requires
-    ring-size-requires
-    better-requires
-    without-requires
-    loop-less
-    loop-again
-    returns)
+    Inv-loop μ-loop (λ c. omega arith) (λ c. omega arith) loop-holds (λ c κs. omega arith) ring-size-requires better-requires
+    without-requires loop-less loop-again returns)

@@ -69,9 +69,6 @@ add-i c =
     (at-loop .loop .inv .2 i (omega arith) (omega arith)) in
     omega arith
 
-loop-less : tie.Need-loop-less Inv-loop μ-loop
-loop-less c = omega arith
-
 loop-again : tie.Need-loop-again Inv-loop μ-loop
 loop-again c =
     let in-loop = c .before .before .before in
@@ -97,15 +94,5 @@ pub extend-spec : {M : Type 1} → statement M
 extend-spec =
     tie.close
     (tie.spec
-    Inv-loop
-    μ-loop
-    loop-holds
-    element-copy-out-p
-    add-order
-    element-write-order
-    cast-with
-    with-requires
-    add-i
-    loop-less
-    loop-again
+    Inv-loop μ-loop loop-holds element-copy-out-p add-order element-write-order cast-with with-requires add-i (λ c. omega arith) loop-again
     returns)

@@ -49,9 +49,6 @@ add-start c = let m = settled-most (c .extend2 .ensures .settled) in omega arith
 cast-start : tie.Need-cast-start
 cast-start c = let m = settled-most (c .extend2 .ensures .settled) in omega arith
 
-array-write-start : tie.Need-array-write-start
-array-write-start c = search needs
-
 add-t20 : tie.Need-add-t20
 add-t20 c = let m = settled-most (c .extend2 .ensures .settled) in omega arith
 
@@ -71,12 +68,4 @@ pub lay-ring-spec : {M : Type 1} → statement M
 lay-ring-spec =
     tie.close
     (tie.spec
-    ring-way-requires
-    extend-requires
-    cast-last
-    extend-requires-2
-    add-start
-    cast-start
-    array-write-start
-    add-t20
-    returns)
+    ring-way-requires extend-requires cast-last extend-requires-2 add-start cast-start (λ c. search needs) add-t20 returns)

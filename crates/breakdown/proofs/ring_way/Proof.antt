@@ -7,18 +7,6 @@ use Rattle.breakdown.specs.Choice.{Beside}
 use Rattle.breakdown.proofs.ring_way.Statement.{statement}
 use Rattle.breakdown.proofs.ring_way.Tie as tie
 
-mul-without : tie.Need-mul-without
-mul-without c = search needs
-
-element-copy-out-without : tie.Need-element-copy-out-without
-element-copy-out-without c = search needs
-
-without-requires : tie.Need-without-requires
-without-requires c κs = search needs
-
-way-round-requires : tie.Need-way-round-requires
-way-round-requires c κs = search needs
-
 returns : tie.Need-returns
 returns c =
     let a = c .before .before .before .args in
@@ -27,4 +15,4 @@ returns c =
     (λ p e. w p .1 (e .edge, e .other)) (c .way-round .ensures)
 
 pub ring-way-spec : {M : Type 1} → statement M
-ring-way-spec = tie.close (tie.spec mul-without element-copy-out-without without-requires way-round-requires returns)
+ring-way-spec = tie.close (tie.spec (λ c. search needs) (λ c. search needs) (λ c κs. search needs) (λ c κs. search needs) returns)

@@ -5,15 +5,6 @@ use Rattle.graph.proofs.NearestLaws.{nearest-same}
 use Rattle.breakdown.proofs.way_round.Statement.{statement}
 use Rattle.breakdown.proofs.way_round.Tie as tie
 
-below-requires : tie.Need-below-requires
-below-requires c κs = search needs
-
-without-requires : tie.Need-without-requires
-without-requires c κs = search needs
-
-search-requires : tie.Need-search-requires
-search-requires c κs = search needs
-
 returns : tie.Need-returns
 returns c =
     let b = c .before .before .below .ensures in
@@ -22,4 +13,4 @@ returns c =
     (λ p e. w p .1 (b p .1 (e .there), e .other)) (c .search .ensures)
 
 pub way-round-spec : {M : Type 1} → statement M
-way-round-spec = tie.close (tie.spec below-requires without-requires search-requires returns)
+way-round-spec = tie.close (tie.spec (λ c κs. search needs) (λ c κs. search needs) (λ c κs. search needs) returns)

@@ -51,9 +51,6 @@ next-is-aimed c =
     (let w = l .inv .2 in let u = up (e .args .n) (l .lap) (l .inv .0) in omega arith)
     (next-aim e (l .lap) (l .inv .0) (c .loop-test .taken))
 
-element-copy-out-to : tie.Need-element-copy-out-to Inv-loop μ-loop
-element-copy-out-to c = omega arith
-
 cast-to : tie.Need-cast-to Inv-loop μ-loop
 cast-to c = let e = c .before in omega (arith, e .pre .0, e .pre .1 .1 .0)
 
@@ -82,12 +79,6 @@ cost-requires-2 c κs =
     let e = at-loop .before .before .before in
     (e .pre .0, (next-is-aimed c .there, e .pre .1 .1 .1))
 
-add-lap : tie.Need-add-lap Inv-loop μ-loop
-add-lap c = omega arith
-
-loop-less : tie.Need-loop-less Inv-loop μ-loop
-loop-less c = omega arith
-
 loop-again : tie.Need-loop-again Inv-loop μ-loop
 loop-again c =
     let in-loop = c .before .before in
@@ -109,15 +100,5 @@ pub aim-spec : {M : Type 1} → statement M
 aim-spec =
     tie.close
     (tie.spec
-    Inv-loop
-    μ-loop
-    element-copy-out-to
-    cast-to
-    cost-requires
-    loop-holds
-    add-to
-    cost-requires-2
-    add-lap
-    loop-less
-    loop-again
-    returns)
+    Inv-loop μ-loop (λ c. omega arith) cast-to cost-requires loop-holds add-to cost-requires-2 (λ c. omega arith) (λ c. omega arith)
+    loop-again returns)

@@ -28,9 +28,6 @@ reach-requires-2 c κs =
     let e = at-loop .before in
     (e .pre .0, (e .pre .1 .0 .second, (rack-of (at-loop .loop .inv .0) (in-loop .loop-test .taken), e .pre .1 .1 .1)))
 
-sub-sum : tie.Need-sub-sum Inv-loop μ-loop
-sub-sum c = omega arith
-
 add-sum : tie.Need-add-sum Inv-loop μ-loop
 add-sum c =
     let second = c .before in
@@ -46,9 +43,6 @@ add-sum-2 c =
 
 add-r : tie.Need-add-r Inv-loop μ-loop
 add-r c = let e = c .before .before .before .before .before in omega (arith, e .pre .0)
-
-loop-less : tie.Need-loop-less Inv-loop μ-loop
-loop-less c = omega arith
 
 loop-again : tie.Need-loop-again Inv-loop μ-loop
 loop-again c =
@@ -66,15 +60,5 @@ pub cost-spec : {M : Type 1} → statement M
 cost-spec =
     tie.close
     (tie.spec
-    Inv-loop
-    μ-loop
-    loop-holds
-    reach-requires
-    reach-requires-2
-    sub-sum
-    add-sum
-    add-sum-2
-    add-r
-    loop-less
-    loop-again
+    Inv-loop μ-loop loop-holds reach-requires reach-requires-2 (λ c. omega arith) add-sum add-sum-2 add-r (λ c. omega arith) loop-again
     returns)

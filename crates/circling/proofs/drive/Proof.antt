@@ -91,9 +91,6 @@ element-copy-out-a c = let at-loop = c .before .before .before .before in let fe
 cast-a : tie.Need-cast-a Inv-loop μ-loop
 cast-a c = let w = driving-movable (state (c .before)) (circled (c .before)) _ (omega arith) (ready (c .before)) .leaves in omega arith
 
-next-requires : tie.Need-next-requires Inv-loop μ-loop
-next-requires c κs = omega arith
-
 element-copy-out-b : tie.Need-element-copy-out-b Inv-loop μ-loop
 element-copy-out-b c =
     let turn = c .before .before in
@@ -155,24 +152,5 @@ pub drive-spec : {M : Type 1} → statement M
 drive-spec =
     tie.close
     (tie.spec
-    Inv-loop
-    μ-loop
-    loop-holds
-    find-requires
-    same-length
-    returns
-    element-copy-out-a
-    cast-a
-    next-requires
-    element-copy-out-b
-    cast-b
-    element-copy-out-rack
-    cast-rack
-    mul-need
-    array-read-need
-    sub-need
-    mul-need-2
-    array-write-need
-    move-rack-requires
-    loop-less
-    loop-again)
+    Inv-loop μ-loop loop-holds find-requires same-length returns element-copy-out-a cast-a (λ c κs. omega arith) element-copy-out-b cast-b
+    element-copy-out-rack cast-rack mul-need array-read-need sub-need mul-need-2 array-write-need move-rack-requires loop-less loop-again)

@@ -29,9 +29,6 @@ cast-a : tie.Need-cast-a Inv-loop μ-loop
 cast-a c = let at-loop = c .before .before in let e = at-loop .before in
     omega (arith, e .pre .0, e .pre .1 .0 (at-loop .loop .i) (omega arith))
 
-next-requires : tie.Need-next-requires Inv-loop μ-loop
-next-requires c κs = omega arith
-
 element-copy-out-b : tie.Need-element-copy-out-b Inv-loop μ-loop
 element-copy-out-b c =
     let at-loop = c .before .before .before in
@@ -91,12 +88,6 @@ returns c =
       none = λ e. absurd (omega arith);
     }
 
-add-i : tie.Need-add-i Inv-loop μ-loop
-add-i c = omega arith
-
-loop-less : tie.Need-loop-less Inv-loop μ-loop
-loop-less c = omega arith
-
 loop-again : tie.Need-loop-again Inv-loop μ-loop
 loop-again c =
     let after-next = c .before .before .before .before in
@@ -119,21 +110,5 @@ pub find-spec : {M : Type 1} → statement M
 find-spec =
     tie.close
     (tie.spec
-    Inv-loop
-    μ-loop
-    loop-holds
-    element-copy-out-a
-    cast-a
-    next-requires
-    element-copy-out-b
-    cast-b
-    element-copy-out-rack
-    cast-rack
-    element-copy-out-if1
-    mul-if2
-    element-copy-out-if2
-    returns
-    add-i
-    loop-less
-    loop-again
-    returns-2)
+    Inv-loop μ-loop loop-holds element-copy-out-a cast-a (λ c κs. omega arith) element-copy-out-b cast-b element-copy-out-rack cast-rack
+    element-copy-out-if1 mul-if2 element-copy-out-if2 returns (λ c. omega arith) (λ c. omega arith) loop-again returns-2)

@@ -34,9 +34,6 @@ reach-requires-2 c κs =
     let e = at-loop .before in
     (e .pre .0, (e .pre .1 .0 .second, (rack-of (at-loop .loop .inv .some) (in-loop .loop-test .taken), e .pre .1 .1 .1)))
 
-sub-need : tie.Need-sub-need Inv-loop μ-loop
-sub-need c = omega arith
-
 cast-need : tie.Need-cast-need Inv-loop μ-loop
 cast-need c =
     let second = c .before in
@@ -52,9 +49,6 @@ array-write-need c = let at-loop = c .before .before .before .before in omega (a
 add-r : tie.Need-add-r Inv-loop μ-loop
 add-r c = let e = c .before .before .before .before .before in omega (arith, e .pre .0)
 
-loop-less : tie.Need-loop-less Inv-loop μ-loop
-loop-less c = omega arith
-
 loop-again : tie.Need-loop-again Inv-loop μ-loop
 loop-again c =
     let second = c .before in
@@ -63,8 +57,10 @@ loop-again c =
     let at-loop = in-loop .before in
     let e = at-loop .before in
     let l = at-loop .loop in
+    let lap = second .reach2 .ensures in
     let near : reach (e .args .n) (e .args .to) (row (e .args .g .now)) (l .r)
-    ≤ reach (e .args .n) (e .args .from) (row (e .args .p .now)) (l .r) + 4 * e .args .n = omega (arith, e .pre .1 .0 .near, second .reach2 .ensures .is, second .reach2 .ensures .lap) in
+    ≤ reach (e .args .n) (e .args .from) (row (e .args .p .now)) (l .r) + 4 * e .args .n =
+    omega (arith, e .pre .1 .0 .near, lap .is, lap .lap) in
     ⊎-elim
     (λ w.
     let is : c .if1 .need
@@ -87,16 +83,5 @@ pub needs-spec : {M : Type 1} → statement M
 needs-spec =
     tie.close
     (tie.spec
-    Inv-loop
-    μ-loop
-    loop-holds
-    reach-requires
-    reach-requires-2
-    sub-need
-    cast-need
-    mul-need
-    array-write-need
-    add-r
-    loop-less
-    loop-again
-    returns)
+    Inv-loop μ-loop loop-holds reach-requires reach-requires-2 (λ c. omega arith) cast-need mul-need array-write-need add-r
+    (λ c. omega arith) loop-again returns)

@@ -17,12 +17,6 @@ Inv-loop circle n back₀ j₀ back j = (0 < j) × (length back ≡ 64) × Mirro
 abbrev μ-loop : tie.MeasureT-loop
 μ-loop circle n back₀ j₀ back j = n - j
 
-element-copy-out-back : tie.Need-element-copy-out-back Inv-loop μ-loop
-element-copy-out-back c = omega arith
-
-array-write-back : tie.Need-array-write-back Inv-loop μ-loop
-array-write-back c = omega arith
-
 loop-holds : tie.Need-loop-holds Inv-loop μ-loop
 loop-holds c = let a = c .before .args .circle .now in (
   omega arith,
@@ -31,20 +25,11 @@ loop-holds c = let a = c .before .args .circle .now in (
       (row a 0))) refl,
 )
 
-sub-back : tie.Need-sub-back Inv-loop μ-loop
-sub-back c = omega arith
-
 element-copy-out-back-2 : tie.Need-element-copy-out-back-2 Inv-loop μ-loop
 element-copy-out-back-2 c = let l = c .before .before .before .pre in omega arith
 
 array-write-back-2 : tie.Need-array-write-back-2 Inv-loop μ-loop
 array-write-back-2 c = let l = c .before .before .before .before .pre in omega arith
-
-add-j : tie.Need-add-j Inv-loop μ-loop
-add-j c = omega arith
-
-loop-less : tie.Need-loop-less Inv-loop μ-loop
-loop-less c = omega arith
 
 loop-again : tie.Need-loop-again Inv-loop μ-loop
 loop-again c =
@@ -64,15 +49,5 @@ pub reversed-spec : {M : Type 1} → statement M
 reversed-spec =
     tie.close
     (tie.spec
-    Inv-loop
-    μ-loop
-    element-copy-out-back
-    array-write-back
-    loop-holds
-    sub-back
-    element-copy-out-back-2
-    array-write-back-2
-    add-j
-    loop-less
-    loop-again
-    returns)
+    Inv-loop μ-loop (λ c. omega arith) (λ c. omega arith) loop-holds (λ c. omega arith) element-copy-out-back-2 array-write-back-2
+    (λ c. omega arith) (λ c. omega arith) loop-again returns)

@@ -145,15 +145,6 @@ places-requires-2 c κs = let e = c .before .before .before .before in
     standing-of (e .pre .1 .1 .1 .1 .0) (omega (arith, e .pre .0)) (e .pre .0 .1) (omega (arith, e .pre .0, e .pre .1 .1 .0))
     (e .pre .1 .0 .1 .inside)
 
-array-read-from : tie.Need-array-read-from
-array-read-from c = search needs
-
-cast-from : tie.Need-cast-from
-cast-from c = search needs
-
-mul-from : tie.Need-mul-from
-mul-from c = search needs
-
 add-from : tie.Need-add-from
 add-from c = omega (arith, entry c .pre .0, c .before .places .ensures .1 1)
 
@@ -210,9 +201,6 @@ drive-requires-2 c κs =
       ),
     )
 
-same-length : tie.Need-same-length
-same-length c = search needs
-
 returns : tie.Need-returns
 returns c =
     let w = c .before .before in
@@ -236,17 +224,5 @@ pub solve-spec : {M : Type 1} → statement M
 solve-spec =
     tie.close
     (tie.spec
-    places-requires
-    places-requires-2
-    array-read-from
-    cast-from
-    mul-from
-    add-from
-    aim-requires
-    needs-requires
-    needs-requires-2
-    drive-requires
-    reversed-requires
-    drive-requires-2
-    same-length
-    returns)
+    places-requires places-requires-2 (λ c. search needs) (λ c. search needs) (λ c. search needs) add-from aim-requires needs-requires
+    needs-requires-2 drive-requires reversed-requires drive-requires-2 (λ c. search needs) returns)

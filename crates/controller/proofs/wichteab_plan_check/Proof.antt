@@ -33,12 +33,4 @@ returns-2 c =
 
 pub wichteab-plan-check-spec : {M : Type 1} → statement M
 wichteab-plan-check-spec =
-    tie.close
-    (tie.spec
-    (λ c κs. search needs)
-    (λ c. search needs)
-    mul-result
-    (λ c. search needs)
-    (λ c κs. search needs)
-    returns
-    returns-2)
+    tie.close (tie.spec (λ c κs. search needs) (λ c. search needs) mul-result (λ c. search needs) (λ c κs. search needs) returns returns-2)

@@ -12,12 +12,6 @@ use borrow.Author.Needs.{needs}
 use Rattle.controller.proofs.wichteab_plan_convert.Statement.{statement}
 use Rattle.controller.proofs.wichteab_plan_convert.Tie as tie
 
-convert-requires : tie.Need-convert-requires
-convert-requires c κs = search needs
-
-enum-known-moves : tie.Need-enum-known-moves
-enum-known-moves c = search needs
-
 mul-result : tie.Need-mul-result
 mul-result c =
     let match = c .before .before in let call = match .before .before .before in
@@ -28,24 +22,12 @@ mul-result c =
           (ap answerOf (sym (c .before .moves .given .1)) ∙ call .convert .ensures .0),
     )
 
-enum-known-fault : tie.Need-enum-known-fault
-enum-known-fault c = search needs
-
-refusal-requires : tie.Need-refusal-requires
-refusal-requires c κs = search needs
-
-same-length : tie.Need-same-length
-same-length c = search needs
-
 returns : tie.Need-returns
 returns c =
     let match = c .before .before in let call = match .before .before .before in
     let done = call .convert .ensures in
     let told = ap answerOf (sym (c .before .moves .given .1)) ∙ done .0 in
     (tells plan-moves-pack (converter-sized _ _ _) (ap (packed oneCount) told), done .1)
-
-same-length-2 : tie.Need-same-length-2
-same-length-2 c = search needs
 
 returns-2 : tie.Need-returns-2
 returns-2 c =
@@ -60,12 +42,5 @@ pub wichteab-plan-convert-spec : {M : Type 1} → statement M
 wichteab-plan-convert-spec =
     tie.close
     (tie.spec
-    convert-requires
-    enum-known-moves
-    mul-result
-    enum-known-fault
-    refusal-requires
-    same-length
-    returns
-    same-length-2
-    returns-2)
+    (λ c κs. search needs) (λ c. search needs) mul-result (λ c. search needs) (λ c κs. search needs) (λ c. search needs) returns
+    (λ c. search needs) returns-2)

@@ -12,12 +12,6 @@ use borrow.Author.Needs.{needs}
 use Rattle.controller.proofs.wichteab_plan_shorten.Statement.{statement}
 use Rattle.controller.proofs.wichteab_plan_shorten.Tie as tie
 
-shorten-requires : tie.Need-shorten-requires
-shorten-requires c κs = search needs
-
-enum-known-moves : tie.Need-enum-known-moves
-enum-known-moves c = search needs
-
 mul-result : tie.Need-mul-result
 mul-result c =
     let match = c .before .before in let call = match .before .before .before in
@@ -28,24 +22,12 @@ mul-result c =
           (ap answerOf (sym (c .before .moves .given .1)) ∙ call .shorten .ensures .0),
     )
 
-enum-known-fault : tie.Need-enum-known-fault
-enum-known-fault c = search needs
-
-refusal-requires : tie.Need-refusal-requires
-refusal-requires c κs = search needs
-
-same-length : tie.Need-same-length
-same-length c = search needs
-
 returns : tie.Need-returns
 returns c =
     let match = c .before .before in let call = match .before .before .before in
     let done = call .shorten .ensures in
     let told = ap answerOf (sym (c .before .moves .given .1)) ∙ done .0 in
     (tells plan-moves-pack (shortener-sized _ _ _) (ap (packed oneCount) told), done .1)
-
-same-length-2 : tie.Need-same-length-2
-same-length-2 c = search needs
 
 returns-2 : tie.Need-returns-2
 returns-2 c =
@@ -60,12 +42,5 @@ pub wichteab-plan-shorten-spec : {M : Type 1} → statement M
 wichteab-plan-shorten-spec =
     tie.close
     (tie.spec
-    shorten-requires
-    enum-known-moves
-    mul-result
-    enum-known-fault
-    refusal-requires
-    same-length
-    returns
-    same-length-2
-    returns-2)
+    (λ c κs. search needs) (λ c. search needs) mul-result (λ c. search needs) (λ c κs. search needs) (λ c. search needs) returns
+    (λ c. search needs) returns-2)

@@ -59,12 +59,5 @@ pub wichteab-timetable-check-spec : {M : Type 1} → statement M
 wichteab-timetable-check-spec =
     tie.close
     (tie.spec
-    (λ c κs. search needs)
-    (λ c. search needs)
-    mul-result
-    add-result
-    mul-result-2
-    (λ c. search needs)
-    (λ c κs. search needs)
-    returns
+    (λ c κs. search needs) (λ c. search needs) mul-result add-result mul-result-2 (λ c. search needs) (λ c κs. search needs) returns
     returns-2)

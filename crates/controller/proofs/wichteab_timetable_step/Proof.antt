@@ -60,12 +60,5 @@ pub wichteab-timetable-step-spec : {M : Type 1} → statement M
 wichteab-timetable-step-spec =
     tie.close
     (tie.spec
-    (λ c κs. search needs)
-    (λ c. search needs)
-    mul-result
-    add-result
-    mul-result-2
-    (λ c. search needs)
-    (λ c κs. search needs)
-    returns
+    (λ c κs. search needs) (λ c. search needs) mul-result add-result mul-result-2 (λ c. search needs) (λ c κs. search needs) returns
     returns-2)

@@ -161,31 +161,7 @@ pub convert-spec : {M : Type 1} → statement M
 convert-spec =
     tie.close
     (tie.spec
-    (λ c κs. search needs)
-    (λ c. search needs)
-    (λ c. search needs)
-    (λ c κs. search needs)
-    returns
-    names-racks-requires
-    units-requires
-    (λ c. search needs)
-    (λ c. search needs)
-    (λ c. search needs)
-    returns-2
-    counts-of-requires
-    sub-place-racks
-    part-place-racks-start
-    (λ c. search needs)
-    (λ c. search needs)
-    place-racks-requires
-    sub-list-moves
-    part-list-moves-start
-    (λ c. search needs)
-    sub-list-moves-2
-    part-list-moves-start-2
-    (λ c. search needs)
-    list-moves-requires
-    (λ c κs. search needs)
-    put-head-requires
-    (λ c. search needs)
-    returns-3)
+    (λ c κs. search needs) (λ c. search needs) (λ c. search needs) (λ c κs. search needs) returns names-racks-requires units-requires
+    (λ c. search needs) (λ c. search needs) (λ c. search needs) returns-2 counts-of-requires sub-place-racks part-place-racks-start
+    (λ c. search needs) (λ c. search needs) place-racks-requires sub-list-moves part-list-moves-start (λ c. search needs) sub-list-moves-2
+    part-list-moves-start-2 (λ c. search needs) list-moves-requires (λ c κs. search needs) put-head-requires (λ c. search needs) returns-3)

@@ -84,17 +84,5 @@ pub list-moves-spec : {M : Type 1} → statement M
 list-moves-spec =
     tie.close
     (tie.spec
-    Inv-loop
-    μ-loop
-    loop-holds
-    move-at-requires
-    element-copy-out-rack
-    (λ c κs. search needs)
-    put-listed-requires
-    element-write-racks
-    element-write-racks-2
-    (λ c. omega arith)
-    (λ c. omega arith)
-    loop-again
-    same-length
-    returns)
+    Inv-loop μ-loop loop-holds move-at-requires element-copy-out-rack (λ c κs. search needs) put-listed-requires element-write-racks
+    element-write-racks-2 (λ c. omega arith) (λ c. omega arith) loop-again same-length returns)

@@ -11,18 +11,6 @@ use borrow.Author.Needs.{needs}
 use Rattle.delivery.proofs.deliver.Statement.{statement}
 use Rattle.delivery.proofs.deliver.Tie as tie
 
-make-requires : tie.Need-make-requires
-make-requires c κs = search needs
-
-enum-known-planned : tie.Need-enum-known-planned
-enum-known-planned c = search needs
-
-enum-told : tie.Need-enum-told
-enum-told c = search needs
-
-same-length : tie.Need-same-length
-same-length c = search needs
-
 returns : tie.Need-returns
 returns c =
     let plan = c .before .before .before in let make = plan .before in
@@ -58,21 +46,6 @@ slice-aggregate-make c =
     let planned = c .before .before in let plan = planned .before .before .before in let make = plan .before in
     sym (length-take-le _ _ (omega (arith, plan-ends (planned .planned .given .1) (make .make .ensures))))
 
-make-requires-2 : tie.Need-make-requires-2
-make-requires-2 c κs = search needs
-
-enum-known-made : tie.Need-enum-known-made
-enum-known-made c = search needs
-
-enum-told-2 : tie.Need-enum-told-2
-enum-told-2 c = search needs
-
-same-length-2 : tie.Need-same-length-2
-same-length-2 c = search needs
-
-same-length-3 : tie.Need-same-length-3
-same-length-3 c = search needs
-
 returns-2 : tie.Need-returns-2
 unfolding planAlone planLength recordLength
 returns-2 c =
@@ -83,23 +56,11 @@ returns-2 c =
     let maker = make2 .make2 in
     both (refused-timetable _ plan _ _ (maker .ensures .0) (maker .ensures .1) refl (c .enum-told2 .given .1))
 
-record-length-requires : tie.Need-record-length-requires
-record-length-requires c κs = search needs
-
 slice-reshare-prefix-check : tie.Need-slice-reshare-prefix-check
 slice-reshare-prefix-check c = omega (arith, timetable-ends _ (c .record-length .ensures))
 
 slice-aggregate-check : tie.Need-slice-aggregate-check
 slice-aggregate-check c = sym (length-take-le _ _ (omega (arith, timetable-ends _ (c .before .record-length .ensures))))
-
-check-requires : tie.Need-check-requires
-check-requires c κs = search needs
-
-same-length-4 : tie.Need-same-length-4
-same-length-4 c = search needs
-
-same-length-5 : tie.Need-same-length-5
-same-length-5 c = search needs
 
 returns-3 : tie.Need-returns-3
 unfolding planAlone planLength recordLength timetableAlone
@@ -119,27 +80,7 @@ pub deliver-spec : {M : Type 1} → statement M
 deliver-spec =
     tie.close
     (tie.spec
-    make-requires
-    enum-known-planned
-    enum-told
-    same-length
-    returns
-    mul-plan-end
-    mul-plan-end-2
-    add-plan-end
-    add-plan-end-2
-    slice-reshare-prefix-make
-    slice-aggregate-make
-    make-requires-2
-    enum-known-made
-    enum-told-2
-    same-length-2
-    same-length-3
-    returns-2
-    record-length-requires
-    slice-reshare-prefix-check
-    slice-aggregate-check
-    check-requires
-    same-length-4
-    same-length-5
-    returns-3)
+    (λ c κs. search needs) (λ c. search needs) (λ c. search needs) (λ c. search needs) returns mul-plan-end mul-plan-end-2 add-plan-end
+    add-plan-end-2 slice-reshare-prefix-make slice-aggregate-make (λ c κs. search needs) (λ c. search needs) (λ c. search needs)
+    (λ c. search needs) (λ c. search needs) returns-2 (λ c κs. search needs) slice-reshare-prefix-check slice-aggregate-check
+    (λ c κs. search needs) (λ c. search needs) (λ c. search needs) returns-3)

@@ -15,9 +15,6 @@ part-pad-after-start c =
     let entry = c .before in
     fitting (entry .args .s .now) (entry .args .q) (entry .pre) .head-there
 
-part-pad-after-end : tie.Need-part-pad-after-end
-part-pad-after-end c = search needs
-
 pad-after-requires : tie.Need-pad-after-requires
 pad-after-requires c κs =
     let entry = c .before .before in
@@ -31,4 +28,4 @@ returns c =
 pub pad-clear-spec : {M : Type 1} → statement M
 pad-clear-spec =
     tie.close
-    (tie.spec sub-pad-after part-pad-after-start part-pad-after-end pad-after-requires returns)
+    (tie.spec sub-pad-after part-pad-after-start (λ c. search needs) pad-after-requires returns)

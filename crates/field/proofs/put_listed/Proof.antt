@@ -42,12 +42,4 @@ returns-2 c =
 
 pub put-listed-spec : {M : Type 1} → statement M
 put-listed-spec =
-    tie.close
-    (tie.spec
-    sub-put-triple
-    put-triple-requires
-    (λ c. search needs)
-    returns
-    put-pair-requires
-    (λ c. search needs)
-    returns-2)
+    tie.close (tie.spec sub-put-triple put-triple-requires (λ c. search needs) returns put-pair-requires (λ c. search needs) returns-2)

@@ -5,15 +5,9 @@ use Rattle.field.proofs.Sextets.{head-spare}
 use Rattle.field.proofs.spare_at_head.Statement.{statement}
 use Rattle.field.proofs.spare_at_head.Tie as tie
 
-shared-slice-read-wide : tie.Need-shared-slice-read-wide
-shared-slice-read-wide c = search needs
-
-wide-requires : tie.Need-wide-requires
-wide-requires c κs = search needs
-
 returns : tie.Need-returns
 returns c =
     omega (arith, head-spare (c .before .before .before .args .s .now) (omega arith))
 
 pub spare-at-head-spec : {M : Type 1} → statement M
-spare-at-head-spec = tie.close (tie.spec shared-slice-read-wide wide-requires returns)
+spare-at-head-spec = tie.close (tie.spec (λ c. search needs) (λ c κs. search needs) returns)

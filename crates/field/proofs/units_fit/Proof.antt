@@ -10,15 +10,6 @@ use Rattle.field.proofs.units_fit.Tie as tie
 returns : tie.Need-returns
 returns c = ap not (sym (misfits-short (c .before .args .s .now) (c .before .args .q) (c .if1 .taken)))
 
-mul-if2 : tie.Need-mul-if2
-mul-if2 c = search needs
-
-add-if2 : tie.Need-add-if2
-add-if2 c = search needs
-
-add-if2-2 : tie.Need-add-if2-2
-add-if2-2 c = search needs
-
 returns-2 : tie.Need-returns-2
 returns-2 c =
     ap not (sym (misfits-not (c .before .before .args .s .now) (c .before .before .args .q) (c .if2 .taken)))
@@ -28,4 +19,4 @@ returns-3 c =
     ap not (sym (fits (c .before .before .args .s .now) (c .before .before .args .q) (omega arith) (c .if2 .left)))
 
 pub units-fit-spec : {M : Type 1} → statement M
-units-fit-spec = tie.close (tie.spec returns mul-if2 add-if2 add-if2-2 returns-2 returns-3)
+units-fit-spec = tie.close (tie.spec returns (λ c. search needs) (λ c. search needs) (λ c. search needs) returns-2 returns-3)

@@ -36,18 +36,6 @@ accepted-by k =
 read : (k : tie.After-known-told) → OrderGave (bytes k) (told k .positions) (told k .edges) (told k .racks)
 read k = gave (bytes k) (told k .positions) (told k .edges) (told k .racks) (accepted-by k)
 
-decode-requires : tie.Need-decode-requires
-decode-requires c κs = search needs
-
-enum-known-below : tie.Need-enum-known-below
-enum-known-below c = search needs
-
-enum-told : tie.Need-enum-told
-enum-told c = search needs
-
-passed-up-requires : tie.Need-passed-up-requires
-passed-up-requires c κs = search needs
-
 returns : tie.Need-returns
 returns c =
     let called = c .before .before .before in
@@ -215,20 +203,5 @@ pub judge-spec : {M : Type 1} → statement M
 judge-spec =
     tie.close
     (tie.spec
-    decode-requires
-    enum-known-below
-    enum-told
-    passed-up-requires
-    returns
-    is-ring-requires
-    returns-2
-    same-round-requires
-    returns-3
-    returns-4
-    add-if4
-    returns-5
-    is-biconnected-requires
-    returns-6
-    is-four-sided-requires
-    returns-7
-    returns-8)
+    (λ c κs. search needs) (λ c. search needs) (λ c. search needs) (λ c κs. search needs) returns is-ring-requires returns-2
+    same-round-requires returns-3 returns-4 add-if4 returns-5 is-biconnected-requires returns-6 is-four-sided-requires returns-7 returns-8)

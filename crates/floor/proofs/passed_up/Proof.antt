@@ -8,12 +8,6 @@ use borrow.Author.Needs.{needs}
 use Rattle.floor.proofs.passed_up.Statement.{statement}
 use Rattle.floor.proofs.passed_up.Tie as tie
 
-enum-known-order : tie.Need-enum-known-order
-enum-known-order c = search needs
-
-enum-known-order-2 : tie.Need-enum-known-order-2
-enum-known-order-2 c = search needs
-
 returns : tie.Need-returns
 returns c =
     let is = sym (c .before .order .given .1) in
@@ -25,4 +19,4 @@ returns-2 c =
     (ap (λ (v : OrderVerdict). passUp (answerOf v) (accepted [])) is, ap answerOf is)
 
 pub passed-up-spec : {M : Type 1} → statement M
-passed-up-spec = tie.close (tie.spec enum-known-order enum-known-order-2 returns returns-2)
+passed-up-spec = tie.close (tie.spec (λ c. search needs) (λ c. search needs) returns returns-2)

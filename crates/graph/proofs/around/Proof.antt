@@ -16,15 +16,6 @@ abbrev μ-loop : tie.MeasureT-loop
 loop-holds : tie.Need-loop-holds Inv-loop μ-loop
 loop-holds c = around-begin _ (c .pre) _
 
-lowest-requires : tie.Need-lowest-requires Inv-loop μ-loop
-lowest-requires c κs = omega arith
-
-mul-joined : tie.Need-mul-joined Inv-loop μ-loop
-mul-joined c = omega arith
-
-element-copy-out-joined : tie.Need-element-copy-out-joined Inv-loop μ-loop
-element-copy-out-joined c = omega arith
-
 without-requires : tie.Need-without-requires Inv-loop μ-loop
 without-requires c κs = c .before .lowest .ensures .0
 
@@ -45,13 +36,4 @@ pub around-spec : {M : Type 1} → statement M
 around-spec =
     tie.close
     (tie.spec
-    Inv-loop
-    μ-loop
-    loop-holds
-    lowest-requires
-    mul-joined
-    element-copy-out-joined
-    without-requires
-    loop-less
-    loop-again
-    returns)
+    Inv-loop μ-loop loop-holds (λ c κs. omega arith) (λ c. omega arith) (λ c. omega arith) without-requires loop-less loop-again returns)

@@ -33,12 +33,6 @@ returns-2 c =
     says-no (λ b. false≢true (sym (not-true _ (c .if2 .taken)) ∙ c .before .is-connected-without .ensures .1
     (b .without (c .before .before .before .loop .x) (omega arith))))
 
-add-x : tie.Need-add-x Inv-loop μ-loop
-add-x c = omega arith
-
-loop-less : tie.Need-loop-less Inv-loop μ-loop
-loop-less c = omega arith
-
 loop-again : tie.Need-loop-again Inv-loop μ-loop
 loop-again c =
     let l = c .before .before .before .loop in
@@ -53,13 +47,4 @@ pub is-biconnected-spec : {M : Type 1} → statement M
 is-biconnected-spec =
     tie.close
     (tie.spec
-    Inv-loop
-    μ-loop
-    returns
-    loop-holds
-    is-connected-without-requires
-    returns-2
-    add-x
-    loop-less
-    loop-again
-    returns-3)
+    Inv-loop μ-loop returns loop-holds is-connected-without-requires returns-2 (λ c. omega arith) (λ c. omega arith) loop-again returns-3)

@@ -45,12 +45,6 @@ returns c =
     let size = counted .size .ensures in
     says-no (λ four. let most = four (at-loop .loop .p) (omega arith) in omega arith)
 
-add-p : tie.Need-add-p Inv-loop μ-loop
-add-p c = omega arith
-
-loop-less : tie.Need-loop-less Inv-loop μ-loop
-loop-less c = omega arith
-
 loop-again : tie.Need-loop-again Inv-loop μ-loop
 loop-again c =
     let counted = c .before in
@@ -69,14 +63,5 @@ pub is-four-sided-spec : {M : Type 1} → statement M
 is-four-sided-spec =
     tie.close
     (tie.spec
-    Inv-loop
-    μ-loop
-    loop-holds
-    mul-size
-    element-copy-out-size
-    size-requires
-    returns
-    add-p
-    loop-less
-    loop-again
+    Inv-loop μ-loop loop-holds mul-size element-copy-out-size size-requires returns (λ c. omega arith) (λ c. omega arith) loop-again
     returns-2)

@@ -10,12 +10,6 @@ use Rattle.graph.proofs.is_whole.Tie as tie
 returns : tie.Need-returns
 returns c = says-yes (whole-nothing (c .before .args .rows .now) (c .before .args .set) (c .if1 .taken))
 
-lowest-requires : tie.Need-lowest-requires
-lowest-requires c κs = search needs
-
-only-requires : tie.Need-only-requires
-only-requires c κs = search needs
-
 spread-requires : tie.Need-spread-requires
 spread-requires c κs =
     let else1 = c .before .before .before in
@@ -32,4 +26,4 @@ returns-2 c =
 
 pub is-whole-spec : {M : Type 1} → statement M
 is-whole-spec =
-    tie.close (tie.spec returns lowest-requires only-requires spread-requires returns-2)
+    tie.close (tie.spec returns (λ c κs. search needs) (λ c κs. search needs) spread-requires returns-2)

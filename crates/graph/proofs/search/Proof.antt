@@ -7,9 +7,6 @@ use Rattle.graph.proofs.SearchLaws.{met-at, nearest-none, nearest-trace
 use Rattle.graph.proofs.search.Statement.{statement}
 use Rattle.graph.proofs.search.Tie as tie
 
-only-requires : tie.Need-only-requires
-only-requires c κs = search needs
-
 spread-requires : tie.Need-spread-requires
 spread-requires c κs = (c .before .before .pre .0, refl)
 
@@ -40,4 +37,4 @@ returns-2 c =
     nearest-traced (after-only .only .ensures) (after-spread .spread .ensures) _ (omega arith) (c .trace .ensures)
 
 pub search-spec : {M : Type 1} → statement M
-search-spec = tie.close (tie.spec only-requires spread-requires returns trace-requires returns-2)
+search-spec = tie.close (tie.spec (λ c κs. search needs) spread-requires returns trace-requires returns-2)

@@ -20,9 +20,6 @@ returns c =
     let a = c .before .before .args in begin-none (a .rows .now) (a .free) (a .targets) (a .goal) _ _ (c .if1 .taken)
     (c .before .minus .ensures)
 
-element-write-levels : tie.Need-element-write-levels Inv-loop μ-loop
-element-write-levels c = omega arith
-
 loop-holds : tie.Need-loop-holds Inv-loop μ-loop
 loop-holds c =
     let s = c .before .before in
@@ -95,18 +92,5 @@ pub spread-spec : {M : Type 1} → statement M
 spread-spec =
     tie.close
     (tie.spec
-    Inv-loop
-    μ-loop
-    minus-requires
-    returns
-    element-write-levels
-    loop-holds
-    returns-2
-    around-requires
-    returns-3
-    mul-levels
-    element-write-levels-2
-    minus-requires-2
-    add-depth
-    loop-less
-    loop-again)
+    Inv-loop μ-loop minus-requires returns (λ c. omega arith) loop-holds returns-2 around-requires returns-3 mul-levels
+    element-write-levels-2 minus-requires-2 add-depth loop-less loop-again)

@@ -13,32 +13,8 @@ Inv-loop rows levels depth from path₀ v₀ k₀ path v k = Tracing (Edge rows)
 abbrev μ-loop : tie.MeasureT-loop
 μ-loop rows levels depth from path₀ v₀ k₀ path v k = depth - k
 
-cast-path : tie.Need-cast-path Inv-loop μ-loop
-cast-path c = omega arith
-
-array-write-path : tie.Need-array-write-path Inv-loop μ-loop
-array-write-path c = omega arith
-
 loop-holds : tie.Need-loop-holds Inv-loop μ-loop
 loop-holds c = let a = c .args in tracing-begin (a .rows .now) _ _ _ (c .pre .some) (c .pre .small) (c .pre .on)
-
-mul-lowest : tie.Need-mul-lowest Inv-loop μ-loop
-mul-lowest c = omega arith
-
-element-copy-out-lowest : tie.Need-element-copy-out-lowest Inv-loop μ-loop
-element-copy-out-lowest c = omega arith
-
-sub-lowest : tie.Need-sub-lowest Inv-loop μ-loop
-sub-lowest c = omega arith
-
-sub-lowest-2 : tie.Need-sub-lowest-2 Inv-loop μ-loop
-sub-lowest-2 c = omega arith
-
-mul-lowest-2 : tie.Need-mul-lowest-2 Inv-loop μ-loop
-mul-lowest-2 c = omega arith
-
-element-copy-out-lowest-2 : tie.Need-element-copy-out-lowest-2 Inv-loop μ-loop
-element-copy-out-lowest-2 c = omega arith
 
 lowest-requires : tie.Need-lowest-requires Inv-loop μ-loop
 lowest-requires c κs =
@@ -48,18 +24,6 @@ lowest-requires c κs =
     let l = at-loop .loop in
     let a = entry .args in
     tracing-some (a .rows .now) _ _ _ (entry .pre .down) _ _ _ (l .inv) (in-loop .loop-test .taken)
-
-cast-path-2 : tie.Need-cast-path-2 Inv-loop μ-loop
-cast-path-2 c = omega arith
-
-array-write-path-2 : tie.Need-array-write-path-2 Inv-loop μ-loop
-array-write-path-2 c = omega arith
-
-add-k : tie.Need-add-k Inv-loop μ-loop
-add-k c = omega arith
-
-loop-less : tie.Need-loop-less Inv-loop μ-loop
-loop-less c = omega arith
 
 loop-again : tie.Need-loop-again Inv-loop μ-loop
 loop-again c =
@@ -78,21 +42,6 @@ pub trace-spec : {M : Type 1} → statement M
 trace-spec =
     tie.close
     (tie.spec
-    Inv-loop
-    μ-loop
-    cast-path
-    array-write-path
-    loop-holds
-    mul-lowest
-    element-copy-out-lowest
-    sub-lowest
-    sub-lowest-2
-    mul-lowest-2
-    element-copy-out-lowest-2
-    lowest-requires
-    cast-path-2
-    array-write-path-2
-    add-k
-    loop-less
-    loop-again
-    returns)
+    Inv-loop μ-loop (λ c. omega arith) (λ c. omega arith) loop-holds (λ c. omega arith) (λ c. omega arith) (λ c. omega arith)
+    (λ c. omega arith) (λ c. omega arith) (λ c. omega arith) lowest-requires (λ c. omega arith) (λ c. omega arith) (λ c. omega arith)
+    (λ c. omega arith) loop-again returns)

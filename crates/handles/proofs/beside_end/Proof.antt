@@ -47,11 +47,4 @@ returns c =
 
 pub beside-end-spec : {M : Type 1} → statement M
 beside-end-spec =
-    tie.close
-    (tie.spec
-    part-requires
-    mul-without
-    element-copy-out-without
-    without-requires
-    lowest-requires
-    returns)
+    tie.close (tie.spec part-requires mul-without element-copy-out-without without-requires lowest-requires returns)

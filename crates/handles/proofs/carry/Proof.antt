@@ -321,21 +321,5 @@ pub carry-spec : {M : Type 1} → statement M
 carry-spec =
     tie.close
     (tie.spec
-    Inv-loop
-    μ-loop
-    part-requires
-    without-requires
-    loop-holds
-    array-read-here
-    cast-here
-    after-requires
-    without-requires-2
-    clear-within-requires
-    make-move-requires
-    add-i
-    loop-less
-    loop-again
-    make-move-requires-2
-    undo-requires
-    same-length
-    returns)
+    Inv-loop μ-loop part-requires without-requires loop-holds array-read-here cast-here after-requires without-requires-2
+    clear-within-requires make-move-requires add-i loop-less loop-again make-move-requires-2 undo-requires same-length returns)

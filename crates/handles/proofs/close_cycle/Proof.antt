@@ -84,13 +84,4 @@ returns c =
 
 pub close-cycle-spec : {M : Type 1} → statement M
 close-cycle-spec =
-    tie.close
-    (tie.spec
-    part-requires
-    only-requires
-    search-requires
-    sub-inner
-    copy-places-requires
-    copy-places-requires-2
-    add-t19
-    returns)
+    tie.close (tie.spec part-requires only-requires search-requires sub-inner copy-places-requires copy-places-requires-2 add-t19 returns)

@@ -20,24 +20,6 @@ abbrev μ-loop : tie.MeasureT-loop
 loop-holds : tie.Need-loop-holds Inv-loop μ-loop
 loop-holds c = (omega arith, c .pre .1 .1, copied-none _ _ _ _)
 
-add-cycle : tie.Need-add-cycle Inv-loop μ-loop
-add-cycle c = omega arith
-
-element-copy-out-cycle : tie.Need-element-copy-out-cycle Inv-loop μ-loop
-element-copy-out-cycle c = omega arith
-
-add-cycle-2 : tie.Need-add-cycle-2 Inv-loop μ-loop
-add-cycle-2 c = omega arith
-
-element-write-cycle : tie.Need-element-write-cycle Inv-loop μ-loop
-element-write-cycle c = omega arith
-
-add-j : tie.Need-add-j Inv-loop μ-loop
-add-j c = omega arith
-
-loop-less : tie.Need-loop-less Inv-loop μ-loop
-loop-less c = omega arith
-
 loop-again : tie.Need-loop-again Inv-loop μ-loop
 loop-again c =
     let turn = c .before .before in
@@ -56,14 +38,5 @@ pub copy-places-spec : {M : Type 1} → statement M
 copy-places-spec =
     tie.close
     (tie.spec
-    Inv-loop
-    μ-loop
-    loop-holds
-    add-cycle
-    element-copy-out-cycle
-    add-cycle-2
-    element-write-cycle
-    add-j
-    loop-less
-    loop-again
-    returns)
+    Inv-loop μ-loop loop-holds (λ c. omega arith) (λ c. omega arith) (λ c. omega arith) (λ c. omega arith) (λ c. omega arith)
+    (λ c. omega arith) loop-again returns)

@@ -202,17 +202,5 @@ pub fetch-spec : {M : Type 1} → statement M
 fetch-spec =
     tie.close
     (tie.spec
-    next-rack-requires
-    part-requires
-    where-is-requires
-    has-requires
-    returns
-    open-end-requires
-    where-is-requires-2
-    has-requires-2
-    same-length
-    returns-2
-    place-of-requires
-    carry-requires
-    same-length-2
-    returns-3)
+    next-rack-requires part-requires where-is-requires has-requires returns open-end-requires where-is-requires-2 has-requires-2 same-length
+    returns-2 place-of-requires carry-requires same-length-2 returns-3)

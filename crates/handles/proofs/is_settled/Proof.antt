@@ -52,12 +52,6 @@ returns c =
     let turn = after-p .before .before in
     says-no (λ all. c .if1 .taken (all (turn .loop .i) (omega arith) (omega arith)))
 
-add-i : tie.Need-add-i Inv-loop μ-loop
-add-i c = omega arith
-
-loop-less : tie.Need-loop-less Inv-loop μ-loop
-loop-less c = omega arith
-
 loop-again : tie.Need-loop-again Inv-loop μ-loop
 loop-again c =
     let after-p = c .before .before .before in
@@ -74,15 +68,5 @@ pub is-settled-spec : {M : Type 1} → statement M
 is-settled-spec =
     tie.close
     (tie.spec
-    Inv-loop
-    μ-loop
-    loop-holds
-    element-copy-out-p
-    cast-p
-    element-copy-out-if1
-    element-copy-out-if1-2
-    returns
-    add-i
-    loop-less
-    loop-again
-    returns-2)
+    Inv-loop μ-loop loop-holds element-copy-out-p cast-p element-copy-out-if1 element-copy-out-if1-2 returns (λ c. omega arith)
+    (λ c. omega arith) loop-again returns-2)

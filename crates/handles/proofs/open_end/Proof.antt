@@ -160,11 +160,4 @@ pub open-end-spec : {M : Type 1} → statement M
 open-end-spec =
     tie.close
     (tie.spec
-    part-requires
-    add-part
-    part-requires-2
-    clear-within-requires
-    without-requires
-    clear-within-requires-2
-    same-length
-    returns)
+    part-requires add-part part-requires-2 clear-within-requires without-requires clear-within-requires-2 same-length returns)

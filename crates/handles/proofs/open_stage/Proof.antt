@@ -105,13 +105,4 @@ returns-2 c =
 
 pub open-stage-spec : {M : Type 1} → statement M
 open-stage-spec =
-    tie.close
-    (tie.spec
-    part-requires
-    vacancies-requires
-    returns
-    add-part
-    part-requires-2
-    clear-within-requires
-    same-length
-    returns-2)
+    tie.close (tie.spec part-requires vacancies-requires returns add-part part-requires-2 clear-within-requires same-length returns-2)

@@ -239,14 +239,5 @@ pub place-spec : {M : Type 1} → statement M
 place-spec =
     tie.close
     (tie.spec
-    next-rack-requires
-    part-requires
-    open-stage-requires
-    fetch-requires
-    where-is-requires
-    bring-requires
-    without-requires
-    clear-within-requires
-    turn-requires
-    same-length
-    returns)
+    next-rack-requires part-requires open-stage-requires fetch-requires where-is-requires bring-requires without-requires
+    clear-within-requires turn-requires same-length returns)

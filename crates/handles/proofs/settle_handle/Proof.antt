@@ -142,17 +142,5 @@ pub settle-handle-spec : {M : Type 1} → statement M
 settle-handle-spec =
     tie.close
     (tie.spec
-    Inv-loop
-    μ-loop
-    is-settled-requires
-    returns
-    beside-end-requires
-    close-cycle-requires
-    loop-holds
-    sub-loop
-    place-requires
-    add-k
-    loop-less
-    loop-again
-    same-length
-    returns-2)
+    Inv-loop μ-loop is-settled-requires returns beside-end-requires close-cycle-requires loop-holds sub-loop place-requires add-k loop-less
+    loop-again same-length returns-2)

@@ -160,21 +160,5 @@ pub settle-handles-spec : {M : Type 1} → statement M
 settle-handles-spec =
     tie.close
     (tie.spec
-    Inv-loop
-    μ-loop
-    loop-holds
-    sub-i
-    array-read-t18
-    cast-t19
-    add-t20
-    array-read-t23
-    cast-t24
-    array-read-t27
-    cast-t28
-    array-read-t31
-    cast-t32
-    settle-handle-requires
-    loop-less
-    loop-again
-    same-length
-    returns)
+    Inv-loop μ-loop loop-holds sub-i array-read-t18 cast-t19 add-t20 array-read-t23 cast-t24 array-read-t27 cast-t28 array-read-t31 cast-t32
+    settle-handle-requires loop-less loop-again same-length returns)

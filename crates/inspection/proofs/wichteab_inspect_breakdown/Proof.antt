@@ -34,15 +34,6 @@ accepted-by k =
 returns : tie.Need-returns
 returns c = short _ _ (c .if1 .taken)
 
-decode-requires : tie.Need-decode-requires
-decode-requires c κs = search needs
-
-enum-known-below : tie.Need-enum-known-below
-enum-known-below c = search needs
-
-enum-told : tie.Need-enum-told
-enum-told c = search needs
-
 returns-2 : tie.Need-returns-2
 returns-2 c =
     let called = c .before .before in
@@ -97,9 +88,6 @@ add-result c =
           (b .result .left) (b .result .right) (b .ensures) (omega arith),
     )
 
-same-length : tie.Need-same-length
-same-length c = search needs
-
 returns-4 : tie.Need-returns-4
 returns-4 c =
     let laid = c .before .before in let tested = laid .before .before in let broken = tested .before in
@@ -113,15 +101,5 @@ pub wichteab-inspect-breakdown-spec : {M : Type 1} → statement M
 wichteab-inspect-breakdown-spec =
     tie.close
     (tie.spec
-    returns
-    decode-requires
-    enum-known-below
-    enum-told
-    returns-2
-    break-down-requires
-    returns-3
-    lay-out-requires
-    mul-result
-    add-result
-    same-length
-    returns-4)
+    returns (λ c κs. search needs) (λ c. search needs) (λ c. search needs) returns-2 break-down-requires returns-3 lay-out-requires
+    mul-result add-result (λ c. search needs) returns-4)

@@ -73,15 +73,6 @@ returns c =
     let none = number-short (a .order .now) (a .held) (a .position) _ (c .if1 .taken) in
     (sym none, nothing none)
 
-decode-requires : tie.Need-decode-requires
-decode-requires c κs = search needs
-
-enum-known-below : tie.Need-enum-known-below
-enum-known-below c = search needs
-
-enum-told : tie.Need-enum-told
-enum-told c = search needs
-
 returns-2 : tie.Need-returns-2
 returns-2 c =
     let k = c .before .before in
@@ -97,9 +88,6 @@ returns-3 c =
     let far = off-floor (decoded k) (a .held) (a .position) (c .if2 .taken) in
     let none = number-none (decoded k) (a .held) (a .position) _ (measured (called k) .if1 .left) far in
     (sym none, nothing none)
-
-slice-aggregate-clear : tie.Need-slice-aggregate-clear
-slice-aggregate-clear c = search needs
 
 clear-requires : tie.Need-clear-requires
 clear-requires c κs =
@@ -129,9 +117,6 @@ copy-row-requires c κs =
 add-result : tie.Need-add-result
 add-result c = let few = moves (c .before .before .before) .1 in omega arith
 
-same-length : tie.Need-same-length
-same-length c = search needs
-
 returns-5 : tie.Need-returns-5
 returns-5 c =
     let copy = c .before .before .before in
@@ -147,16 +132,5 @@ pub wichteab-inspect-clear-spec : {M : Type 1} → statement M
 wichteab-inspect-clear-spec =
     tie.close
     (tie.spec
-    returns
-    decode-requires
-    enum-known-below
-    enum-told
-    returns-2
-    returns-3
-    slice-aggregate-clear
-    clear-requires
-    returns-4
-    copy-row-requires
-    add-result
-    same-length
-    returns-5)
+    returns (λ c κs. search needs) (λ c. search needs) (λ c. search needs) returns-2 returns-3 (λ c. search needs) clear-requires returns-4
+    copy-row-requires add-result (λ c. search needs) returns-5)

@@ -6,21 +6,12 @@ use borrow.Author.Needs.{needs}
 use Rattle.inspection.proofs.wichteab_inspect_step.Statement.{statement}
 use Rattle.inspection.proofs.wichteab_inspect_step.Tie as tie
 
-step-requires : tie.Need-step-requires
-step-requires c κs = search needs
-
 returns : tie.Need-returns
 returns c = byte-none _ _ (c .before .step .ensures .0) _ (omega arith)
-
-shared-slice-read-wide : tie.Need-shared-slice-read-wide
-shared-slice-read-wide c = search needs
-
-wide-requires : tie.Need-wide-requires
-wide-requires c κs = search needs
 
 returns-2 : tie.Need-returns-2
 returns-2 c = c .wide .ensures .0 ∙ byte-there _ _ (c .before .before .before .step .ensures .0) _ (omega arith)
 
 pub wichteab-inspect-step-spec : {M : Type 1} → statement M
 wichteab-inspect-step-spec =
-    tie.close (tie.spec step-requires returns shared-slice-read-wide wide-requires returns-2)
+    tie.close (tie.spec (λ c κs. search needs) returns (λ c. search needs) (λ c κs. search needs) returns-2)

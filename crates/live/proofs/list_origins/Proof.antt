@@ -34,9 +34,6 @@ add-back c =
     let origin = c .before .wide .ensures .0 in
     omega arith
 
-sub-back : tie.Need-sub-back Inv-loop μ-loop
-sub-back c = omega arith
-
 element-write-back : tie.Need-element-write-back Inv-loop μ-loop
 element-write-back c =
     let turn = c .before .before .before .before in
@@ -83,19 +80,5 @@ pub list-origins-spec : {M : Type 1} → statement M
 list-origins-spec =
     tie.close
     (tie.spec
-    Inv-loop
-    μ-loop
-    loop-holds
-    (λ c. omega arith)
-    (λ c κs. tt)
-    (λ c. omega arith)
-    sub-back
-    add-back
-    cast-back
-    mul-back-2
-    element-write-back
-    add-count
-    (λ c. omega arith)
-    (λ c. omega arith)
-    loop-again
-    returns)
+    Inv-loop μ-loop loop-holds (λ c. omega arith) (λ c κs. tt) (λ c. omega arith) (λ c. omega arith) add-back cast-back mul-back-2
+    element-write-back add-count (λ c. omega arith) (λ c. omega arith) loop-again returns)

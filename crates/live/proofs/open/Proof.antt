@@ -100,16 +100,5 @@ pub open-spec : {M : Type 1} → statement M
 open-spec =
     tie.close
     (tie.spec
-    (λ c κs. search needs)
-    (λ c κs. search needs)
-    (λ c. search needs)
-    (λ c. search needs)
-    returns
-    counts-of-requires
-    sub-place-racks
-    part-place-racks-start
-    (λ c. search needs)
-    mul-place-racks
-    place-racks-requires
-    cast-t9
-    returns-2)
+    (λ c κs. search needs) (λ c κs. search needs) (λ c. search needs) (λ c. search needs) returns counts-of-requires sub-place-racks
+    part-place-racks-start (λ c. search needs) mul-place-racks place-racks-requires cast-t9 returns-2)

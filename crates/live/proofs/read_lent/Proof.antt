@@ -60,11 +60,5 @@ pub read-lent-spec : {M : Type 1} → statement M
 read-lent-spec =
     tie.close
     (tie.spec
-    (λ c κs. search needs)
-    shared-slice-read-wide
-    (λ c κs. search needs)
-    sub-read-moves
-    part-read-moves-start
-    (λ c. search needs)
-    read-moves-requires
-    returns)
+    (λ c κs. search needs) shared-slice-read-wide (λ c κs. search needs) sub-read-moves part-read-moves-start (λ c. search needs)
+    read-moves-requires returns)

@@ -49,12 +49,5 @@ pub run-moves-spec : {M : Type 1} → statement M
 run-moves-spec =
     tie.close
     (tie.spec
-    (λ c κs. search needs)
-    returns
-    counts-of-requires
-    sub-mark-edges
-    part-mark-edges-start
-    (λ c. search needs)
-    mark-edges-requires
-    (λ c κs. search needs)
-    returns-2)
+    (λ c κs. search needs) returns counts-of-requires sub-mark-edges part-mark-edges-start (λ c. search needs) mark-edges-requires
+    (λ c κs. search needs) returns-2)

@@ -7,15 +7,6 @@ use borrow.Author.Needs.{needs}
 use Rattle.models.proofs.expand.Statement.{statement}
 use Rattle.models.proofs.expand.Tie as tie
 
-judge-requires : tie.Need-judge-requires
-judge-requires c κs = search needs
-
-enum-told : tie.Need-enum-told
-enum-told c = search needs
-
-enum-told-2 : tie.Need-enum-told-2
-enum-told-2 c = search needs
-
 returns : tie.Need-returns
 returns c =
     let judged = c .before .before in
@@ -31,9 +22,6 @@ write-out-requires c κs =
     let is = sym (judged .judge .ensures) ∙ ap answerOf (told .enum-told .given .1) in
     let sound = accepted-expand (a .short .now) (length (a .buffer .now)) _ is in
     ((sound .right, sound .known), sound .enough)
-
-same-length : tie.Need-same-length
-same-length c = search needs
 
 returns-2 : tie.Need-returns-2
 returns-2 c =
@@ -51,10 +39,4 @@ pub expand-spec : {M : Type 1} → statement M
 expand-spec =
     tie.close
     (tie.spec
-    judge-requires
-    enum-told
-    enum-told-2
-    returns
-    write-out-requires
-    same-length
-    returns-2)
+    (λ c κs. search needs) (λ c. search needs) (λ c. search needs) returns write-out-requires (λ c. search needs) returns-2)

@@ -125,9 +125,6 @@ Called =
 abbrev sized : Called → Chosen
 sized c = c .before .before .before .before .before .before
 
-well-packed-requires : tie.Need-well-packed-requires
-well-packed-requires c κs = search needs
-
 returns : tie.Need-returns
 returns c =
     let packed = c .before in
@@ -137,14 +134,8 @@ returns c =
 shared-slice-read-wide : tie.Need-shared-slice-read-wide
 shared-slice-read-wide c = let l = there (c .before) in omega arith
 
-wide-requires : tie.Need-wide-requires
-wide-requires c κs = search needs
-
 shared-slice-read-wide-2 : tie.Need-shared-slice-read-wide-2
 shared-slice-read-wide-2 c = let l = there (c .before .before .before) in omega arith
-
-wide-requires-2 : tie.Need-wide-requires-2
-wide-requires-2 c κs = search needs
 
 returns-2 : tie.Need-returns-2
 returns-2 c =
@@ -161,17 +152,11 @@ returns-3 c =
 size-of-requires : tie.Need-size-of-requires
 size-of-requires c κs = known c .known
 
-mul-n : tie.Need-mul-n
-mul-n c = search needs
-
 sub-racks-sound : tie.Need-sub-racks-sound
 sub-racks-sound c = let l = there (tested (second (c .before .before))) in omega arith
 
 part-racks-sound-start : tie.Need-part-racks-sound-start
 part-racks-sound-start c = let l = there (tested (second (c .before .before))) in omega arith
-
-part-racks-sound-end : tie.Need-part-racks-sound-end
-part-racks-sound-end c = search needs
 
 racks-sound-requires : tie.Need-racks-sound-requires
 racks-sound-requires c κs =
@@ -187,27 +172,6 @@ returns-4 c =
     judged-racks (room b) (read b) (model b) (byte b / 2) (known (sized called)) _ _
     (called .before .before .before .before .before .size-of .ensures) (called .racks-sound .result) _ _ (called .racks-sound .ensures)
     (not-true _ (c .if4 .taken))
-
-mul-edges : tie.Need-mul-edges
-mul-edges c = search needs
-
-add-edges : tie.Need-add-edges
-add-edges c = search needs
-
-sub-edges : tie.Need-sub-edges
-sub-edges c = search needs
-
-add-length : tie.Need-add-length
-add-length c = search needs
-
-mul-length : tie.Need-mul-length
-mul-length c = search needs
-
-add-length-2 : tie.Need-add-length-2
-add-length-2 c = search needs
-
-add-length-3 : tie.Need-add-length-3
-add-length-3 c = search needs
 
 returns-5 : tie.Need-returns-5
 returns-5 c =
@@ -231,27 +195,7 @@ pub judge-spec : {M : Type 1} → statement M
 judge-spec =
     tie.close
     (tie.spec
-    well-packed-requires
-    returns
-    shared-slice-read-wide
-    wide-requires
-    shared-slice-read-wide-2
-    wide-requires-2
-    returns-2
-    returns-3
-    size-of-requires
-    mul-n
-    sub-racks-sound
-    part-racks-sound-start
-    part-racks-sound-end
-    racks-sound-requires
-    returns-4
-    mul-edges
-    add-edges
-    sub-edges
-    add-length
-    mul-length
-    add-length-2
-    add-length-3
-    returns-5
-    returns-6)
+    (λ c κs. search needs) returns shared-slice-read-wide (λ c κs. search needs) shared-slice-read-wide-2 (λ c κs. search needs) returns-2
+    returns-3 size-of-requires (λ c. search needs) sub-racks-sound part-racks-sound-start (λ c. search needs) racks-sound-requires returns-4
+    (λ c. search needs) (λ c. search needs) (λ c. search needs) (λ c. search needs) (λ c. search needs) (λ c. search needs)
+    (λ c. search needs) returns-5 returns-6)

@@ -6,16 +6,10 @@ use Rattle.models.proofs.PutLaws.{below-none, below-one, put-nothing, p
 use Rattle.models.proofs.put_below.Statement.{statement}
 use Rattle.models.proofs.put_below.Tie as tie
 
-add-if1 : tie.Need-add-if1
-add-if1 c = search needs
-
 returns : tie.Need-returns
 returns c =
     let a = c .before .before .args in
     put-nothing (a .tail .now) (a .j) (below-none (a .columns) (a .p) (a .n) (omega arith))
-
-add-put-pair : tie.Need-add-put-pair
-add-put-pair c = search needs
 
 put-pair-requires : tie.Need-put-pair-requires
 put-pair-requires c κs =
@@ -24,12 +18,6 @@ put-pair-requires c κs =
     let a = start .args in
     let one = below-one (a .columns) (a .p) (a .n) (omega arith) in
     (omega arith, omega arith, room-one (a .tail .now) (a .j) (a .p) (a .p + a .columns) one (start .pre .1))
-
-add-result : tie.Need-add-result
-add-result c = search needs
-
-same-length : tie.Need-same-length
-same-length c = search needs
 
 returns-2 : tie.Need-returns-2
 returns-2 c =
@@ -42,4 +30,4 @@ returns-2 c =
 pub put-below-spec : {M : Type 1} → statement M
 put-below-spec =
     tie.close
-    (tie.spec add-if1 returns add-put-pair put-pair-requires add-result same-length returns-2)
+    (tie.spec (λ c. search needs) returns (λ c. search needs) put-pair-requires (λ c. search needs) (λ c. search needs) returns-2)

@@ -13,9 +13,6 @@ Inv-loop tail₀ rows columns n j₀ p₀ tail j p = (p ≤ n) × Left tail₀ 0
 abbrev μ-loop : tie.MeasureT-loop
 μ-loop tail₀ rows columns n j₀ p₀ tail j p = n - p
 
-mul-n : tie.Need-mul-n Inv-loop μ-loop
-mul-n c = omega arith
-
 loop-holds : tie.Need-loop-holds Inv-loop μ-loop
 loop-holds c = let a = c .before .args in (omega arith, grid-first (a .rows) (a .columns))
 
@@ -42,12 +39,6 @@ put-below-requires c κs = let made = c .before .before .before in
       below-room (a .rows) (a .columns) (at .loop .p) l (at .loop .inv .1) (start .pre .1) (made .put-right .ensures),
     )
 
-add-p : tie.Need-add-p Inv-loop μ-loop
-add-p c = omega arith
-
-loop-less : tie.Need-loop-less Inv-loop μ-loop
-loop-less c = omega arith
-
 loop-again : tie.Need-loop-again Inv-loop μ-loop
 loop-again c = let lower = c .before .before in
     let made = lower .before .before .before .before in
@@ -73,14 +64,5 @@ pub put-grid-spec : {M : Type 1} → statement M
 put-grid-spec =
     tie.close
     (tie.spec
-    Inv-loop
-    μ-loop
-    mul-n
-    loop-holds
-    put-right-requires
-    put-below-requires
-    add-p
-    loop-less
-    loop-again
-    same-length
-    returns)
+    Inv-loop μ-loop (λ c. omega arith) loop-holds put-right-requires put-below-requires (λ c. omega arith) (λ c. omega arith) loop-again
+    same-length returns)

@@ -16,9 +16,6 @@ abbrev μ-loop : tie.MeasureT-loop
 loop-holds : tie.Need-loop-holds Inv-loop μ-loop
 loop-holds c = let a = c .before .before .args in (omega arith, copy-first (a .j) (a .from .now) (a .m))
 
-pair-at-requires : tie.Need-pair-at-requires Inv-loop μ-loop
-pair-at-requires c κs = omega arith
-
 add-put-pair : tie.Need-add-put-pair Inv-loop μ-loop
 add-put-pair c =
     let start = c .before .before .before .before .before .before in
@@ -41,12 +38,6 @@ put-pair-requires c κs =
       copy-room (a .from .now) (a .m) (at .loop .i) (turn .loop-test .taken) first second (read .pair-at .ensures) (at .loop .inv .1)
           (start .pre .1),
     )
-
-add-i : tie.Need-add-i Inv-loop μ-loop
-add-i c = omega arith
-
-loop-less : tie.Need-loop-less Inv-loop μ-loop
-loop-less c = omega arith
 
 loop-again : tie.Need-loop-again Inv-loop μ-loop
 loop-again c =
@@ -77,14 +68,5 @@ pub put-pairs-spec : {M : Type 1} → statement M
 put-pairs-spec =
     tie.close
     (tie.spec
-    Inv-loop
-    μ-loop
-    loop-holds
-    pair-at-requires
-    add-put-pair
-    put-pair-requires
-    add-i
-    loop-less
-    loop-again
-    same-length
-    returns)
+    Inv-loop μ-loop loop-holds (λ c κs. omega arith) add-put-pair put-pair-requires (λ c. omega arith) (λ c. omega arith) loop-again
+    same-length returns)

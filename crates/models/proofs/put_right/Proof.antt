@@ -7,9 +7,6 @@ use Rattle.models.proofs.PutLaws.{right-none, right-one, put-nothing, p
 use Rattle.models.proofs.put_right.Statement.{statement}
 use Rattle.models.proofs.put_right.Tie as tie
 
-rem-if1 : tie.Need-rem-if1
-rem-if1 c = search needs
-
 add-if1 : tie.Need-add-if1
 add-if1 c = let a = c .before .args in let less = mod-lt (a .p) {m = a .columns} (omega arith) in record { fits = omega arith }
 
@@ -34,12 +31,6 @@ put-pair-requires c κs =
     let one = right-one (a .columns) (a .p) (omega arith) in
     (omega arith, omega arith, room-one (a .tail .now) (a .j) (a .p) (a .p + 1) one (start .pre .1))
 
-add-result : tie.Need-add-result
-add-result c = search needs
-
-same-length : tie.Need-same-length
-same-length c = search needs
-
 returns-2 : tie.Need-returns-2
 returns-2 c =
     let call = c .before .before in
@@ -51,4 +42,4 @@ returns-2 c =
 pub put-right-spec : {M : Type 1} → statement M
 put-right-spec =
     tie.close
-    (tie.spec rem-if1 add-if1 returns add-put-pair put-pair-requires add-result same-length returns-2)
+    (tie.spec (λ c. search needs) add-if1 returns add-put-pair put-pair-requires (λ c. search needs) (λ c. search needs) returns-2)

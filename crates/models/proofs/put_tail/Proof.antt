@@ -23,9 +23,6 @@ put-pairs-requires c κs = let made = c .before .before .before in
       room-next (gridEdges (a .rows) (a .columns)) (pairs (a .racks .now) 0 (a .m)) (made .put-grid .ensures) (start .pre .1),
     )
 
-same-length : tie.Need-same-length
-same-length c = search needs
-
 returns : tie.Need-returns
 returns c = let racks = c .before .before in
     let made = racks .before .before .before .before in
@@ -33,4 +30,4 @@ returns c = let racks = c .before .before in
     put-then (gridEdges (a .rows) (a .columns)) (pairs (a .racks .now) 0 (a .m)) (made .put-grid .ensures) (racks .put-pairs .ensures)
 
 pub put-tail-spec : {M : Type 1} → statement M
-put-tail-spec = tie.close (tie.spec put-grid-requires put-pairs-requires same-length returns)
+put-tail-spec = tie.close (tie.spec put-grid-requires put-pairs-requires (λ c. search needs) returns)

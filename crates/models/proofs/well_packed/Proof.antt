@@ -9,21 +9,6 @@ use Rattle.models.proofs.well_packed.Tie as tie
 returns : tie.Need-returns
 returns c = too-short (c .before .before .args .short .now) (c .if1 .taken)
 
-shared-slice-read-wide : tie.Need-shared-slice-read-wide
-shared-slice-read-wide c = search needs
-
-wide-requires : tie.Need-wide-requires
-wide-requires c κs = search needs
-
-mul-if2 : tie.Need-mul-if2
-mul-if2 c = search needs
-
-add-if2 : tie.Need-add-if2
-add-if2 c = search needs
-
-add-if2-2 : tie.Need-add-if2-2
-add-if2-2 c = search needs
-
 returns-2 : tie.Need-returns-2
 returns-2 c = let read = c .before in
     let start = read .before .before .before .before in
@@ -35,18 +20,6 @@ returns-3 c = let read = c .before .before in
     let start = read .before .before .before .before in
     not-spare (start .args .short .now) (read .wide .result) (omega arith) (read .wide .ensures .0) (read .wide .ensures .1)
     (λ e. c .if3 .taken (omega arith))
-
-sub-pad-after : tie.Need-sub-pad-after
-sub-pad-after c = search needs
-
-part-pad-after-start : tie.Need-part-pad-after-start
-part-pad-after-start c = search needs
-
-part-pad-after-end : tie.Need-part-pad-after-end
-part-pad-after-end c = search needs
-
-mul-pad-after : tie.Need-mul-pad-after
-mul-pad-after c = search needs
 
 pad-after-requires : tie.Need-pad-after-requires
 pad-after-requires c κs = let long = c .before .before in
@@ -77,18 +50,5 @@ pub well-packed-spec : {M : Type 1} → statement M
 well-packed-spec =
     tie.close
     (tie.spec
-    returns
-    shared-slice-read-wide
-    wide-requires
-    mul-if2
-    add-if2
-    add-if2-2
-    returns-2
-    returns-3
-    sub-pad-after
-    part-pad-after-start
-    part-pad-after-end
-    mul-pad-after
-    pad-after-requires
-    returns-4
-    returns-5)
+    returns (λ c. search needs) (λ c κs. search needs) (λ c. search needs) (λ c. search needs) (λ c. search needs) returns-2 returns-3
+    (λ c. search needs) (λ c. search needs) (λ c. search needs) (λ c. search needs) pad-after-requires returns-4 returns-5)

@@ -12,17 +12,11 @@ shared-slice-read-wide c = let start = c .before .before .before in
     let l = short-fits (start .args .short .now) (start .pre .0 .0) .head-there in
     omega arith
 
-wide-requires : tie.Need-wide-requires
-wide-requires c κs = search needs
-
 shared-slice-read-wide-2 : tie.Need-shared-slice-read-wide-2
 shared-slice-read-wide-2 c = let first = c .before in
     let start = first .before .before .before .before in
     let l = short-fits (start .args .short .now) (start .pre .0 .0) .head-there in
     omega arith
-
-wide-requires-2 : tie.Need-wide-requires-2
-wide-requires-2 c κs = search needs
 
 size-of-requires : tie.Need-size-of-requires
 size-of-requires c κs = let second = c in
@@ -51,9 +45,6 @@ part-put-tail-start c = let first = c .before .before .before in
     let l = length-expanded (start .args .short .now) in
     omega arith
 
-part-put-tail-end : tie.Need-part-put-tail-end
-part-put-tail-end c = search needs
-
 sub-put-tail-2 : tie.Need-sub-put-tail-2
 sub-put-tail-2 c = let first = c .before .before .before .before in
     let start = first .before .before .before .before in
@@ -65,9 +56,6 @@ part-put-tail-start-2 c = let first = c .before .before .before .before in
     let start = first .before .before .before .before in
     let l = short-fits (start .args .short .now) (start .pre .0 .0) .head-there in
     omega arith
-
-part-put-tail-end-2 : tie.Need-part-put-tail-end-2
-part-put-tail-end-2 c = search needs
 
 put-tail-requires : tie.Need-put-tail-requires
 put-tail-requires c κs = let size = c .before .before in
@@ -98,9 +86,6 @@ put-tail-requires c κs = let size = c .before .before in
           rows columns rows-right,
     )
 
-mul-put-head : tie.Need-mul-put-head
-mul-put-head c = search needs
-
 put-head-requires : tie.Need-put-head-requires
 put-head-requires c κs = let made = c .before .before .before in
     let size = made .before .before .before in
@@ -123,9 +108,6 @@ put-head-requires c κs = let made = c .before .before .before in
       out-counts s (start .args .order .now) (start .pre .0 .0) (start .pre .0 .1) (start .pre .1) x b h
           rows columns (size .size-of .ensures) (made .put-tail .last .0) (made .put-tail .result) (made .put-tail .ensures),
     )
-
-same-length : tie.Need-same-length
-same-length c = search needs
 
 returns : tie.Need-returns
 returns c = let headed = c .before .before in
@@ -153,19 +135,6 @@ pub write-out-spec : {M : Type 1} → statement M
 write-out-spec =
     tie.close
     (tie.spec
-    shared-slice-read-wide
-    wide-requires
-    shared-slice-read-wide-2
-    wide-requires-2
-    size-of-requires
-    sub-put-tail
-    part-put-tail-start
-    part-put-tail-end
-    sub-put-tail-2
-    part-put-tail-start-2
-    part-put-tail-end-2
-    put-tail-requires
-    mul-put-head
-    put-head-requires
-    same-length
-    returns)
+    shared-slice-read-wide (λ c κs. search needs) shared-slice-read-wide-2 (λ c κs. search needs) size-of-requires sub-put-tail
+    part-put-tail-start (λ c. search needs) sub-put-tail-2 part-put-tail-start-2 (λ c. search needs) put-tail-requires (λ c. search needs)
+    put-head-requires (λ c. search needs) returns)

@@ -87,13 +87,5 @@ pub decode-spec : {M : Type 1} → statement M
 decode-spec =
     tie.close
     (tie.spec
-    (λ c κs. search needs)
-    (λ c. search needs)
-    (λ c. search needs)
-    returns
-    sub-racks-sound
-    part-racks-sound-start
-    (λ c. search needs)
-    racks-sound-requires
-    returns-2
-    returns-3)
+    (λ c κs. search needs) (λ c. search needs) (λ c. search needs) returns sub-racks-sound part-racks-sound-start (λ c. search needs)
+    racks-sound-requires returns-2 returns-3)

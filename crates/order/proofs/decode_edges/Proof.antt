@@ -72,13 +72,5 @@ pub decode-edges-spec : {M : Type 1} → statement M
 decode-edges-spec =
     tie.close
     (tie.spec
-    (λ c κs. search needs)
-    (λ c. search needs)
-    (λ c. search needs)
-    returns
-    sub-join-edges
-    part-join-edges-start
-    (λ c. search needs)
-    join-edges-requires
-    returns-2
-    returns-3)
+    (λ c κs. search needs) (λ c. search needs) (λ c. search needs) returns sub-join-edges part-join-edges-start (λ c. search needs)
+    join-edges-requires returns-2 returns-3)

@@ -15,33 +15,6 @@ abbrev μ-loop : tie.MeasureT-loop
 loop-holds : tie.Need-loop-holds Inv-loop μ-loop
 loop-holds c = (omega arith, mark-first (c .before .args .tail .now) (c .before .args .e) (c .before .args .matrix .now))
 
-pair-at-requires : tie.Need-pair-at-requires Inv-loop μ-loop
-pair-at-requires c κs = omega arith
-
-mul-matrix : tie.Need-mul-matrix Inv-loop μ-loop
-mul-matrix c = omega arith
-
-add-matrix : tie.Need-add-matrix Inv-loop μ-loop
-add-matrix c = omega arith
-
-element-write-matrix : tie.Need-element-write-matrix Inv-loop μ-loop
-element-write-matrix c = omega arith
-
-mul-matrix-2 : tie.Need-mul-matrix-2 Inv-loop μ-loop
-mul-matrix-2 c = omega arith
-
-add-matrix-2 : tie.Need-add-matrix-2 Inv-loop μ-loop
-add-matrix-2 c = omega arith
-
-element-write-matrix-2 : tie.Need-element-write-matrix-2 Inv-loop μ-loop
-element-write-matrix-2 c = omega arith
-
-add-j : tie.Need-add-j Inv-loop μ-loop
-add-j c = omega arith
-
-loop-less : tie.Need-loop-less Inv-loop μ-loop
-loop-less c = omega arith
-
 loop-again : tie.Need-loop-again Inv-loop μ-loop
 loop-again c =
     let round = c .before .before in let entry = round .before .before in (
@@ -60,17 +33,5 @@ pub mark-edges-spec : {M : Type 1} → statement M
 mark-edges-spec =
     tie.close
     (tie.spec
-    Inv-loop
-    μ-loop
-    loop-holds
-    pair-at-requires
-    mul-matrix
-    add-matrix
-    element-write-matrix
-    mul-matrix-2
-    add-matrix-2
-    element-write-matrix-2
-    add-j
-    loop-less
-    loop-again
-    returns)
+    Inv-loop μ-loop loop-holds (λ c κs. omega arith) (λ c. omega arith) (λ c. omega arith) (λ c. omega arith) (λ c. omega arith)
+    (λ c. omega arith) (λ c. omega arith) (λ c. omega arith) (λ c. omega arith) loop-again returns)

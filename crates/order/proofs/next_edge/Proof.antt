@@ -5,9 +5,6 @@ use borrow.Author.Needs.{needs}
 use Rattle.order.proofs.next_edge.Statement.{statement}
 use Rattle.order.proofs.next_edge.Tie as tie
 
-pair-at-requires : tie.Need-pair-at-requires
-pair-at-requires c κs = search needs
-
 returns : tie.Need-returns
 returns c =
     let read = c .before in
@@ -21,12 +18,6 @@ returns-2 c =
     let a = read .before .before .args in
     let edge = read .pair-at in
     not-below (a .tail .now) (a .j) (a .n) (a .last) (edge .result .first) (edge .result .second) (edge .ensures) (omega arith)
-
-mul-place : tie.Need-mul-place
-mul-place c = search needs
-
-add-place : tie.Need-add-place
-add-place c = search needs
 
 returns-3 : tie.Need-returns-3
 returns-3 c =
@@ -45,4 +36,4 @@ returns-4 c =
 
 pub next-edge-spec : {M : Type 1} → statement M
 next-edge-spec =
-    tie.close (tie.spec pair-at-requires returns returns-2 mul-place add-place returns-3 returns-4)
+    tie.close (tie.spec (λ c κs. search needs) returns returns-2 (λ c. search needs) (λ c. search needs) returns-3 returns-4)

@@ -6,27 +6,12 @@ use borrow.Author.Needs.{needs}
 use Rattle.order.proofs.racks_sound.Statement.{statement}
 use Rattle.order.proofs.racks_sound.Tie as tie
 
-mul-place-sound : tie.Need-mul-place-sound
-mul-place-sound c = search needs
-
-place-sound-requires : tie.Need-place-sound-requires
-place-sound-requires c κs = search needs
-
 returns : tie.Need-returns
 returns c =
     let first = c .before in
     let a = first .before .before .before .args in
     starts-refused (a .tail .now) (a .n) (a .e) (a .m) _ _ (first .place-sound .result) (first .place-sound .ensures .0)
     (not-true _ (c .if1 .taken))
-
-mul-place-sound-2 : tie.Need-mul-place-sound-2
-mul-place-sound-2 c = search needs
-
-add-place-sound : tie.Need-add-place-sound
-add-place-sound c = search needs
-
-place-sound-requires-2 : tie.Need-place-sound-requires-2
-place-sound-requires-2 c κs = search needs
 
 returns-2 : tie.Need-returns-2
 returns-2 c =
@@ -41,10 +26,4 @@ pub racks-sound-spec : {M : Type 1} → statement M
 racks-sound-spec =
     tie.close
     (tie.spec
-    mul-place-sound
-    place-sound-requires
-    returns
-    mul-place-sound-2
-    add-place-sound
-    place-sound-requires-2
-    returns-2)
+    (λ c. search needs) (λ c κs. search needs) returns (λ c. search needs) (λ c. search needs) (λ c κs. search needs) returns-2)

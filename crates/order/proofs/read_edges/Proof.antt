@@ -70,13 +70,5 @@ pub read-edges-spec : {M : Type 1} → statement M
 read-edges-spec =
     tie.close
     (tie.spec
-    (λ c κs. search needs)
-    (λ c. search needs)
-    (λ c. search needs)
-    returns
-    sub-edges-sound
-    part-edges-sound-start
-    (λ c. search needs)
-    edges-sound-requires
-    returns-2
-    returns-3)
+    (λ c κs. search needs) (λ c. search needs) (λ c. search needs) returns sub-edges-sound part-edges-sound-start (λ c. search needs)
+    edges-sound-requires returns-2 returns-3)

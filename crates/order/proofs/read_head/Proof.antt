@@ -9,18 +9,6 @@ use Rattle.order.proofs.read_head.Tie as tie
 returns : tie.Need-returns
 returns c = short (c .before .before .args .order .now) (omega arith)
 
-counts-of-requires : tie.Need-counts-of-requires
-counts-of-requires c κs = search needs
-
-add-units : tie.Need-add-units
-add-units c = search needs
-
-mul-units : tie.Need-mul-units
-mul-units c = search needs
-
-units-fit-requires : tie.Need-units-fit-requires
-units-fit-requires c κs = search needs
-
 returns-2 : tie.Need-returns-2
 returns-2 c =
     let counts-of = c .before .before .before in let entry = counts-of .before .before .before in
@@ -74,14 +62,5 @@ pub read-head-spec : {M : Type 1} → statement M
 read-head-spec =
     tie.close
     (tie.spec
-    returns
-    counts-of-requires
-    add-units
-    mul-units
-    units-fit-requires
-    returns-2
-    returns-3
-    returns-4
-    units-clean-requires
-    returns-5
-    returns-6)
+    returns (λ c κs. search needs) (λ c. search needs) (λ c. search needs) (λ c κs. search needs) returns-2 returns-3 returns-4
+    units-clean-requires returns-5 returns-6)

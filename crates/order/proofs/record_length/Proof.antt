@@ -13,21 +13,6 @@ returns : tie.Need-returns
 unfolding wholeOrderLength orderLength recordLength
 returns c = sym (whole-none _ _ (omega arith))
 
-counts-of-requires : tie.Need-counts-of-requires
-counts-of-requires c κs = search needs
-
-add-len : tie.Need-add-len
-add-len c = search needs
-
-mul-len : tie.Need-mul-len
-mul-len c = search needs
-
-add-len-2 : tie.Need-add-len-2
-add-len-2 c = search needs
-
-add-len-3 : tie.Need-add-len-3
-add-len-3 c = search needs
-
 returns-2 : tie.Need-returns-2
 unfolding wholeOrderLength orderLength recordLength unitCount
 returns-2 c = sym (whole-none _ _ (omega arith))
@@ -39,4 +24,5 @@ returns-3 c = whole-as _ _ _ (omega arith) (omega arith)
 pub record-length-spec : {M : Type 1} → statement M
 record-length-spec =
     tie.close
-    (tie.spec returns counts-of-requires add-len mul-len add-len-2 add-len-3 returns-2 returns-3)
+    (tie.spec
+    returns (λ c κs. search needs) (λ c. search needs) (λ c. search needs) (λ c. search needs) (λ c. search needs) returns-2 returns-3)

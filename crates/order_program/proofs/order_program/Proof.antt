@@ -8,18 +8,6 @@ use borrow.Author.Needs.{needs}
 use Rattle.order_program.proofs.order_program.Statement.{statement}
 use Rattle.order_program.proofs.order_program.Tie as tie
 
-expand-requires : tie.Need-expand-requires
-expand-requires c κs = search needs
-
-enum-known-length : tie.Need-enum-known-length
-enum-known-length c = search needs
-
-enum-known-fault : tie.Need-enum-known-fault
-enum-known-fault c = search needs
-
-number-requires : tie.Need-number-requires
-number-requires c κs = search needs
-
 put-refusal-requires : tie.Need-put-refusal-requires
 put-refusal-requires c κs = refusal-fits _ _ (omega arith) (omega arith) _ (omega arith)
 
@@ -46,10 +34,4 @@ pub order-program-spec : {M : Type 1} → statement M
 order-program-spec =
     tie.close
     (tie.spec
-    expand-requires
-    enum-known-length
-    enum-known-fault
-    number-requires
-    put-refusal-requires
-    returns
-    returns-2)
+    (λ c κs. search needs) (λ c. search needs) (λ c. search needs) (λ c κs. search needs) put-refusal-requires returns returns-2)

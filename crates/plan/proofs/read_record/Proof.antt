@@ -100,14 +100,5 @@ pub read-record-spec : {M : Type 1} → statement M
 read-record-spec =
     tie.close
     (tie.spec
-    returns
-    (λ c κs. search needs)
-    (λ c κs. search needs)
-    units-requires
-    units-fit-requires
-    returns-2
-    (λ c κs. search needs)
-    returns-3
-    pad-clear-requires
-    returns-4
-    returns-5)
+    returns (λ c κs. search needs) (λ c κs. search needs) units-requires units-fit-requires returns-2 (λ c κs. search needs) returns-3
+    pad-clear-requires returns-4 returns-5)

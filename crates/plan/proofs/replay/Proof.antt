@@ -31,12 +31,6 @@ element-copy-out-move-fault c = let at = c .before .listed-at .ensures in omega 
 element-copy-out-move-fault-2 : tie.Need-element-copy-out-move-fault-2 Inv-loop μ-loop
 element-copy-out-move-fault-2 c = let at = c .before .before .listed-at .ensures in omega (arith, at .entered-below)
 
-move-fault-requires : tie.Need-move-fault-requires Inv-loop μ-loop
-move-fault-requires c κs = search needs
-
-enum-known-verdict : tie.Need-enum-known-verdict Inv-loop μ-loop
-enum-known-verdict c = search needs
-
 returns : tie.Need-returns Inv-loop μ-loop
 returns c =
     let judged = c .before .before .before in
@@ -48,21 +42,6 @@ returns c =
     (read .listed-at .result .step) (read .listed-at .result .rack) (turn .loop .inv .1) (omega arith) (read .listed-at .ensures)
     (judged .move-fault .result) (judged .move-fault .ensures)
     _ (c .before .verdict .given .1)
-
-enum-told : tie.Need-enum-told Inv-loop μ-loop
-enum-told c = search needs
-
-element-write-racks : tie.Need-element-write-racks Inv-loop μ-loop
-element-write-racks c = omega arith
-
-element-write-racks-2 : tie.Need-element-write-racks-2 Inv-loop μ-loop
-element-write-racks-2 c = omega arith
-
-add-j : tie.Need-add-j Inv-loop μ-loop
-add-j c = omega arith
-
-loop-less : tie.Need-loop-less Inv-loop μ-loop
-loop-less c = omega arith
 
 loop-again : tie.Need-loop-again Inv-loop μ-loop
 loop-again c =
@@ -88,22 +67,6 @@ pub replay-spec : {M : Type 1} → statement M
 replay-spec =
     tie.close
     (tie.spec
-    Inv-loop
-    μ-loop
-    loop-holds
-    listed-at-requires
-    element-copy-out-rack
-    element-copy-out-move-fault
-    element-copy-out-move-fault-2
-    move-fault-requires
-    enum-known-verdict
-    (λ c. omega arith)
-    (λ c. omega arith)
-    returns
-    enum-told
-    element-write-racks
-    element-write-racks-2
-    add-j
-    loop-less
-    loop-again
-    returns-2)
+    Inv-loop μ-loop loop-holds listed-at-requires element-copy-out-rack element-copy-out-move-fault element-copy-out-move-fault-2
+    (λ c κs. search needs) (λ c. search needs) (λ c. omega arith) (λ c. omega arith) returns (λ c. search needs) (λ c. omega arith)
+    (λ c. omega arith) (λ c. omega arith) (λ c. omega arith) loop-again returns-2)

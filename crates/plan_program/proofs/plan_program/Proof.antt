@@ -7,12 +7,6 @@ use borrow.Author.Needs.{needs}
 use Rattle.plan_program.proofs.plan_program.Statement.{statement}
 use Rattle.plan_program.proofs.plan_program.Tie as tie
 
-make-requires : tie.Need-make-requires
-make-requires c κs = search needs
-
-enum-known-moves : tie.Need-enum-known-moves
-enum-known-moves c = search needs
-
 mul-result : tie.Need-mul-result
 mul-result c = let few = moves-few (rw (c .before .moves .given .1) at (c .before .before .before .make .ensures)) in
     omega arith
@@ -24,12 +18,6 @@ add-result c = let few = moves-few (rw (c .before .moves .given .1) at (c .befor
 add-result-2 : tie.Need-add-result-2
 add-result-2 c = let few = moves-few (rw (c .before .moves .given .1) at (c .before .before .before .make .ensures)) in
     omega arith
-
-enum-known-fault : tie.Need-enum-known-fault
-enum-known-fault c = search needs
-
-number-requires : tie.Need-number-requires
-number-requires c κs = search needs
 
 put-refusal-requires : tie.Need-put-refusal-requires
 put-refusal-requires c κs = refusal-fits _ _ (omega arith) (omega arith) _ (omega arith)
@@ -49,13 +37,5 @@ pub plan-program-spec : {M : Type 1} → statement M
 plan-program-spec =
     tie.close
     (tie.spec
-    make-requires
-    enum-known-moves
-    mul-result
-    add-result
-    add-result-2
-    enum-known-fault
-    number-requires
-    put-refusal-requires
-    returns
-    returns-2)
+    (λ c κs. search needs) (λ c. search needs) mul-result add-result add-result-2 (λ c. search needs) (λ c κs. search needs)
+    put-refusal-requires returns returns-2)

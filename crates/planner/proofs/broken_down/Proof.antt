@@ -71,9 +71,6 @@ solve-requires c κs =
       ),
     )
 
-same-length : tie.Need-same-length
-same-length c = search needs
-
 returns : tie.Need-returns
 returns c =
     let solved = c .before .before in
@@ -95,11 +92,4 @@ returns c =
 
 pub broken-down-spec : {M : Type 1} → statement M
 broken-down-spec =
-    tie.close
-    (tie.spec
-    fill-requires
-    fill-requires-2
-    break-down-requires
-    solve-requires
-    same-length
-    returns)
+    tie.close (tie.spec fill-requires fill-requires-2 break-down-requires solve-requires (λ c. search needs) returns)

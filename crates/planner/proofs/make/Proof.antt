@@ -115,20 +115,6 @@ pub make-spec : {M : Type 1} → statement M
 make-spec =
     tie.close
     (tie.spec
-    (λ c κs. search needs)
-    (λ c. search needs)
-    (λ c. search needs)
-    (λ c κs. search needs)
-    returns
-    mul-if1
-    mul-if1-2
-    mul-if1-3
-    add-if1
-    returns-2
-    (λ c. search needs)
-    (λ c. search needs)
-    (λ c. search needs)
-    plan-moves-requires
-    put-head-requires
-    (λ c. search needs)
+    (λ c κs. search needs) (λ c. search needs) (λ c. search needs) (λ c κs. search needs) returns mul-if1 mul-if1-2 mul-if1-3 add-if1
+    returns-2 (λ c. search needs) (λ c. search needs) (λ c. search needs) plan-moves-requires put-head-requires (λ c. search needs)
     returns-3)

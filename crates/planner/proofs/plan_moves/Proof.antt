@@ -6,9 +6,6 @@ use borrow.Author.Needs.{needs}
 use Rattle.planner.proofs.plan_moves.Statement.{statement}
 use Rattle.planner.proofs.plan_moves.Tie as tie
 
-same-tables-requires : tie.Need-same-tables-requires
-same-tables-requires c κs = search needs
-
 returns : tie.Need-returns
 returns c =
     let judged = c .before in
@@ -33,12 +30,6 @@ round-requires c κs =
       ),
     )
 
-same-length : tie.Need-same-length
-same-length c = search needs
-
-returns-2 : tie.Need-returns-2
-returns-2 c = search needs
-
 broken-down-requires : tie.Need-broken-down-requires
 broken-down-requires c κs =
     let test = c .before .before in
@@ -51,21 +42,9 @@ broken-down-requires c κs =
       ),
     )
 
-same-length-2 : tie.Need-same-length-2
-same-length-2 c = search needs
-
-returns-3 : tie.Need-returns-3
-returns-3 c = search needs
-
 pub plan-moves-spec : {M : Type 1} → statement M
 plan-moves-spec =
     tie.close
     (tie.spec
-    same-tables-requires
-    returns
-    round-requires
-    same-length
-    returns-2
-    broken-down-requires
-    same-length-2
-    returns-3)
+    (λ c κs. search needs) returns round-requires (λ c. search needs) (λ c. search needs) broken-down-requires (λ c. search needs)
+    (λ c. search needs))

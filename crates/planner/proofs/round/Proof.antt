@@ -68,17 +68,14 @@ solve-requires c κs =
                     (v .circle .result) (made .0) (made .1) p q from to .1
                     (ring-order o (e .args .n) (e .args .e) (e .args .m) (t .gave) (t .can) (e .pre .1 .1 .0))),
                 round-room (e .args .n) three _ (e .args .tail .now)
-                    (start-holds o (e .args .n) (e .args .e) (e .args .m) (t .gave) (e .args .starts) (t .starts-are) .size) (omega arith) refl
-                    (e .pre .1 .1 .1),
+                    (start-holds o (e .args .n) (e .args .e) (e .args .m) (t .gave) (e .args .starts) (t .starts-are) .size)
+                    (omega arith) refl (e .pre .1 .1 .1),
               ),
             ),
           ),
         ),
       ),
     )
-
-same-length : tie.Need-same-length
-same-length c = search needs
 
 returns : tie.Need-returns
 returns c =
@@ -104,4 +101,4 @@ returns c =
     }
 
 pub round-spec : {M : Type 1} → statement M
-round-spec = tie.close (tie.spec circle-requires solve-requires same-length returns)
+round-spec = tie.close (tie.spec circle-requires solve-requires (λ c. search needs) returns)

@@ -7,14 +7,8 @@ use Rattle.ring.proofs.ahead.Tie as tie
 returns : tie.Need-returns
 returns c = rw (le-leb _ _ (c .if1 .taken))
 
-add-result : tie.Need-add-result
-add-result c = search needs
-
-sub-result : tie.Need-sub-result
-sub-result c = search needs
-
 returns-2 : tie.Need-returns-2
 returns-2 c = rw (lt-leb _ _ (c .if1 .left))
 
 pub ahead-spec : {M : Type 1} → statement M
-ahead-spec = tie.close (tie.spec returns add-result sub-result returns-2)
+ahead-spec = tie.close (tie.spec returns (λ c. search needs) (λ c. search needs) returns-2)

@@ -16,9 +16,6 @@ Inv-loop rows n at₀ last₀ onward₀ k₀ at last onward k =
 abbrev μ-loop : tie.MeasureT-loop
 μ-loop rows n at₀ last₀ onward₀ k₀ at last onward k = n - k
 
-element-copy-out-onward : tie.Need-element-copy-out-onward Inv-loop μ-loop
-element-copy-out-onward c = omega arith
-
 loop-holds : tie.Need-loop-holds Inv-loop μ-loop
 loop-holds c = λ R C. following-first R C
 
@@ -26,17 +23,8 @@ lowest-requires : tie.Need-lowest-requires Inv-loop μ-loop
 lowest-requires c κs = let at-loop = c .before in let pre = at-loop .before .before .pre in
     following-some (pre .0) (pre .1) (at-loop .loop .inv (pre .0) (pre .1))
 
-cast-at : tie.Need-cast-at Inv-loop μ-loop
-cast-at c = omega arith
-
 array-write-at : tie.Need-array-write-at Inv-loop μ-loop
 array-write-at c = let at-loop = c .before .before in let pre = at-loop .before .before .pre in let small = pre .0 .small in omega arith
-
-mul-without : tie.Need-mul-without Inv-loop μ-loop
-mul-without c = omega arith
-
-element-copy-out-without : tie.Need-element-copy-out-without Inv-loop μ-loop
-element-copy-out-without c = omega arith
 
 without-requires : tie.Need-without-requires Inv-loop μ-loop
 without-requires c κs = let at-loop = c .before .before .before in let pre = at-loop .before .before .pre in
@@ -45,9 +33,6 @@ without-requires c κs = let at-loop = c .before .before .before in let pre = at
 add-k : tie.Need-add-k Inv-loop μ-loop
 add-k c = let at-loop = c .before .before .before .before in let pre = at-loop .before .before .pre in let small = pre .0 .small in omega
     arith
-
-loop-less : tie.Need-loop-less Inv-loop μ-loop
-loop-less c = omega arith
 
 loop-again : tie.Need-loop-again Inv-loop μ-loop
 loop-again c =
@@ -69,17 +54,5 @@ pub circle-spec : {M : Type 1} → statement M
 circle-spec =
     tie.close
     (tie.spec
-    Inv-loop
-    μ-loop
-    element-copy-out-onward
-    loop-holds
-    lowest-requires
-    cast-at
-    array-write-at
-    mul-without
-    element-copy-out-without
-    without-requires
-    add-k
-    loop-less
-    loop-again
-    returns)
+    Inv-loop μ-loop (λ c. omega arith) loop-holds lowest-requires (λ c. omega arith) array-write-at (λ c. omega arith) (λ c. omega arith)
+    without-requires add-k (λ c. omega arith) loop-again returns)

@@ -5,14 +5,8 @@ use Rattle.ring.proofs.OrderLaws.{first}
 use Rattle.ring.proofs.distance.Statement.{statement}
 use Rattle.ring.proofs.distance.Tie as tie
 
-element-copy-out-ahead : tie.Need-element-copy-out-ahead
-element-copy-out-ahead c = search needs
-
 cast-ahead : tie.Need-cast-ahead
 cast-ahead c = let e = c .before in omega (arith, e .pre .0, e .pre .1 .1 .below 1 (first (e .pre .1 .0)))
-
-element-copy-out-ahead-2 : tie.Need-element-copy-out-ahead-2
-element-copy-out-ahead-2 c = search needs
 
 cast-ahead-2 : tie.Need-cast-ahead-2
 cast-ahead-2 c = let e = c .before .before in omega (arith, e .pre .0, e .pre .1 .1 .below (e .args .r) (e .pre .1 .0))
@@ -24,16 +18,6 @@ ahead-requires c κs =
     let rack = e .pre .1 .0 in
     (e .pre .0 .0, (w .below 1 (first rack), w .below (e .args .r) rack))
 
-returns : tie.Need-returns
-returns c = search needs
-
 pub distance-spec : {M : Type 1} → statement M
 distance-spec =
-    tie.close
-    (tie.spec
-    element-copy-out-ahead
-    cast-ahead
-    element-copy-out-ahead-2
-    cast-ahead-2
-    ahead-requires
-    returns)
+    tie.close (tie.spec (λ c. search needs) cast-ahead (λ c. search needs) cast-ahead-2 ahead-requires (λ c. search needs))

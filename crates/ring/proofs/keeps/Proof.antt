@@ -83,15 +83,5 @@ pub keeps-spec : {M : Type 1} → statement M
 keeps-spec =
     tie.close
     (tie.spec
-    Inv-loop
-    μ-loop
-    distance-requires
-    distance-requires-2
-    loop-holds
-    distance-requires-3
-    distance-requires-4
-    returns
-    add-q
-    loop-less
-    loop-again
-    returns-2)
+    Inv-loop μ-loop distance-requires distance-requires-2 loop-holds distance-requires-3 distance-requires-4 returns add-q loop-less
+    loop-again returns-2)

@@ -42,12 +42,6 @@ cast-place c = let few = c .before .before .before .before .pre .few in omega ar
 array-write-place : tie.Need-array-write-place Inv-loop μ-loop
 array-write-place c = let at-loop = c .before .before .before in at-loop .before .pre .small (at-loop .loop .i) (omega arith)
 
-add-i : tie.Need-add-i Inv-loop μ-loop
-add-i c = omega arith
-
-loop-less : tie.Need-loop-less Inv-loop μ-loop
-loop-less c = omega arith
-
 loop-again : tie.Need-loop-again Inv-loop μ-loop
 loop-again c =
     let at-loop = c .before .before .before in
@@ -68,16 +62,5 @@ pub places-spec : {M : Type 1} → statement M
 places-spec =
     tie.close
     (tie.spec
-    Inv-loop
-    μ-loop
-    loop-holds
-    element-copy-out-p
-    cast-p
-    element-copy-out-rack
-    cast-rack
-    cast-place
-    array-write-place
-    add-i
-    loop-less
-    loop-again
-    returns)
+    Inv-loop μ-loop loop-holds element-copy-out-p cast-p element-copy-out-rack cast-rack cast-place array-write-place (λ c. omega arith)
+    (λ c. omega arith) loop-again returns)

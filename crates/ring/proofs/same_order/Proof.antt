@@ -62,14 +62,4 @@ returns-2 c =
 
 pub same-order-spec : {M : Type 1} → statement M
 same-order-spec =
-    tie.close
-    (tie.spec
-    Inv-loop
-    μ-loop
-    loop-holds
-    keeps-requires
-    returns
-    add-r
-    loop-less
-    loop-again
-    returns-2)
+    tie.close (tie.spec Inv-loop μ-loop loop-holds keeps-requires returns add-r loop-less loop-again returns-2)

@@ -1,103 +1,98 @@
 -- `scheduling::fill` meets its contract. The loop's invariant: what is left to pass decides the pass at the end. Assumes nothing.
-use Prim.Native.Nat.{_≤_, _-_}
+use Prim.Native.Nat.{_≤_, _-_, _*_, _+_}
 use native.Mathlib.Omega.{arith}
-use Rattle.field.proofs.ListedLaws.{room-at}
 use borrow.Author.Needs.{needs}
-use Rattle.scheduling.specs.Filling.{turnNumber}
+use Rattle.field.proofs.ListedLaws.{room-at}
 use Rattle.scheduling.specs.Rows.{KeepsLeft}
-use Rattle.scheduling.proofs.Passing.{ToPass, pass-first, pass-next, pass-last}
+use Rattle.scheduling.proofs.Passing.{ToPass, pass-first, pass-next, pass-last, row-early, row-left-early}
 use Rattle.scheduling.proofs.fill.Statement.{statement}
 use Rattle.scheduling.proofs.fill.Tie as tie
 
 abbrev Inv-loop : tie.InvT-loop
-Inv-loop tail named k first window₀ leaving₀ arrived₀ left₀ greatest₀ j₀ window leaving arrived left greatest j =
-    (j ≤ k) × ToPass tail named k first window₀ window arrived left greatest j × KeepsLeft window₀ leaving₀ window leaving
+Inv-loop tail named from end first row₀ window₀ leaving₀ greatest₀ due₀ j₀ row window leaving greatest due j =
+    (j ≤ end) × ToPass tail named from end first row₀ window₀ row window greatest due j × KeepsLeft window₀ leaving₀ window leaving
 
 abbrev μ-loop : tie.MeasureT-loop
-μ-loop tail named k first window₀ leaving₀ arrived₀ left₀ greatest₀ j₀ window leaving arrived left greatest j = k - j
+μ-loop tail named from end first row₀ window₀ leaving₀ greatest₀ due₀ j₀ row window leaving greatest due j =
+    end - j
+
+-- the numbers that a turn reads of the row are small
+module _ (read : tie.After-wide Inv-loop μ-loop) where
+  abbrev moved : tie.After-move-at Inv-loop μ-loop
+  moved = read .before .before
+
+  abbrev turn : tie.At-loop Inv-loop μ-loop
+  turn = moved .before .before
+
+  arrived-few : read .wide .result ≤ turn .loop .j
+  arrived-few = omega (
+    arith,
+    read .wide .ensures,
+    row-early _ _ _ _ _ _ _ (turn .loop .row) _ _ _ (turn .loop .j) (turn .loop .inv .1) (moved .move-at .result .first) (omega arith),
+  )
+
+left-few : (c : tie.After-wide2 Inv-loop μ-loop) → c .wide2 .result ≤ 8 * turn (c .before .before) .loop .j + 7
+left-few c =
+    let l = turn (c .before .before) .loop in
+    omega (
+      arith,
+      c .wide2 .ensures,
+      row-left-early _ _ _ _ _ _ _ (l .row) _ _ _ (l .j) (l .inv .1) (moved (c .before .before) .move-at .result .second),
+    )
+
+-- so a turn is no later than the moves so far let it be
+turn-few : (c : tie.After-later Inv-loop μ-loop) → c .later .result ≤ 8 * turn (c .before .before .before) .loop .j + 8
+turn-few c = omega (arith, c .later .ensures, arrived-few (c .before .before .before), left-few (c .before))
 
 loop-holds : tie.Need-loop-holds Inv-loop μ-loop
 loop-holds c =
     let s = c .before .args in
-    (omega arith, pass-first (s .tail .now) (s .named) (s .k) (s .first) (s .window .now), λ left. left)
+    let start = pass-first (s .tail .now) (s .named) (s .from) (s .end) (s .first) (s .row .now) (s .window .now) _ (c .before .pre .1) in
+    (omega arith, start, λ left. left)
 
 move-at-requires : tie.Need-move-at-requires Inv-loop μ-loop
 move-at-requires c κs =
     let turn = c .before in
     let entry = turn .before .before in
-    room-at (entry .args .named) (turn .loop .j) (entry .args .k) _ (c .loop-test .taken) (entry .pre .1)
+    room-at (entry .args .named) (turn .loop .j) (entry .args .end) _ (c .loop-test .taken) (entry .pre .0 .2)
+
+add-later : tie.Need-add-later Inv-loop μ-loop
+add-later c = omega (arith, arrived-few c)
 
 mul-later : tie.Need-mul-later Inv-loop μ-loop
-mul-later c = omega arith
-
-array-read-later : tie.Need-array-read-later Inv-loop μ-loop
-array-read-later c = omega arith
-
--- a turn is no later than the moves so far let it be
-add-later : tie.Need-add-later Inv-loop μ-loop
-add-later c = omega (arith, c .before .before .loop .inv .1 .early .arrivals (c .move-at .result .first))
-
-mul-later-2 : tie.Need-mul-later-2 Inv-loop μ-loop
-mul-later-2 c = omega (arith, c .before .before .loop .inv .1 .early .arrivals (c .move-at .result .first))
-
-mul-later-3 : tie.Need-mul-later-3 Inv-loop μ-loop
-mul-later-3 c = omega arith
-
-array-read-later-2 : tie.Need-array-read-later-2 Inv-loop μ-loop
-array-read-later-2 c = omega arith
+mul-later c = omega (arith, arrived-few c)
 
 add-later-2 : tie.Need-add-later-2 Inv-loop μ-loop
-unfolding turnNumber
-add-later-2 c = omega (arith, c .before .before .loop .inv .1 .early .leavings (c .move-at .result .second))
+add-later-2 c = omega (arith, left-few c)
 
-later-requires : tie.Need-later-requires Inv-loop μ-loop
-later-requires c κs = search needs
+cast-row : tie.Need-cast-row Inv-loop μ-loop
+cast-row c = omega (arith, turn-few c)
 
-mul-arrived : tie.Need-mul-arrived Inv-loop μ-loop
-mul-arrived c = omega arith
-
-array-write-arrived : tie.Need-array-write-arrived Inv-loop μ-loop
-array-write-arrived c = omega arith
-
-mul-left : tie.Need-mul-left Inv-loop μ-loop
-mul-left c = omega arith
-
-array-write-left : tie.Need-array-write-left Inv-loop μ-loop
-array-write-left c = omega arith
-
-note-requires : tie.Need-note-requires Inv-loop μ-loop
-note-requires c κs = (omega arith, omega arith)
-
-later-requires-2 : tie.Need-later-requires-2 Inv-loop μ-loop
-later-requires-2 c κs = search needs
-
-add-j : tie.Need-add-j Inv-loop μ-loop
-add-j c = omega arith
-
-loop-less : tie.Need-loop-less Inv-loop μ-loop
-loop-less c = omega arith
+cast-row-2 : tie.Need-cast-row-2 Inv-loop μ-loop
+cast-row-2 c = omega (arith, turn-few c)
 
 loop-again : tie.Need-loop-again Inv-loop μ-loop
 loop-again c =
-    let at-note = c .before in let step = at-note .before .before .before in let move-at = step .before in
-    let turn = move-at .before .before in let entry = turn .before .before in
-    let s = entry .args in
-    let l = turn .loop in
-    let pair = move-at .move-at in
-    let note = at-note .note in (
+    let least = c .before .before .before in let made = least .before in let read = made .before .before .before in
+    let l = turn read .loop in
+    let s = turn read .before .before .args in
+    let pair = moved read .move-at in
+    let entered = c .enter in (
       omega arith,
-      pass-next (s .tail .now) (s .named) (s .k) (s .first) (s .window .now) (l .window) (l .arrived) (l .left) (l .greatest) (l .j)
-          (l .inv .1) (omega arith) (pair .result .first) (pair .result .second) (pair .ensures .first-is) (pair .ensures .second-is)
-          (step .later .result) (step .later .ensures) (note .last .0) (note .ensures .0) (c .later2 .result) (c .later2 .ensures),
-      λ left. note .ensures .1 (l .inv .2 left),
+      pass-next (s .tail .now) (s .named) (s .from) (s .end) (s .first) (s .row .now) (s .window .now) (l .row) (l .window) (l .greatest)
+          (l .due) (l .j) (l .inv .1) (omega arith) (pair .result .first) (pair .result .second) (pair .ensures .first-is)
+          (pair .ensures .second-is) (omega arith) (omega arith) (made .later .result)
+          (omega (arith, made .later .ensures, read .wide .ensures, made .before .wide2 .ensures)) _ (entered .ensures .0 .0)
+          (least .later2 .result) (least .later2 .ensures) (entered .result) (entered .ensures .0 .1) (entered .ensures .0 .2),
+      λ left. entered .ensures .1 (l .inv .2 left),
     )
 
 returns : tie.Need-returns Inv-loop μ-loop
 returns c =
     let s = c .before .before .before .args in
     let l = c .before .loop in (
-      pass-last (s .tail .now) (s .named) (s .k) (s .first) (s .window .now) (l .window) (l .arrived) (l .left) (l .greatest) (l .j)
-          (l .inv .1) (omega arith),
+      pass-last (s .tail .now) (s .named) (s .from) (s .end) (s .first) (s .row .now) (s .window .now) (l .row) (l .window) (l .greatest)
+          (l .due) (l .j) (l .inv .1) (omega arith),
       l .inv .2,
     )
 
@@ -105,25 +100,7 @@ pub fill-spec : {M : Type 1} → statement M
 fill-spec =
     tie.close
     (tie.spec
-    Inv-loop
-    μ-loop
-    loop-holds
-    move-at-requires
-    mul-later
-    array-read-later
-    add-later
-    mul-later-2
-    mul-later-3
-    array-read-later-2
-    add-later-2
-    later-requires
-    mul-arrived
-    array-write-arrived
-    mul-left
-    array-write-left
-    note-requires
-    later-requires-2
-    add-j
-    loop-less
-    loop-again
-    returns)
+    Inv-loop μ-loop loop-holds move-at-requires (λ c. omega arith) (λ c. omega arith) (λ c κs. search needs) add-later mul-later
+    (λ c. omega arith) (λ c. omega arith) (λ c. omega arith) (λ c κs. search needs) add-later-2 (λ c κs. search needs) cast-row
+    (λ c. omega arith) (λ c. omega arith) cast-row-2 (λ c. omega arith) (λ c. omega arith) (λ c. omega arith) (λ c κs. search needs)
+    (λ c κs. search needs) (λ c. omega arith) (λ c. omega arith) loop-again returns)

@@ -118,19 +118,6 @@ pub make-spec : {M : Type 1} → statement M
 make-spec =
     tie.close
     (tie.spec
-    (λ c κs. search needs)
-    (λ c. search needs)
-    (λ c. search needs)
-    (λ c κs. search needs)
-    returns
-    mul-if1
-    add-if1
-    returns-2
-    names-racks-requires
-    sub-make-steps
-    part-make-steps-start
-    (λ c. search needs)
-    make-steps-requires
-    put-head-requires
-    (λ c. search needs)
+    (λ c κs. search needs) (λ c. search needs) (λ c. search needs) (λ c κs. search needs) returns mul-if1 add-if1 returns-2
+    names-racks-requires sub-make-steps part-make-steps-start (λ c. search needs) make-steps-requires put-head-requires (λ c. search needs)
     returns-3)

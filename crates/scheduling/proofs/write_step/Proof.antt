@@ -18,31 +18,10 @@ Inv-loop window leaving row buffer₀ at base count₀ rest₀ buffer count rest
 abbrev μ-loop : tie.MeasureT-loop
 μ-loop window leaving row buffer₀ at base count₀ rest₀ buffer count rest = ones rest
 
-mul-base : tie.Need-mul-base Inv-loop μ-loop
-mul-base c = omega arith
-
-mul-rest : tie.Need-mul-rest Inv-loop μ-loop
-mul-rest c = omega arith
-
-element-copy-out-rest : tie.Need-element-copy-out-rest Inv-loop μ-loop
-element-copy-out-rest c = omega arith
-
 loop-holds : tie.Need-loop-holds Inv-loop μ-loop
 loop-holds c =
     let s = c .before .before in
     rest-first (s .args .window .now) (s .args .row) (s .args .buffer .now) (s .args .at) _ (s .pre .1 .1) (s .pre .0 .0)
-
-lowest-requires : tie.Need-lowest-requires Inv-loop μ-loop
-lowest-requires c κs = omega arith
-
-add-wide : tie.Need-add-wide Inv-loop μ-loop
-add-wide c = omega arith
-
-element-copy-out-wide : tie.Need-element-copy-out-wide Inv-loop μ-loop
-element-copy-out-wide c = omega arith
-
-wide-requires : tie.Need-wide-requires Inv-loop μ-loop
-wide-requires c κs = search needs
 
 add-put-pair : tie.Need-add-put-pair Inv-loop μ-loop
 add-put-pair c =
@@ -105,9 +84,6 @@ add-count c =
     let turn = lowest .before .before in let entry = turn .before .before .before in
     let least = lowest .lowest .ensures in
     omega (arith, rest-few _ _ _ _ _ _ _ (turn .loop .inv) (lowest .lowest .result) (least .1 .0) (least .1 .1) (entry .pre .0 .1))
-
-without-requires : tie.Need-without-requires Inv-loop μ-loop
-without-requires c κs = omega arith
 
 loop-less : tie.Need-loop-less Inv-loop μ-loop
 loop-less c =
@@ -187,31 +163,7 @@ pub write-step-spec : {M : Type 1} → statement M
 write-step-spec =
     tie.close
     (tie.spec
-    Inv-loop
-    μ-loop
-    mul-base
-    mul-rest
-    element-copy-out-rest
-    loop-holds
-    lowest-requires
-    add-wide
-    element-copy-out-wide
-    wide-requires
-    add-put-pair
-    sub-put-pair
-    part-put-pair-start
-    part-put-pair-end
-    sub-put-pair-2
-    put-pair-requires
-    add-count
-    without-requires
-    loop-less
-    loop-again
-    cast-buffer
-    slice-write-buffer
-    add-result
-    mul-result
-    add-result-2
-    add-result-3
-    same-length
-    returns)
+    Inv-loop μ-loop (λ c. omega arith) (λ c. omega arith) (λ c. omega arith) loop-holds (λ c κs. omega arith) (λ c. omega arith)
+    (λ c. omega arith) (λ c κs. search needs) add-put-pair sub-put-pair part-put-pair-start part-put-pair-end sub-put-pair-2
+    put-pair-requires add-count (λ c κs. omega arith) loop-less loop-again cast-buffer slice-write-buffer add-result mul-result add-result-2
+    add-result-3 same-length returns)

@@ -22,12 +22,6 @@ write-step-requires c κs =
     let l = round .loop in
     ((omega arith, rows-room _ _ _ _ (entry .pre .0 .1) (l .buffer) (l .next) (l .row) (l .inv .1) (omega arith)), entry .pre .1)
 
-add-row : tie.Need-add-row Inv-loop μ-loop
-add-row c = omega arith
-
-loop-less : tie.Need-loop-less Inv-loop μ-loop
-loop-less c = omega arith
-
 loop-again : tie.Need-loop-again Inv-loop μ-loop
 loop-again c =
     let write-step = c .before .before in let turn = write-step .before .before .before in
@@ -55,14 +49,4 @@ returns c =
 
 pub write-window-spec : {M : Type 1} → statement M
 write-window-spec =
-    tie.close
-    (tie.spec
-    Inv-loop
-    μ-loop
-    loop-holds
-    write-step-requires
-    add-row
-    loop-less
-    loop-again
-    same-length
-    returns)
+    tie.close (tie.spec Inv-loop μ-loop loop-holds write-step-requires (λ c. omega arith) (λ c. omega arith) loop-again same-length returns)

@@ -8,8 +8,5 @@ use Rattle.sets.proofs.size.Tie as tie
 cast-result : tie.Need-cast-result
 cast-result c = record { fits = omega (arith, ones-le 64 (c .args .s) (c .fits .s .fits)) }
 
-returns : tie.Need-returns
-returns c = refl
-
 pub size-spec : {M : Type 1} → statement M
-size-spec = tie.close (tie.spec cast-result returns)
+size-spec = tie.close (tie.spec cast-result (λ c. refl))

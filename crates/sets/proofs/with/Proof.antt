@@ -4,11 +4,8 @@ use borrow.Author.Needs.{needs}
 use Rattle.sets.proofs.with.Statement.{statement}
 use Rattle.sets.proofs.with.Tie as tie
 
-only-requires : tie.Need-only-requires
-only-requires c κs = search needs
-
 returns : tie.Need-returns
 returns c p = with-is (c .before .args .s) (c .only .result) (c .before .args .v) p (c .only .ensures p)
 
 pub with-spec : {M : Type 1} → statement M
-with-spec = tie.close (tie.spec only-requires returns)
+with-spec = tie.close (tie.spec (λ c κs. search needs) returns)

@@ -4,12 +4,6 @@ use borrow.Author.Needs.{needs}
 use Rattle.sets.proofs.without.Statement.{statement}
 use Rattle.sets.proofs.without.Tie as tie
 
-only-requires : tie.Need-only-requires
-only-requires c κs = search needs
-
-minus-requires : tie.Need-minus-requires
-minus-requires c κs = search needs
-
 returns : tie.Need-returns
 returns c p =
     let args = c .before .before .args in
@@ -17,4 +11,4 @@ returns c p =
     without-is (args .s) (only .result) (args .v) (c .minus .result) p (only .ensures p) (c .minus .ensures p)
 
 pub without-spec : {M : Type 1} → statement M
-without-spec = tie.close (tie.spec only-requires minus-requires returns)
+without-spec = tie.close (tie.spec (λ c κs. search needs) (λ c κs. search needs) returns)

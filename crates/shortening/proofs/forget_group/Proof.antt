@@ -5,27 +5,6 @@ use borrow.Author.Needs.{needs}
 use Rattle.shortening.proofs.forget_group.Statement.{statement}
 use Rattle.shortening.proofs.forget_group.Tie as tie
 
-returns : tie.Need-returns
-returns c = search needs
-
-mul-minus : tie.Need-mul-minus
-mul-minus c = search needs
-
-slice-read-minus : tie.Need-slice-read-minus
-slice-read-minus c = search needs
-
-minus-requires : tie.Need-minus-requires
-minus-requires c κs = search needs
-
-mul-groups : tie.Need-mul-groups
-mul-groups c = search needs
-
-slice-write-groups : tie.Need-slice-write-groups
-slice-write-groups c = search needs
-
-same-length : tie.Need-same-length
-same-length c = search needs
-
 returns-2 : tie.Need-returns-2
 returns-2 c =
     let tested = c .before .before in
@@ -36,11 +15,5 @@ pub forget-group-spec : {M : Type 1} → statement M
 forget-group-spec =
     tie.close
     (tie.spec
-    returns
-    mul-minus
-    slice-read-minus
-    minus-requires
-    mul-groups
-    slice-write-groups
-    same-length
-    returns-2)
+    (λ c. search needs) (λ c. search needs) (λ c. search needs) (λ c κs. search needs) (λ c. search needs) (λ c. search needs)
+    (λ c. search needs) returns-2)

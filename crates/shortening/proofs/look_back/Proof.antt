@@ -23,9 +23,6 @@ loop-holds c =
     let entry = c .before .before .before .before in
     (le-refl (entry .args .from), entry .pre .1 .0, entry .pre .1 .1, refl, refl)
 
-sub-touching : tie.Need-sub-touching Inv-loop μ-loop
-sub-touching c = omega arith
-
 touching-requires : tie.Need-touching-requires Inv-loop μ-loop
 touching-requires c κs =
     let turn = c .before in
@@ -51,21 +48,6 @@ returns c =
           (call .touching .ensures .0 (c .if1 .taken)),
       inv .1,
     )
-
-sub-back : tie.Need-sub-back Inv-loop μ-loop
-sub-back c = omega arith
-
-back-requires : tie.Need-back-requires Inv-loop μ-loop
-back-requires c κs = omega arith
-
-forget-block-requires : tie.Need-forget-block-requires Inv-loop μ-loop
-forget-block-requires c κs = omega arith
-
-forget-group-requires : tie.Need-forget-group-requires Inv-loop μ-loop
-forget-group-requires c κs = omega arith
-
-loop-less : tie.Need-loop-less Inv-loop μ-loop
-loop-less c = omega arith
 
 loop-again : tie.Need-loop-again Inv-loop μ-loop
 loop-again c =
@@ -107,20 +89,5 @@ pub look-back-spec : {M : Type 1} → statement M
 look-back-spec =
     tie.close
     (tie.spec
-    Inv-loop
-    μ-loop
-    loop-holds
-    sub-touching
-    touching-requires
-    same-length
-    same-length-2
-    returns
-    sub-back
-    back-requires
-    forget-block-requires
-    forget-group-requires
-    loop-less
-    loop-again
-    same-length-3
-    same-length-4
-    returns-2)
+    Inv-loop μ-loop loop-holds (λ c. omega arith) touching-requires same-length same-length-2 returns (λ c. omega arith)
+    (λ c κs. omega arith) (λ c κs. omega arith) (λ c κs. omega arith) (λ c. omega arith) loop-again same-length-3 same-length-4 returns-2)

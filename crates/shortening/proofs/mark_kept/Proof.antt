@@ -40,12 +40,6 @@ take-move-requires c κs =
       inv .1,
     )
 
-add-j : tie.Need-add-j Inv-loop μ-loop
-add-j c = omega arith
-
-loop-less : tie.Need-loop-less Inv-loop μ-loop
-loop-less c = omega arith
-
 loop-again : tie.Need-loop-again Inv-loop μ-loop
 loop-again c =
     let took = c .before .before .before .before .before .before in
@@ -74,14 +68,5 @@ pub mark-kept-spec : {M : Type 1} → statement M
 mark-kept-spec =
     tie.close
     (tie.spec
-    Inv-loop
-    μ-loop
-    loop-holds
-    take-move-requires
-    add-j
-    loop-less
-    loop-again
-    same-length
-    same-length-2
-    same-length-3
+    Inv-loop μ-loop loop-holds take-move-requires (λ c. omega arith) (λ c. omega arith) loop-again same-length same-length-2 same-length-3
     returns)

@@ -37,18 +37,6 @@ count c = c .before .below .given .0 .0
 read : (c : tie.After-known-told) → accepted (count c ∷ []) ≡ planAnswer (order c) (plan c)
 read c = ap planAnswerOf (sym (c .before .below .given .1)) ∙ checked c .check .ensures
 
-check-requires : tie.Need-check-requires
-check-requires c κs = search needs
-
-enum-known-below : tie.Need-enum-known-below
-enum-known-below c = search needs
-
-enum-told : tie.Need-enum-told
-enum-told c = search needs
-
-passed-up-requires : tie.Need-passed-up-requires
-passed-up-requires c κs = search needs
-
 returns : tie.Need-returns
 returns c =
     let told = c .before in
@@ -71,9 +59,6 @@ sub-shorten-moves c = let told = c .before .before in head-there (order told) (p
 part-shorten-moves-start : tie.Need-part-shorten-moves-start
 part-shorten-moves-start c = let told = c .before .before in head-there (order told) (plan told) (count told) (read told)
 
-part-shorten-moves-end : tie.Need-part-shorten-moves-end
-part-shorten-moves-end c = search needs
-
 sub-shorten-moves-2 : tie.Need-sub-shorten-moves-2
 sub-shorten-moves-2 c =
     let else = c .before .before in
@@ -85,9 +70,6 @@ part-shorten-moves-start-2 c =
     let else = c .before .before in
     let told = else .before in
     part-head (order told) (plan told) (lent told) (count told) (read told) (else .if1 .left)
-
-part-shorten-moves-end-2 : tie.Need-part-shorten-moves-end-2
-part-shorten-moves-end-2 c = search needs
 
 shorten-moves-requires : tie.Need-shorten-moves-requires
 shorten-moves-requires c κs =
@@ -112,9 +94,6 @@ put-head-requires c κs =
     (named .names-racks .ensures) (wrote .shorten-moves .result) (wrote .shorten-moves .last .1 .1 .1 .0) (wrote .shorten-moves .ensures) in
     (part-back (order told) (plan told) (lent told) (count told) (read told) (else .if1 .left) _, few, c .spare-bits .ensures .1)
 
-same-length : tie.Need-same-length
-same-length c = search needs
-
 returns-3 : tie.Need-returns-3
 returns-3 c =
     let put = c .before .before in
@@ -131,21 +110,6 @@ pub shorten-spec : {M : Type 1} → statement M
 shorten-spec =
     tie.close
     (tie.spec
-    check-requires
-    enum-known-below
-    enum-told
-    passed-up-requires
-    returns
-    returns-2
-    names-racks-requires
-    sub-shorten-moves
-    part-shorten-moves-start
-    part-shorten-moves-end
-    sub-shorten-moves-2
-    part-shorten-moves-start-2
-    part-shorten-moves-end-2
-    shorten-moves-requires
-    (λ c κs. search needs)
-    put-head-requires
-    same-length
-    returns-3)
+    (λ c κs. search needs) (λ c. search needs) (λ c. search needs) (λ c κs. search needs) returns returns-2 names-racks-requires
+    sub-shorten-moves part-shorten-moves-start (λ c. search needs) sub-shorten-moves-2 part-shorten-moves-start-2 (λ c. search needs)
+    shorten-moves-requires (λ c κs. search needs) put-head-requires (λ c. search needs) returns-3)

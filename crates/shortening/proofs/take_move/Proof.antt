@@ -208,36 +208,8 @@ pub take-move-spec : {M : Type 1} → statement M
 take-move-spec =
     tie.close
     (tie.spec
-    (λ c κs. search needs)
-    (λ c κs. search needs)
-    (λ c κs. search needs)
-    (λ c. search needs)
-    (λ c. search needs)
-    (λ c. search needs)
-    (λ c. search needs)
-    (λ c κs. search needs)
-    look-back-requires
-    undone-requires
-    sub-gone
-    clear-mark-requires
-    link-requires
-    link-requires-2
-    (λ c κs. search needs)
-    (λ c. search needs)
-    (λ c. search needs)
-    (λ c. search needs)
-    returns
-    set-mark-requires
-    take-in-requires
-    take-in-requires-2
-    (λ c κs. search needs)
-    (λ c κs. search needs)
-    (λ c κs. search needs)
-    (λ c κs. search needs)
-    add-set-two
-    add-set-two-2
-    set-two-requires-2
-    (λ c. search needs)
-    (λ c. search needs)
-    (λ c. search needs)
-    returns-2)
+    (λ c κs. search needs) (λ c κs. search needs) (λ c κs. search needs) (λ c. search needs) (λ c. search needs) (λ c. search needs)
+    (λ c. search needs) (λ c κs. search needs) look-back-requires undone-requires sub-gone clear-mark-requires link-requires link-requires-2
+    (λ c κs. search needs) (λ c. search needs) (λ c. search needs) (λ c. search needs) returns set-mark-requires take-in-requires
+    take-in-requires-2 (λ c κs. search needs) (λ c κs. search needs) (λ c κs. search needs) (λ c κs. search needs) add-set-two add-set-two-2
+    set-two-requires-2 (λ c. search needs) (λ c. search needs) (λ c. search needs) returns-2)

@@ -5,27 +5,12 @@ use borrow.Author.Needs.{needs}
 use Rattle.shortening.proofs.touching.Statement.{statement}
 use Rattle.shortening.proofs.touching.Tie as tie
 
-mul-has : tie.Need-mul-has
-mul-has c = search needs
-
-shared-slice-read-has : tie.Need-shared-slice-read-has
-shared-slice-read-has c = search needs
-
-has-requires : tie.Need-has-requires
-has-requires c κs = search needs
-
 returns : tie.Need-returns
 returns c =
     let call = c .before in
     let entry = call .before .before .before .before .args in
     let moves = listedOf (entry .named) (entry .tail .now) in
     touching-not moves (entry .marks .now) (entry .ends) (entry .i) (call .has .result) (call .has .ensures) (c .if1 .taken)
-
-move-at-requires : tie.Need-move-at-requires
-move-at-requires c κs = search needs
-
-has-requires-2 : tie.Need-has-requires-2
-has-requires-2 c κs = search needs
 
 returns-2 : tie.Need-returns-2
 returns-2 c =
@@ -37,9 +22,6 @@ returns-2 c =
     touching-first moves (entry .marks .now) (entry .ends) (entry .i) (call .has .result) (call .has .ensures)
     (tested .if1 .left) (read .move-at .result .first) (read .move-at .result .second) (move-is _ _ _ _ _ (read .move-at .ensures))
     (c .before .has2 .ensures .0 (c .if2 .taken))
-
-has-requires-3 : tie.Need-has-requires-3
-has-requires-3 c κs = search needs
 
 returns-3 : tie.Need-returns-3
 returns-3 c =
@@ -57,12 +39,5 @@ pub touching-spec : {M : Type 1} → statement M
 touching-spec =
     tie.close
     (tie.spec
-    mul-has
-    shared-slice-read-has
-    has-requires
-    returns
-    move-at-requires
-    has-requires-2
-    returns-2
-    has-requires-3
-    returns-3)
+    (λ c. search needs) (λ c. search needs) (λ c κs. search needs) returns (λ c κs. search needs) (λ c κs. search needs) returns-2
+    (λ c κs. search needs) returns-3)

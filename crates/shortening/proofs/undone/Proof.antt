@@ -13,9 +13,6 @@ returns c =
     let moves = listedOf (entry .named) (entry .tail .now) in
     undone-first moves (entry .at) (entry .a) (entry .b) (c .if1 .taken)
 
-sub-move-at : tie.Need-sub-move-at
-sub-move-at c = search needs
-
 move-at-requires : tie.Need-move-at-requires
 move-at-requires c κs =
     let start = c .before .before in
@@ -39,4 +36,4 @@ returns-3 c =
     (read .move-at .result .second) (move-is _ _ _ _ _ (read .move-at .ensures)) (c .before .if2 .left)
 
 pub undone-spec : {M : Type 1} → statement M
-undone-spec = tie.close (tie.spec returns sub-move-at move-at-requires returns-2 returns-3)
+undone-spec = tie.close (tie.spec returns (λ c. search needs) move-at-requires returns-2 returns-3)

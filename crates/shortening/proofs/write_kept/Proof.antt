@@ -34,14 +34,8 @@ write-one-requires c κs =
       (few, rw (turn .loop .inv .1) (bytes-fewer (entry .named) next (entry .k) _ (omega arith) (start .pre .1))),
     )
 
-add-ahead : tie.Need-add-ahead Inv-loop μ-loop
-add-ahead c = omega arith
-
 ahead-requires : tie.Need-ahead-requires Inv-loop μ-loop
 ahead-requires c κs = (omega arith, omega arith, omega arith)
-
-loop-less : tie.Need-loop-less Inv-loop μ-loop
-loop-less c = omega arith
 
 loop-again : tie.Need-loop-again Inv-loop μ-loop
 loop-again c =
@@ -71,13 +65,4 @@ pub write-kept-spec : {M : Type 1} → statement M
 write-kept-spec =
     tie.close
     (tie.spec
-    Inv-loop
-    μ-loop
-    loop-holds
-    write-one-requires
-    add-ahead
-    ahead-requires
-    loop-less
-    loop-again
-    same-length
-    returns)
+    Inv-loop μ-loop loop-holds write-one-requires (λ c. omega arith) ahead-requires (λ c. omega arith) loop-again same-length returns)

@@ -8,24 +8,12 @@ use borrow.Author.Needs.{needs}
 use Rattle.shortening.proofs.write_one.Statement.{statement}
 use Rattle.shortening.proofs.write_one.Tie as tie
 
-mul-has : tie.Need-mul-has
-mul-has c = search needs
-
-shared-slice-read-has : tie.Need-shared-slice-read-has
-shared-slice-read-has c = search needs
-
-has-requires : tie.Need-has-requires
-has-requires c κs = search needs
-
 returns : tie.Need-returns
 returns c =
     let call = c .before in
     let entry = call .before .before .before .before .before .args in
     λ B same p. write-skipped (entry .named) (entry .tail .now) (entry .marks .now) (entry .i) B (entry .count) (entry .room .now) p
     (λ k. never (call .has .result) (not-true _ (c .if1 .taken)) (call .has .ensures .1 k))
-
-listed-at-requires : tie.Need-listed-at-requires
-listed-at-requires c κs = search needs
 
 put-listed-requires : tie.Need-put-listed-requires
 put-listed-requires c κs =
@@ -35,12 +23,6 @@ put-listed-requires c κs =
       (read .left-below, read .entered-below, rack-fits _ _ _ _ _ _ read),
       bytes-fewer (entry .named) (entry .count + 1) (entry .i + 1) _ (omega (arith, start .pre .1 .0)) (start .pre .1 .1),
     )
-
-add-result : tie.Need-add-result
-add-result c = search needs
-
-same-length : tie.Need-same-length
-same-length c = search needs
 
 returns-2 : tie.Need-returns-2
 returns-2 c =
@@ -60,12 +42,5 @@ pub write-one-spec : {M : Type 1} → statement M
 write-one-spec =
     tie.close
     (tie.spec
-    mul-has
-    shared-slice-read-has
-    has-requires
-    returns
-    listed-at-requires
-    put-listed-requires
-    add-result
-    same-length
-    returns-2)
+    (λ c. search needs) (λ c. search needs) (λ c κs. search needs) returns (λ c κs. search needs) put-listed-requires (λ c. search needs)
+    (λ c. search needs) returns-2)

@@ -188,21 +188,5 @@ pub bring-spec : {M : Type 1} → statement M
 bring-spec =
     tie.close
     (tie.spec
-    Inv-loop
-    μ-loop
-    only-requires
-    search-requires
-    loop-holds
-    sub-a
-    array-read-a
-    cast-a
-    array-read-b
-    cast-b
-    without-requires
-    clear-within-requires
-    make-move-requires
-    add-k
-    loop-less
-    loop-again
-    same-length
-    returns)
+    Inv-loop μ-loop only-requires search-requires loop-holds sub-a array-read-a cast-a array-read-b cast-b without-requires
+    clear-within-requires make-move-requires add-k loop-less loop-again same-length returns)

@@ -26,23 +26,8 @@ found k =
       nearest = k .search .ensures;
     }
 
-vacancies-requires : tie.Need-vacancies-requires
-vacancies-requires c κs = search needs
-
-below-requires : tie.Need-below-requires
-below-requires c κs = search needs
-
-minus-requires : tie.Need-minus-requires
-minus-requires c κs = search needs
-
-search-requires : tie.Need-search-requires
-search-requires c κs = search needs
-
 returns : tie.Need-returns
 returns c = no-way (way-none (found (c .before .before)) (c .if1 .taken))
-
-sub-moves : tie.Need-sub-moves
-sub-moves c = search needs
 
 shift-requires : tie.Need-shift-requires
 shift-requires c κs =
@@ -51,9 +36,6 @@ shift-requires c κs =
     let f = found k in
     let some : 0 < k .search .result .size = omega arith in
     (way-simple f some, (way-shiftable f some, entry k .pre .1 .1 (k .search .result .size - 1) (way-distance f some)))
-
-same-length : tie.Need-same-length
-same-length c = search needs
 
 returns-2 : tie.Need-returns-2
 returns-2 c =
@@ -67,12 +49,5 @@ pub clear-spec : {M : Type 1} → statement M
 clear-spec =
     tie.close
     (tie.spec
-    vacancies-requires
-    below-requires
-    minus-requires
-    search-requires
-    returns
-    sub-moves
-    shift-requires
-    same-length
-    returns-2)
+    (λ c κs. search needs) (λ c κs. search needs) (λ c κs. search needs) (λ c κs. search needs) returns (λ c. search needs) shift-requires
+    (λ c. search needs) returns-2)

@@ -17,12 +17,6 @@ entry k = k .before .before .before
 same : (k : tie.After-minus) (q : ℕ) → Unheld (entry k .args .n) (k .minus .result) q ↔ Has (entry k .args .region) q
 same k = free-within _ _ _ _ (entry k .pre .1 .0) (k .before .below .ensures) (k .minus .ensures)
 
-below-requires : tie.Need-below-requires
-below-requires c κs = search needs
-
-minus-requires : tie.Need-minus-requires
-minus-requires c κs = search needs
-
 clear-requires : tie.Need-clear-requires
 clear-requires c κs =
     let k = c .before .before in
@@ -30,9 +24,6 @@ clear-requires c κs =
     let inside = asked .1 .0 _ (walk-last (asked .1 .1 .0 .1 .walk)) in
     let small = asked .0 .small in
     (asked .0, (omega arith, room-same (λ q. same k q .0) (λ q. same k q .1) (asked .1 .1 .1)))
-
-same-length : tie.Need-same-length
-same-length c = search needs
 
 returns : tie.Need-returns
 returns c =
@@ -42,4 +33,4 @@ returns c =
 
 pub clear-within-spec : {M : Type 1} → statement M
 clear-within-spec =
-    tie.close (tie.spec below-requires minus-requires clear-requires same-length returns)
+    tie.close (tie.spec (λ c κs. search needs) (λ c κs. search needs) clear-requires (λ c. search needs) returns)

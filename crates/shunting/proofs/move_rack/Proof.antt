@@ -10,18 +10,6 @@ use Rattle.shunting.proofs.JourneyLaws.{move-bytes}
 use Rattle.shunting.proofs.move_rack.Statement.{statement}
 use Rattle.shunting.proofs.move_rack.Tie as tie
 
-element-copy-out-rack : tie.Need-element-copy-out-rack
-element-copy-out-rack c = search needs
-
-element-write-racks : tie.Need-element-write-racks
-element-write-racks c = search needs
-
-element-write-racks-2 : tie.Need-element-write-racks-2
-element-write-racks-2 c = search needs
-
-wide-requires : tie.Need-wide-requires
-wide-requires c κs = search needs
-
 returns : tie.Need-returns
 returns c =
     let w = c .before .wide .ensures .0 in
@@ -46,12 +34,6 @@ put-listed-requires c κs =
     rack-some zero n = absurd (n refl)
     rack-some (suc r) n = omega arith
 
-add-result : tie.Need-add-result
-add-result c = search needs
-
-same-length : tie.Need-same-length
-same-length c = search needs
-
 returns-2 : tie.Need-returns-2
 returns-2 c =
     let put = c .before .before in
@@ -72,12 +54,5 @@ pub move-rack-spec : {M : Type 1} → statement M
 move-rack-spec =
     tie.close
     (tie.spec
-    element-copy-out-rack
-    element-write-racks
-    element-write-racks-2
-    wide-requires
-    returns
-    put-listed-requires
-    add-result
-    same-length
-    returns-2)
+    (λ c. search needs) (λ c. search needs) (λ c. search needs) (λ c κs. search needs) returns put-listed-requires (λ c. search needs)
+    (λ c. search needs) returns-2)

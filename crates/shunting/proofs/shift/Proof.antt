@@ -35,9 +35,6 @@ loop-holds c =
     let way = entry .pre .1 .0 in
     (refl, shifting-begin _ _ (entry .pre .0) _ way, shifts-begin _ _ _ _ _ (way .some), entry .pre .1 .1, refl)
 
-sub-i-2 : tie.Need-sub-i-2 Inv-loop μ-loop
-sub-i-2 c = omega arith
-
 element-copy-out-a : tie.Need-element-copy-out-a Inv-loop μ-loop
 element-copy-out-a c =
     let turn = c .before in
@@ -89,9 +86,6 @@ step-requires c κs =
       fits-less 1 (omega arith) (l .inv .3),
     )
 
-loop-less : tie.Need-loop-less Inv-loop μ-loop
-loop-less c = omega arith
-
 loop-again : tie.Need-loop-again Inv-loop μ-loop
 loop-again c =
     let after-step = c .before .before in
@@ -130,18 +124,5 @@ pub shift-spec : {M : Type 1} → statement M
 shift-spec =
     tie.close
     (tie.spec
-    Inv-loop
-    μ-loop
-    sub-i
-    loop-holds
-    sub-i-2
-    element-copy-out-a
-    cast-a
-    add-b
-    element-copy-out-b
-    cast-b
-    step-requires
-    loop-less
-    loop-again
-    same-length
-    returns)
+    Inv-loop μ-loop sub-i loop-holds (λ c. omega arith) element-copy-out-a cast-a add-b element-copy-out-b cast-b step-requires
+    (λ c. omega arith) loop-again same-length returns)

@@ -67,9 +67,6 @@ cast-b c =
     let n = round-below (row (entry .args .cycle .now)) z (entry .args .size) before (entry .pre .0) (turn .loop .i) in
     omega arith
 
-sub-i : tie.Need-sub-i Inv-loop μ-loop
-sub-i c = omega arith
-
 add-a : tie.Need-add-a Inv-loop μ-loop
 add-a c =
     let turn = c .before .before in
@@ -117,9 +114,6 @@ pass-on-requires c κs =
     let u = turn .loop .inv in
     (underway-enterable v (entry .pre .0) u, underway-fits v (entry .pre .0) u (entry .pre .1 .1) (omega arith))
 
-loop-less : tie.Need-loop-less Inv-loop μ-loop
-loop-less c = omega arith
-
 loop-again : tie.Need-loop-again Inv-loop μ-loop
 loop-again c =
     let after-pass-on = c .before .before in
@@ -154,21 +148,5 @@ pub turn-spec : {M : Type 1} → statement M
 turn-spec =
     tie.close
     (tie.spec
-    Inv-loop
-    μ-loop
-    vacancy-on-requires
-    loop-holds
-    add-b
-    rem-b
-    element-copy-out-b
-    cast-b
-    sub-i
-    add-a
-    rem-a
-    element-copy-out-a
-    cast-a
-    pass-on-requires
-    loop-less
-    loop-again
-    same-length
-    returns)
+    Inv-loop μ-loop vacancy-on-requires loop-holds add-b rem-b element-copy-out-b cast-b (λ c. omega arith) add-a rem-a element-copy-out-a
+    cast-a pass-on-requires (λ c. omega arith) loop-again same-length returns)

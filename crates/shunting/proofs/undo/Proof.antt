@@ -21,12 +21,6 @@ loop-holds c =
     let entry = c .before .before in
     taking-begin _ _ _ _ _ (entry .pre .0 .ordered)
 
-sub-i : tie.Need-sub-i Inv-loop μ-loop
-sub-i c = omega arith
-
-mul-x : tie.Need-mul-x Inv-loop μ-loop
-mul-x c = omega arith
-
 element-copy-out-x : tie.Need-element-copy-out-x Inv-loop μ-loop
 element-copy-out-x c =
     let turn = c .before in
@@ -34,15 +28,6 @@ element-copy-out-x c =
     let high = turn .loop .inv .high in
     let within = entry .pre .0 .within in
     omega arith
-
-first-of-requires : tie.Need-first-of-requires Inv-loop μ-loop
-first-of-requires c κs = search needs
-
-second-of-requires : tie.Need-second-of-requires Inv-loop μ-loop
-second-of-requires c κs = search needs
-
-array-read-if1 : tie.Need-array-read-if1 Inv-loop μ-loop
-array-read-if1 c = omega arith
 
 move-rack-requires : tie.Need-move-rack-requires Inv-loop μ-loop
 move-rack-requires c κs =
@@ -54,9 +39,6 @@ move-rack-requires c κs =
     let b = after-second-of .second-of .ensures in
     let space = space-relogged 0 (entry .pre .1 .1) in
     ((omega arith, omega arith, λ z. omega arith), taking-space (turn .loop .inv) (omega arith) (entry .pre .1 .0) space)
-
-loop-less : tie.Need-loop-less Inv-loop μ-loop
-loop-less c = omega arith
 
 loop-again : tie.Need-loop-again Inv-loop μ-loop
 loop-again c =
@@ -71,9 +53,6 @@ loop-again c =
     let space = space-relogged 0 (entry .pre .1 .1) in
     taking-move (turn .loop .inv) (omega arith) a b (λ z. omega arith) (entry .pre .1 .0) space (omega arith) (omega arith)
     (after-move-rack .move-rack .ensures)
-
-loop-less-2 : tie.Need-loop-less-2 Inv-loop μ-loop
-loop-less-2 c = omega arith
 
 loop-again-2 : tie.Need-loop-again-2 Inv-loop μ-loop
 loop-again-2 c =
@@ -100,19 +79,5 @@ pub undo-spec : {M : Type 1} → statement M
 undo-spec =
     tie.close
     (tie.spec
-    Inv-loop
-    μ-loop
-    loop-holds
-    sub-i
-    mul-x
-    element-copy-out-x
-    first-of-requires
-    second-of-requires
-    array-read-if1
-    move-rack-requires
-    loop-less
-    loop-again
-    loop-less-2
-    loop-again-2
-    same-length
-    returns)
+    Inv-loop μ-loop loop-holds (λ c. omega arith) (λ c. omega arith) element-copy-out-x (λ c κs. search needs) (λ c κs. search needs)
+    (λ c. omega arith) move-rack-requires (λ c. omega arith) loop-again (λ c. omega arith) loop-again-2 same-length returns)

@@ -20,12 +20,6 @@ loop-holds c = (omega arith, vacant-none _)
 with-vacancy-requires : tie.Need-with-vacancy-requires Inv-loop μ-loop
 with-vacancy-requires c κs = (omega arith, c .before .loop .inv .1)
 
-add-p : tie.Need-add-p Inv-loop μ-loop
-add-p c = omega arith
-
-loop-less : tie.Need-loop-less Inv-loop μ-loop
-loop-less c = omega arith
-
 loop-again : tie.Need-loop-again Inv-loop μ-loop
 loop-again c = (omega arith, c .with-vacancy .ensures)
 
@@ -35,4 +29,4 @@ returns c = let l = c .before .loop in vacant-all _ (l .p) _ _ (omega arith) (l 
 pub vacancies-spec : {M : Type 1} → statement M
 vacancies-spec =
     tie.close
-    (tie.spec Inv-loop μ-loop loop-holds with-vacancy-requires add-p loop-less loop-again returns)
+    (tie.spec Inv-loop μ-loop loop-holds with-vacancy-requires (λ c. omega arith) (λ c. omega arith) loop-again returns)

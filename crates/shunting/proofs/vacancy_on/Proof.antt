@@ -46,12 +46,6 @@ returns c =
     let at = row (a .cycle .now) in
     sym (placeOf-here (λ j. h (at j)) 0 (l .i) (a .size) (omega arith) (c .if1 .taken)) ∙ l .inv .1
 
-add-i : tie.Need-add-i Inv-loop μ-loop
-add-i c = omega arith
-
-loop-less : tie.Need-loop-less Inv-loop μ-loop
-loop-less c = omega arith
-
 loop-again : tie.Need-loop-again Inv-loop μ-loop
 loop-again c =
     let read = c .before .before .before in
@@ -73,15 +67,5 @@ pub vacancy-on-spec : {M : Type 1} → statement M
 vacancy-on-spec =
     tie.close
     (tie.spec
-    Inv-loop
-    μ-loop
-    loop-holds
-    add-loop
-    element-copy-out-position
-    cast-position
-    element-copy-out-if1
-    returns
-    add-i
-    loop-less
-    loop-again
-    returns-2)
+    Inv-loop μ-loop loop-holds add-loop element-copy-out-position cast-position element-copy-out-if1 returns (λ c. omega arith)
+    (λ c. omega arith) loop-again returns-2)

@@ -28,12 +28,6 @@ element-copy-out-if1 c = let p = c .before .before .pre .0 in omega arith
 returns : tie.Need-returns Inv-loop μ-loop
 returns c = let l = c .before .before .before .loop in record { inside = l .inv .0; there = c .if1 .taken }
 
-add-p : tie.Need-add-p Inv-loop μ-loop
-add-p c = omega arith
-
-loop-less : tie.Need-loop-less Inv-loop μ-loop
-loop-less c = omega arith
-
 loop-again : tie.Need-loop-again Inv-loop μ-loop
 loop-again c =
     let turn = c .before .before .before in
@@ -52,13 +46,4 @@ pub where-is-spec : {M : Type 1} → statement M
 where-is-spec =
     tie.close
     (tie.spec
-    Inv-loop
-    μ-loop
-    loop-holds
-    add-loop
-    element-copy-out-if1
-    returns
-    add-p
-    loop-less
-    loop-again
-    returns-2)
+    Inv-loop μ-loop loop-holds add-loop element-copy-out-if1 returns (λ c. omega arith) (λ c. omega arith) loop-again returns-2)

@@ -5,14 +5,8 @@ use Rattle.shunting.proofs.ClearLaws.{vacant-held, vacant-more}
 use Rattle.shunting.proofs.with_vacancy.Statement.{statement}
 use Rattle.shunting.proofs.with_vacancy.Tie as tie
 
-element-copy-out-if1 : tie.Need-element-copy-out-if1
-element-copy-out-if1 c = search needs
-
 returns : tie.Need-returns
 returns c = let entry = c .before .before in vacant-held _ _ _ (c .if1 .taken) (entry .pre .1)
-
-with-requires : tie.Need-with-requires
-with-requires c κs = search needs
 
 returns-2 : tie.Need-returns-2
 returns-2 c =
@@ -21,4 +15,4 @@ returns-2 c =
     vacant-more _ _ _ _ (branch .if1 .left) (c .with .ensures) (entry .pre .1)
 
 pub with-vacancy-spec : {M : Type 1} → statement M
-with-vacancy-spec = tie.close (tie.spec element-copy-out-if1 returns with-requires returns-2)
+with-vacancy-spec = tie.close (tie.spec (λ c. search needs) returns (λ c κs. search needs) returns-2)

@@ -73,16 +73,5 @@ pub fill-spec : {M : Type 1} → statement M
 fill-spec =
     tie.close
     (tie.spec
-    Inv-loop
-    μ-loop
-    vacancies-requires
-    loop-holds
-    add-loop
-    lowest-requires
-    add-r
-    cast-racks
-    element-write-racks
-    without-requires
-    loop-less
-    loop-again
-    returns)
+    Inv-loop μ-loop vacancies-requires loop-holds add-loop lowest-requires add-r cast-racks element-write-racks without-requires loop-less
+    loop-again returns)

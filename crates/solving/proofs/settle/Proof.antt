@@ -38,9 +38,6 @@ settle-ring-requires c κs =
     let met = ring-met (a .breakdown) (rest .0) (p .0) (p .1 .0) (rest .1 .1 .0) (h .1 .0) (h .1 .1) in
     (met .rows, (met .ring, (met .rest, ring-space (a .breakdown) (rest .0) (space-then (rest .1 .1 .1) (h .0)))))
 
-same-length : tie.Need-same-length
-same-length c = search needs
-
 returns : tie.Need-returns
 returns c =
     let ring = c .before .before in
@@ -53,4 +50,4 @@ returns c =
     (trip-append (h .0) (ring-trip (a .breakdown) (p .1 .1 .0) (r .0)), r .1)
 
 pub settle-spec : {M : Type 1} → statement M
-settle-spec = tie.close (tie.spec settle-handles-requires settle-ring-requires same-length returns)
+settle-spec = tie.close (tie.spec settle-handles-requires settle-ring-requires (λ c. search needs) returns)

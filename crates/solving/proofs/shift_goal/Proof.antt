@@ -21,9 +21,6 @@ all c = c .before .before .before
 abbrev cleared : tie.After-without → tie.After-clear-within
 cleared c = c .before .before .before
 
-below-requires : tie.Need-below-requires
-below-requires c κs = search needs
-
 clear-within-requires : tie.Need-clear-within-requires
 clear-within-requires c κs =
     let at = c .before .before in
@@ -73,9 +70,6 @@ clear-within-requires-2 c κs =
       ),
     )
 
-same-length : tie.Need-same-length
-same-length c = search needs
-
 returns : tie.Need-returns
 returns c =
     let last = c .before .before in
@@ -94,4 +88,4 @@ returns c =
 
 pub shift-goal-spec : {M : Type 1} → statement M
 shift-goal-spec =
-    tie.close (tie.spec below-requires clear-within-requires without-requires clear-within-requires-2 same-length returns)
+    tie.close (tie.spec (λ c κs. search needs) clear-within-requires without-requires clear-within-requires-2 (λ c. search needs) returns)

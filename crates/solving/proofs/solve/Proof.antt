@@ -24,21 +24,6 @@ laid c = let at = c .before .before .before in at .before
 abbrev shifted : tie.After-settle → tie.After-shift-goal
 shifted c = let known = c .before .before .before in known .before .before .before
 
-circle-of-requires : tie.Need-circle-of-requires
-circle-of-requires c κs = search needs
-
-array-read-shift-goal : tie.Need-array-read-shift-goal
-array-read-shift-goal c = search needs
-
-cast-shift-goal : tie.Need-cast-shift-goal
-cast-shift-goal c = search needs
-
-array-read-shift-goal-2 : tie.Need-array-read-shift-goal-2
-array-read-shift-goal-2 c = search needs
-
-cast-shift-goal-2 : tie.Need-cast-shift-goal-2
-cast-shift-goal-2 c = search needs
-
 shift-goal-requires : tie.Need-shift-goal-requires
 shift-goal-requires c κs =
     let at = c .before .before in
@@ -84,9 +69,6 @@ undo-requires c κs =
       ((a .rows .now, _, row (a .goal .now), back), space),
     )
 
-same-length : tie.Need-same-length
-same-length c = search needs
-
 returns : tie.Need-returns
 returns c =
     let undone = c .before .before in
@@ -105,13 +87,5 @@ pub solve-spec : {M : Type 1} → statement M
 solve-spec =
     tie.close
     (tie.spec
-    circle-of-requires
-    array-read-shift-goal
-    cast-shift-goal
-    array-read-shift-goal-2
-    cast-shift-goal-2
-    shift-goal-requires
-    settle-requires
-    undo-requires
-    same-length
-    returns)
+    (λ c κs. search needs) (λ c. search needs) (λ c. search needs) (λ c. search needs) (λ c. search needs) shift-goal-requires
+    settle-requires undo-requires (λ c. search needs) returns)

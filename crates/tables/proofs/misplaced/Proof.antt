@@ -15,21 +15,6 @@ abbrev μ-loop : tie.MeasureT-loop
 loop-holds : tie.Need-loop-holds Inv-loop μ-loop
 loop-holds c = (omega arith, left-first _ _ _ _)
 
-add-position-at : tie.Need-add-position-at Inv-loop μ-loop
-add-position-at c = omega arith
-
-position-at-requires : tie.Need-position-at-requires Inv-loop μ-loop
-position-at-requires c κs = omega arith
-
-add-i : tie.Need-add-i Inv-loop μ-loop
-add-i c = omega arith
-
-element-copy-out-wide : tie.Need-element-copy-out-wide Inv-loop μ-loop
-element-copy-out-wide c = omega arith
-
-wide-requires : tie.Need-wide-requires Inv-loop μ-loop
-wide-requires c κs = search needs
-
 returns : tie.Need-returns Inv-loop μ-loop
 returns c =
     let position-at = c .before .before .before in let round = position-at .before .before in
@@ -37,9 +22,6 @@ returns c =
     found (entry .args .tail .now) (entry .args .from) (entry .args .m) (entry .args .racks .now) (round .loop .i)
     (position-at .position-at .result) (c .before .wide .result) (round .loop .inv .1) (omega arith) (position-at .position-at .ensures .is)
     (c .before .wide .ensures .0) (c .if1 .taken)
-
-loop-less : tie.Need-loop-less Inv-loop μ-loop
-loop-less c = omega arith
 
 loop-again : tie.Need-loop-again Inv-loop μ-loop
 loop-again c =
@@ -60,15 +42,5 @@ pub misplaced-spec : {M : Type 1} → statement M
 misplaced-spec =
     tie.close
     (tie.spec
-    Inv-loop
-    μ-loop
-    loop-holds
-    add-position-at
-    position-at-requires
-    add-i
-    element-copy-out-wide
-    wide-requires
-    returns
-    loop-less
-    loop-again
-    returns-2)
+    Inv-loop μ-loop loop-holds (λ c. omega arith) (λ c κs. omega arith) (λ c. omega arith) (λ c. omega arith) (λ c κs. search needs) returns
+    (λ c. omega arith) loop-again returns-2)

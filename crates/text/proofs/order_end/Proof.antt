@@ -5,9 +5,6 @@ use borrow.Author.Needs.{needs}
 use Rattle.text.proofs.order_end.Statement.{statement}
 use Rattle.text.proofs.order_end.Tie as tie
 
-record-length-requires : tie.Need-record-length-requires
-record-length-requires c κs = search needs
-
 returns : tie.Need-returns
 returns c = end-all _ (c .before .record-length .result) (c .before .record-length .ensures) (omega arith)
 
@@ -15,4 +12,4 @@ returns-2 : tie.Need-returns-2
 returns-2 c = end-found _ (c .before .record-length .result) (c .before .record-length .ensures) (λ z. omega arith)
 
 pub order-end-spec : {M : Type 1} → statement M
-order-end-spec = tie.close (tie.spec record-length-requires returns returns-2)
+order-end-spec = tie.close (tie.spec (λ c κs. search needs) returns returns-2)

@@ -6,9 +6,6 @@ use borrow.Author.Needs.{needs}
 use Rattle.text.proofs.print_refusal.Statement.{statement}
 use Rattle.text.proofs.print_refusal.Tie as tie
 
-number-requires : tie.Need-number-requires
-number-requires c κs = search needs
-
 put-refusal-requires : tie.Need-put-refusal-requires
 put-refusal-requires c κs = refusal-fits _ _ (omega arith) (omega arith) _ (omega arith)
 
@@ -16,4 +13,4 @@ returns : tie.Need-returns
 returns c = refusal-told _ (c .before .before .number .ensures) (c .put-refusal .ensures)
 
 pub print-refusal-spec : {M : Type 1} → statement M
-print-refusal-spec = tie.close (tie.spec number-requires put-refusal-requires returns)
+print-refusal-spec = tie.close (tie.spec (λ c κs. search needs) put-refusal-requires returns)

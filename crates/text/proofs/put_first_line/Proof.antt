@@ -4,17 +4,11 @@ use borrow.Author.Needs.{needs}
 use Rattle.text.proofs.put_first_line.Statement.{statement}
 use Rattle.text.proofs.put_first_line.Tie as tie
 
-slice-aggregate-put-bytes : tie.Need-slice-aggregate-put-bytes
-slice-aggregate-put-bytes c = search needs
-
 put-bytes-requires : tie.Need-put-bytes-requires
 put-bytes-requires c κs = search (steps-fit, needs)
 
 put-decimal-requires : tie.Need-put-decimal-requires
 put-decimal-requires c κs = search (step-count-fits, needs)
-
-slice-aggregate-put-bytes-2 : tie.Need-slice-aggregate-put-bytes-2
-slice-aggregate-put-bytes-2 c = search needs
 
 put-bytes-requires-2 : tie.Need-put-bytes-requires-2
 put-bytes-requires-2 c κs = search (word-fits, needs)
@@ -24,9 +18,6 @@ put-decimal-requires-2 c κs = search (move-count-fits, needs)
 
 put-byte-requires : tie.Need-put-byte-requires
 put-byte-requires c κs = search (end-fits, needs)
-
-same-length : tie.Need-same-length
-same-length c = search needs
 
 returns : tie.Need-returns
 returns c =
@@ -43,12 +34,5 @@ pub put-first-line-spec : {M : Type 1} → statement M
 put-first-line-spec =
     tie.close
     (tie.spec
-    slice-aggregate-put-bytes
-    put-bytes-requires
-    put-decimal-requires
-    slice-aggregate-put-bytes-2
-    put-bytes-requires-2
-    put-decimal-requires-2
-    put-byte-requires
-    same-length
-    returns)
+    (λ c. search needs) put-bytes-requires put-decimal-requires (λ c. search needs) put-bytes-requires-2 put-decimal-requires-2
+    put-byte-requires (λ c. search needs) returns)

@@ -16,19 +16,9 @@ put-byte-requires-2 c κs = search (arrow-fits, needs)
 put-decimal-requires-2 : tie.Need-put-decimal-requires-2
 put-decimal-requires-2 c κs = search (entered-fits, needs)
 
-same-length : tie.Need-same-length
-same-length c = search needs
-
 returns : tie.Need-returns
 returns c = search (move-wrote, needs)
 
 pub put-move-spec : {M : Type 1} → statement M
 put-move-spec =
-    tie.close
-    (tie.spec
-    put-byte-requires
-    put-decimal-requires
-    put-byte-requires-2
-    put-decimal-requires-2
-    same-length
-    returns)
+    tie.close (tie.spec put-byte-requires put-decimal-requires put-byte-requires-2 put-decimal-requires-2 (λ c. search needs) returns)

@@ -19,9 +19,6 @@ abbrev μ-loop : tie.MeasureT-loop
 loop-holds : tie.Need-loop-holds Inv-loop μ-loop
 loop-holds c = (omega arith, moves-first (c .before .before .args .moves .now) (c .before .before .args .count))
 
-pair-at-requires : tie.Need-pair-at-requires Inv-loop μ-loop
-pair-at-requires c κs = omega arith
-
 put-move-requires : tie.Need-put-move-requires Inv-loop μ-loop
 put-move-requires c κs =
     let pair-at = c .before in let round = pair-at .before .before in let entry = round .before .before .before in
@@ -29,12 +26,6 @@ put-move-requires c κs =
     (movesText (pairs (entry .args .moves .now) (12 * (round .loop .j + 1)) (entry .args .count - (round .loop .j + 1))))
     (moves-next (entry .args .moves .now) (round .loop .j) (entry .args .count) (pair-at .pair-at .ensures) (omega arith)) (entry .pre .1)
     (round .loop .inv .1)
-
-add-j : tie.Need-add-j Inv-loop μ-loop
-add-j c = omega arith
-
-loop-less : tie.Need-loop-less Inv-loop μ-loop
-loop-less c = omega arith
 
 loop-again : tie.Need-loop-again Inv-loop μ-loop
 loop-again c =
@@ -59,13 +50,4 @@ pub put-moves-spec : {M : Type 1} → statement M
 put-moves-spec =
     tie.close
     (tie.spec
-    Inv-loop
-    μ-loop
-    loop-holds
-    pair-at-requires
-    put-move-requires
-    add-j
-    loop-less
-    loop-again
-    same-length
-    returns)
+    Inv-loop μ-loop loop-holds (λ c κs. omega arith) put-move-requires (λ c. omega arith) (λ c. omega arith) loop-again same-length returns)

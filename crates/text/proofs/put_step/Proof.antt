@@ -24,17 +24,11 @@ part-put-moves-start c =
     let put-decimal-arg = c .before .before .before in let entry = put-decimal-arg .before .before .before in
     omega (arith, stepLength-some (getD (entry .args .step .now) 0 0))
 
-part-put-moves-end : tie.Need-part-put-moves-end
-part-put-moves-end c = search needs
-
 shared-slice-read-wide : tie.Need-shared-slice-read-wide
 shared-slice-read-wide c =
     let out = c .before .before .before in let slice-known = out .before .before .before in
     let entry = slice-known .before .before in
     omega (arith, stepLength-some (getD (entry .args .step .now) 0 0))
-
-wide-requires : tie.Need-wide-requires
-wide-requires c κs = search needs
 
 put-moves-requires : tie.Need-put-moves-requires
 unfolding stepLine
@@ -59,9 +53,6 @@ put-byte-requires c κs =
     (wrote-as (part-moves (entry .args .step .now) (wide .wide .result) (wide .wide .ensures .0)) (put-moves .put-moves .ensures)))
     (entry .pre .1))
 
-same-length : tie.Need-same-length
-same-length c = search needs
-
 returns : tie.Need-returns
 unfolding stepLine
 returns c =
@@ -78,13 +69,5 @@ pub put-step-spec : {M : Type 1} → statement M
 put-step-spec =
     tie.close
     (tie.spec
-    put-decimal-requires
-    sub-put-moves
-    part-put-moves-start
-    part-put-moves-end
-    shared-slice-read-wide
-    wide-requires
-    put-moves-requires
-    put-byte-requires
-    same-length
-    returns)
+    put-decimal-requires sub-put-moves part-put-moves-start (λ c. search needs) shared-slice-read-wide (λ c κs. search needs)
+    put-moves-requires put-byte-requires (λ c. search needs) returns)

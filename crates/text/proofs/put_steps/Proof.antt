@@ -95,19 +95,5 @@ pub put-steps-spec : {M : Type 1} → statement M
 put-steps-spec =
     tie.close
     (tie.spec
-    Inv-loop
-    μ-loop
-    loop-holds
-    shared-slice-read-step-length
-    (λ c κs. search needs)
-    add-end
-    (λ c. omega arith)
-    (λ c. omega arith)
-    (λ c. omega arith)
-    part-put-step-end
-    put-step-requires
-    (λ c. omega arith)
-    (λ c. omega arith)
-    loop-again
-    same-length
-    returns)
+    Inv-loop μ-loop loop-holds shared-slice-read-step-length (λ c κs. search needs) add-end (λ c. omega arith) (λ c. omega arith)
+    (λ c. omega arith) part-put-step-end put-step-requires (λ c. omega arith) (λ c. omega arith) loop-again same-length returns)

@@ -8,15 +8,6 @@ use borrow.Author.Needs.{needs}
 use Rattle.text.proofs.put_timetable.Statement.{statement}
 use Rattle.text.proofs.put_timetable.Tie as tie
 
-read-requires : tie.Need-read-requires
-read-requires c κs = search needs
-
-enum-known-steps : tie.Need-enum-known-steps
-enum-known-steps c = search needs
-
-enum-told : tie.Need-enum-told
-enum-told c = search needs
-
 returns : tie.Need-returns
 returns c =
     let read = c .before .before in let entry = read .before .before .before in
@@ -49,9 +40,6 @@ put-steps-requires c κs =
           (entry .pre .1),
     )
 
-same-length : tie.Need-same-length
-same-length c = search needs
-
 returns-2 : tie.Need-returns-2
 unfolding timetableText
 returns-2 c =
@@ -69,11 +57,5 @@ pub put-timetable-spec : {M : Type 1} → statement M
 put-timetable-spec =
     tie.close
     (tie.spec
-    read-requires
-    enum-known-steps
-    enum-told
-    returns
-    put-first-line-requires
-    put-steps-requires
-    same-length
+    (λ c κs. search needs) (λ c. search needs) (λ c. search needs) returns put-first-line-requires put-steps-requires (λ c. search needs)
     returns-2)

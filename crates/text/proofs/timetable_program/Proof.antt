@@ -8,9 +8,6 @@ use borrow.Author.Needs.{needs}
 use Rattle.text.proofs.timetable_program.Statement.{statement}
 use Rattle.text.proofs.timetable_program.Tie as tie
 
-order-end-requires : tie.Need-order-end-requires
-order-end-requires c κs = search needs
-
 slice-aggregate-make : tie.Need-slice-aggregate-make
 slice-aggregate-make c =
     sym
@@ -25,29 +22,8 @@ part-make-start : tie.Need-part-make-start
 part-make-start c =
     end-within (c .before .before .before .args .input .now) (c .before .order-end .result) (c .before .order-end .ensures)
 
-part-make-end : tie.Need-part-make-end
-part-make-end c = search needs
-
-slice-aggregate-make-2 : tie.Need-slice-aggregate-make-2
-slice-aggregate-make-2 c = search needs
-
-make-requires : tie.Need-make-requires
-make-requires c κs = search needs
-
-enum-known-fault : tie.Need-enum-known-fault
-enum-known-fault c = search needs
-
-print-refusal-requires : tie.Need-print-refusal-requires
-print-refusal-requires c κs = search needs
-
 enum-told : tie.Need-enum-told
 enum-told c = search needs
-
-slice-aggregate-record-length : tie.Need-slice-aggregate-record-length
-slice-aggregate-record-length c = search needs
-
-record-length-requires : tie.Need-record-length-requires
-record-length-requires c κs = search needs
 
 array-share-prefix-buffer : tie.Need-array-share-prefix-buffer
 array-share-prefix-buffer c =
@@ -98,20 +74,6 @@ pub timetable-program-spec : {M : Type 1} → statement M
 timetable-program-spec =
     tie.close
     (tie.spec
-    order-end-requires
-    slice-aggregate-make
-    sub-make
-    part-make-start
-    part-make-end
-    slice-aggregate-make-2
-    make-requires
-    enum-known-fault
-    print-refusal-requires
-    enum-told
-    slice-aggregate-record-length
-    record-length-requires
-    array-share-prefix-buffer
-    slice-aggregate-put-timetable
-    put-timetable-requires
-    returns
-    returns-2)
+    (λ c κs. search needs) slice-aggregate-make sub-make part-make-start (λ c. search needs) (λ c. search needs) (λ c κs. search needs)
+    (λ c. search needs) (λ c κs. search needs) enum-told (λ c. search needs) (λ c κs. search needs) array-share-prefix-buffer
+    slice-aggregate-put-timetable put-timetable-requires returns returns-2)

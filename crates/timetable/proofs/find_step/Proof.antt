@@ -7,12 +7,6 @@ use borrow.Author.Needs.{needs}
 use Rattle.timetable.proofs.find_step.Statement.{statement}
 use Rattle.timetable.proofs.find_step.Tie as tie
 
-read-number-requires : tie.Need-read-number-requires
-read-number-requires c κs = search needs
-
-enum-known-reading : tie.Need-enum-known-reading
-enum-known-reading c = search needs
-
 enum-told : tie.Need-enum-told
 enum-told c = search needs
 
@@ -23,12 +17,6 @@ offset-of-requires c κs =
     (number-gave (entry .args .timetable .now) (entry .args .number) _
     (sym (read-number .read-number .ensures) ∙ ap answerOfCheck (c .enum-told .given .1))) in
     (g .length-right, g .low, g .high)
-
-shared-slice-read-step-length : tie.Need-shared-slice-read-step-length
-shared-slice-read-step-length c = search needs
-
-step-length-requires : tie.Need-step-length-requires
-step-length-requires c κs = search needs
 
 returns : tie.Need-returns
 returns c =
@@ -50,11 +38,4 @@ pub find-step-spec : {M : Type 1} → statement M
 find-step-spec =
     tie.close
     (tie.spec
-    read-number-requires
-    enum-known-reading
-    enum-told
-    offset-of-requires
-    shared-slice-read-step-length
-    step-length-requires
-    returns
-    returns-2)
+    (λ c κs. search needs) (λ c. search needs) enum-told offset-of-requires (λ c. search needs) (λ c κs. search needs) returns returns-2)

@@ -47,13 +47,5 @@ pub offset-of-spec : {M : Type 1} → statement M
 offset-of-spec =
     tie.close
     (tie.spec
-    Inv-loop
-    μ-loop
-    loop-holds
-    shared-slice-read-step-length
-    (λ c κs. search needs)
-    add-at
-    (λ c. omega arith)
-    (λ c. omega arith)
-    loop-again
+    Inv-loop μ-loop loop-holds shared-slice-read-step-length (λ c κs. search needs) add-at (λ c. omega arith) (λ c. omega arith) loop-again
     returns)

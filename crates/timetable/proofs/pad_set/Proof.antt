@@ -39,12 +39,5 @@ pub pad-set-spec : {M : Type 1} → statement M
 pad-set-spec =
     tie.close
     (tie.spec
-    sub-pad-after
-    part-pad-after-start
-    (λ c. search needs)
-    shared-slice-read-wide
-    (λ c κs. search needs)
-    (λ c. search needs)
-    pad-after-requires
-    returns
-    returns-2)
+    sub-pad-after part-pad-after-start (λ c. search needs) shared-slice-read-wide (λ c κs. search needs) (λ c. search needs)
+    pad-after-requires returns returns-2)

@@ -11,17 +11,8 @@ use Rattle.timetable.proofs.read.Tie as tie
 returns : tie.Need-returns
 returns c = short (c .before .before .args .timetable .now) (omega arith)
 
-count-at-head-requires : tie.Need-count-at-head-requires
-count-at-head-requires c κs = search needs
-
-read-steps-requires : tie.Need-read-steps-requires
-read-steps-requires c κs = search needs
-
 enum-told : tie.Need-enum-told
 enum-told c = search needs
-
-enum-told-2 : tie.Need-enum-told-2
-enum-told-2 c = search needs
 
 returns-2 : tie.Need-returns-2
 returns-2 c =
@@ -29,9 +20,6 @@ returns-2 c =
     let entry = count-at-head .before .before .before in
     passed-up (entry .args .timetable .now) (omega arith) (count-at-head .count-at-head .result) (count-at-head .count-at-head .ensures) _
     (read-steps .read-steps .ensures) _ _ (ap answerOfCheck (c .enum-told2 .given .1))
-
-spare-at-head-requires : tie.Need-spare-at-head-requires
-spare-at-head-requires c κs = search needs
 
 returns-3 : tie.Need-returns-3
 returns-3 c =
@@ -53,12 +41,5 @@ pub read-spec : {M : Type 1} → statement M
 read-spec =
     tie.close
     (tie.spec
-    returns
-    count-at-head-requires
-    read-steps-requires
-    enum-told
-    enum-told-2
-    returns-2
-    spare-at-head-requires
-    returns-3
+    returns (λ c κs. search needs) (λ c κs. search needs) enum-told (λ c. search needs) returns-2 (λ c κs. search needs) returns-3
     returns-4)

@@ -10,15 +10,6 @@ use borrow.Author.Needs.{needs}
 use Rattle.timetable.proofs.read_number.Statement.{statement}
 use Rattle.timetable.proofs.read_number.Tie as tie
 
-read-requires : tie.Need-read-requires
-read-requires c κs = search needs
-
-enum-known-reading : tie.Need-enum-known-reading
-enum-known-reading c = search needs
-
-enum-told : tie.Need-enum-told
-enum-told c = search needs
-
 returns : tie.Need-returns
 unfolding numberAnswer
 returns c =
@@ -46,4 +37,4 @@ returns-4 c =
 pub read-number-spec : {M : Type 1} → statement M
 read-number-spec =
     tie.close
-    (tie.spec read-requires enum-known-reading enum-told returns returns-2 returns-3 returns-4)
+    (tie.spec (λ c κs. search needs) (λ c. search needs) (λ c. search needs) returns returns-2 returns-3 returns-4)

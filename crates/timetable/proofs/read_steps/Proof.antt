@@ -30,33 +30,12 @@ returns c =
     past (entry .args .timetable .now) (entry .args .count) (round .loop .at) (round .loop .moves) (round .loop .pad-seen) (round .loop .i)
     (round .loop .inv .3) (omega arith) (omega arith)
 
-shared-slice-read-c : tie.Need-shared-slice-read-c Inv-loop μ-loop
-shared-slice-read-c c = omega arith
-
-step-length-requires : tie.Need-step-length-requires Inv-loop μ-loop
-step-length-requires c κs = search needs
-
-sub-if2 : tie.Need-sub-if2 Inv-loop μ-loop
-sub-if2 c = omega arith
-
 returns-2 : tie.Need-returns-2 Inv-loop μ-loop
 returns-2 c =
     let else1 = c .before .before .before in let round = else1 .before .before in let entry = round .before .before in
     runs-past (entry .args .timetable .now) (entry .args .count) (round .loop .at) (round .loop .moves) (round .loop .pad-seen)
     (round .loop .i) (round .loop .inv .3) (omega arith) (getD (entry .args .timetable .now) (round .loop .at) 0)
     (c .before .step-length .result) refl (c .before .step-length .ensures .size-is) (omega arith) (omega arith)
-
-add-next : tie.Need-add-next Inv-loop μ-loop
-add-next c = omega arith
-
-sub-pad-set : tie.Need-sub-pad-set Inv-loop μ-loop
-sub-pad-set c = omega arith
-
-part-pad-set-start : tie.Need-part-pad-set-start Inv-loop μ-loop
-part-pad-set-start c = omega arith
-
-part-pad-set-end : tie.Need-part-pad-set-end Inv-loop μ-loop
-part-pad-set-end c = omega arith
 
 pad-set-requires : tie.Need-pad-set-requires Inv-loop μ-loop
 pad-set-requires c κs =
@@ -65,18 +44,6 @@ pad-set-requires c κs =
     part-length (entry .args .timetable .now) (entry .args .count) (round .loop .at) (round .loop .moves) (round .loop .pad-seen)
     (round .loop .i) (round .loop .inv .3) (omega arith) (getD (entry .args .timetable .now) (round .loop .at) 0)
     (step-length .step-length .result) refl (step-length .step-length .ensures .size-is) (omega arith) (omega arith)
-
-wide-requires : tie.Need-wide-requires Inv-loop μ-loop
-wide-requires c κs = search needs
-
-add-moves : tie.Need-add-moves Inv-loop μ-loop
-add-moves c = omega arith
-
-add-i : tie.Need-add-i Inv-loop μ-loop
-add-i c = omega arith
-
-loop-less : tie.Need-loop-less Inv-loop μ-loop
-loop-less c = omega arith
 
 loop-again : tie.Need-loop-again Inv-loop μ-loop
 loop-again c =
@@ -116,24 +83,6 @@ pub read-steps-spec : {M : Type 1} → statement M
 read-steps-spec =
     tie.close
     (tie.spec
-    Inv-loop
-    μ-loop
-    loop-holds
-    returns
-    shared-slice-read-c
-    step-length-requires
-    sub-if2
-    returns-2
-    add-next
-    sub-pad-set
-    part-pad-set-start
-    part-pad-set-end
-    pad-set-requires
-    wide-requires
-    add-moves
-    add-i
-    loop-less
-    loop-again
-    returns-3
-    returns-4
-    returns-5)
+    Inv-loop μ-loop loop-holds returns (λ c. omega arith) (λ c κs. search needs) (λ c. omega arith) returns-2 (λ c. omega arith)
+    (λ c. omega arith) (λ c. omega arith) (λ c. omega arith) pad-set-requires (λ c κs. search needs) (λ c. omega arith) (λ c. omega arith)
+    (λ c. omega arith) loop-again returns-3 returns-4 returns-5)

@@ -27,17 +27,8 @@ room c =
 shared-slice-read-step-length : tie.Need-shared-slice-read-step-length Inv-loop μ-loop
 shared-slice-read-step-length c = room (c .before) .begins
 
-step-length-requires : tie.Need-step-length-requires Inv-loop μ-loop
-step-length-requires c κs = search needs
-
 add-next : tie.Need-add-next Inv-loop μ-loop
 add-next c = omega (arith, room (c .before .before) .ends, c .step-length .ensures .size-is)
-
-sub-run-part : tie.Need-sub-run-part Inv-loop μ-loop
-sub-run-part c = omega arith
-
-part-run-part-start : tie.Need-part-run-part-start Inv-loop μ-loop
-part-run-part-start c = omega arith
 
 part-run-part-end : tie.Need-part-run-part-end Inv-loop μ-loop
 part-run-part-end c = omega (arith, room (c .before .before) .ends, c .step-length .ensures .size-is)
@@ -50,12 +41,6 @@ run-part-requires c κs =
     cut-length (turn .before .before .args .timetable .now) (turn .loop .at) (sized .step-length .result)
     (sized .step-length .ensures .size-is) (room inside)
 
-add-t18 : tie.Need-add-t18 Inv-loop μ-loop
-add-t18 c = omega arith
-
-cast-t19 : tie.Need-cast-t19 Inv-loop μ-loop
-cast-t19 c = omega arith
-
 returns : tie.Need-returns Inv-loop μ-loop
 returns c =
     let judged = c .before in
@@ -65,12 +50,6 @@ returns c =
     steps-stop (entry .timetable .now) (entry .matrix .now) (entry .racks .now) (turn .loop .racks) (turn .loop .i) (turn .loop .at)
     (sized .step-length .result) (turn .loop .inv .1) (omega arith) (sized .step-length .ensures .size-is) (judged .run-part .result)
     (judged .run-part .ensures .0) (not-true _ (c .if1 .taken))
-
-add-i : tie.Need-add-i Inv-loop μ-loop
-add-i c = omega arith
-
-loop-less : tie.Need-loop-less Inv-loop μ-loop
-loop-less c = omega arith
 
 loop-again : tie.Need-loop-again Inv-loop μ-loop
 loop-again c =
@@ -95,20 +74,6 @@ pub replay-spec : {M : Type 1} → statement M
 replay-spec =
     tie.close
     (tie.spec
-    Inv-loop
-    μ-loop
-    loop-holds
-    shared-slice-read-step-length
-    step-length-requires
-    add-next
-    sub-run-part
-    part-run-part-start
-    part-run-part-end
-    run-part-requires
-    add-t18
-    cast-t19
-    returns
-    add-i
-    loop-less
-    loop-again
+    Inv-loop μ-loop loop-holds shared-slice-read-step-length (λ c κs. search needs) add-next (λ c. omega arith) (λ c. omega arith)
+    part-run-part-end run-part-requires (λ c. omega arith) (λ c. omega arith) returns (λ c. omega arith) (λ c. omega arith) loop-again
     returns-2)

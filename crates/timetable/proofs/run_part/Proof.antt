@@ -36,10 +36,4 @@ pub run-part-spec : {M : Type 1} → statement M
 run-part-spec =
     tie.close
     (tie.spec
-    sub-run-step
-    part-run-step-start
-    (λ c. search needs)
-    shared-slice-read-wide
-    (λ c κs. search needs)
-    run-step-requires
-    returns)
+    sub-run-step part-run-step-start (λ c. search needs) shared-slice-read-wide (λ c κs. search needs) run-step-requires returns)

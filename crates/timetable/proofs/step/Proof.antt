@@ -8,24 +8,6 @@ use borrow.Author.Needs.{needs}
 use Rattle.timetable.proofs.step.Statement.{statement}
 use Rattle.timetable.proofs.step.Tie as tie
 
-find-step-requires : tie.Need-find-step-requires
-find-step-requires c κs = search needs
-
-enum-known-found : tie.Need-enum-known-found
-enum-known-found c = search needs
-
-enum-told : tie.Need-enum-told
-enum-told c = search needs
-
-sub-result : tie.Need-sub-result
-sub-result c = search needs
-
-part-result-start : tie.Need-part-result-start
-part-result-start c = search needs
-
-part-result-end : tie.Need-part-result-end
-part-result-end c = search needs
-
 returns : tie.Need-returns
 returns c =
     let find-step = c .before .before .before in let entry = find-step .before .before in
@@ -44,12 +26,6 @@ add-end c =
       end-within (entry .args .timetable .now) (entry .args .number) (found .found .given .0 .0) (found .found .given .0 .1 .0)
           (sym (find-step .find-step .ensures) ∙ ap answerOfStep (found .found .given .1)),
     )
-
-sub-result-2 : tie.Need-sub-result-2
-sub-result-2 c = search needs
-
-part-result-start-2 : tie.Need-part-result-start-2
-part-result-start-2 c = search needs
 
 part-result-end-2 : tie.Need-part-result-end-2
 part-result-end-2 c =
@@ -74,15 +50,5 @@ pub step-spec : {M : Type 1} → statement M
 step-spec =
     tie.close
     (tie.spec
-    find-step-requires
-    enum-known-found
-    enum-told
-    sub-result
-    part-result-start
-    part-result-end
-    returns
-    add-end
-    sub-result-2
-    part-result-start-2
-    part-result-end-2
-    returns-2)
+    (λ c κs. search needs) (λ c. search needs) (λ c. search needs) (λ c. search needs) (λ c. search needs) (λ c. search needs) returns
+    add-end (λ c. search needs) (λ c. search needs) part-result-end-2 returns-2)

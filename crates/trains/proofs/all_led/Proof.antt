@@ -39,9 +39,6 @@ module _ (call : tie.After-train-length Inv-loop μ-loop) where
       train-told (a .step .now) (a .c) (a .target .now) (a .racks .now) (omega arith) (entry second .pre .1 .0) (l .marks) (l .j) _ _
       (l .inv .1) at (call .train-length .last .1 .1 .1 .0) (call .train-length .result) (call .train-length .ensures)
 
-mark-leaders-requires : tie.Need-mark-leaders-requires Inv-loop μ-loop
-mark-leaders-requires c κs = refl
-
 loop-holds : tie.Need-loop-holds Inv-loop μ-loop
 loop-holds c =
     let entry = c .before .before in
@@ -84,22 +81,6 @@ pub all-led-spec : {M : Type 1} → statement M
 all-led-spec =
     tie.close
     (tie.spec
-    Inv-loop
-    μ-loop
-    mark-leaders-requires
-    loop-holds
-    (λ c. omega arith)
-    (λ c. omega arith)
-    first-of-requires
-    (λ c. omega arith)
-    (λ c. omega arith)
-    second-of-requires
-    train-length-requires
-    returns
-    returns-2
-    (λ c. omega arith)
-    (λ c. omega arith)
-    (λ c. omega arith)
-    (λ c. omega arith)
-    loop-again
-    returns-3)
+    Inv-loop μ-loop (λ c κs. refl) loop-holds (λ c. omega arith) (λ c. omega arith) first-of-requires (λ c. omega arith) (λ c. omega arith)
+    second-of-requires train-length-requires returns returns-2 (λ c. omega arith) (λ c. omega arith) (λ c. omega arith) (λ c. omega arith)
+    loop-again returns-3)

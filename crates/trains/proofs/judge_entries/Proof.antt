@@ -8,9 +8,6 @@ use borrow.Author.Needs.{needs}
 use Rattle.trains.proofs.judge_entries.Statement.{statement}
 use Rattle.trains.proofs.judge_entries.Tie as tie
 
-note-moves-requires : tie.Need-note-moves-requires
-note-moves-requires c κs = search needs
-
 returns : tie.Need-returns
 returns c =
     let noting = c .before in
@@ -42,4 +39,4 @@ returns-2 c =
     (c .all-led .ensures)
 
 pub judge-entries-spec : {M : Type 1} → statement M
-judge-entries-spec = tie.close (tie.spec note-moves-requires returns all-led-requires returns-2)
+judge-entries-spec = tie.close (tie.spec (λ c κs. search needs) returns all-led-requires returns-2)

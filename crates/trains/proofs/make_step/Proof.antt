@@ -7,12 +7,6 @@ use borrow.Author.Needs.{needs}
 use Rattle.trains.proofs.make_step.Statement.{statement}
 use Rattle.trains.proofs.make_step.Tie as tie
 
-take-up-requires : tie.Need-take-up-requires
-take-up-requires c κs = search needs
-
-put-down-requires : tie.Need-put-down-requires
-put-down-requires c κs = search needs
-
 returns : tie.Need-returns
 unfolding stepOn
 returns c =
@@ -22,4 +16,4 @@ returns c =
     c .put-down .ensures ∙ ap (λ (h : List ℕ). putDown (a .racks .now) h moves) (taking .take-up .ensures)
 
 pub make-step-spec : {M : Type 1} → statement M
-make-step-spec = tie.close (tie.spec take-up-requires put-down-requires returns)
+make-step-spec = tie.close (tie.spec (λ c κs. search needs) (λ c κs. search needs) returns)

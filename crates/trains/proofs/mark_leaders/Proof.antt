@@ -36,13 +36,5 @@ pub mark-leaders-spec : {M : Type 1} → statement M
 mark-leaders-spec =
     tie.close
     (tie.spec
-    Inv-loop
-    μ-loop
-    loop-holds
-    (λ c. omega arith)
-    leader-mark-requires
-    (λ c. omega arith)
-    (λ c. omega arith)
-    (λ c. omega arith)
-    loop-again
+    Inv-loop μ-loop loop-holds (λ c. omega arith) leader-mark-requires (λ c. omega arith) (λ c. omega arith) (λ c. omega arith) loop-again
     returns)

@@ -79,30 +79,7 @@ pub note-moves-spec : {M : Type 1} → statement M
 note-moves-spec =
     tie.close
     (tie.spec
-    Inv-loop
-    μ-loop
-    loop-holds
-    (λ c. omega arith)
-    (λ c. omega arith)
-    first-of-requires
-    (λ c. omega arith)
-    (λ c. omega arith)
-    second-of-requires
-    returns
-    (λ c. omega arith)
-    (λ c. omega arith)
-    (λ c. omega arith)
-    returns-2
-    (λ c. omega arith)
-    returns-3
-    (λ c. omega arith)
-    returns-4
-    (λ c. omega arith)
-    (λ c. omega arith)
-    (λ c. omega arith)
-    (λ c. omega arith)
-    (λ c. omega arith)
-    (λ c. omega arith)
-    (λ c. omega arith)
-    loop-again
-    returns-5)
+    Inv-loop μ-loop loop-holds (λ c. omega arith) (λ c. omega arith) first-of-requires (λ c. omega arith) (λ c. omega arith)
+    second-of-requires returns (λ c. omega arith) (λ c. omega arith) (λ c. omega arith) returns-2 (λ c. omega arith) returns-3
+    (λ c. omega arith) returns-4 (λ c. omega arith) (λ c. omega arith) (λ c. omega arith) (λ c. omega arith) (λ c. omega arith)
+    (λ c. omega arith) (λ c. omega arith) loop-again returns-5)

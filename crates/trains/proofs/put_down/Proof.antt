@@ -52,18 +52,5 @@ pub put-down-spec : {M : Type 1} → statement M
 put-down-spec =
     tie.close
     (tie.spec
-    Inv-loop
-    μ-loop
-    loop-holds
-    (λ c. omega arith)
-    (λ c. omega arith)
-    first-of-requires
-    (λ c. omega arith)
-    (λ c. omega arith)
-    second-of-requires
-    (λ c. omega arith)
-    (λ c. omega arith)
-    (λ c. omega arith)
-    (λ c. omega arith)
-    loop-again
-    returns)
+    Inv-loop μ-loop loop-holds (λ c. omega arith) (λ c. omega arith) first-of-requires (λ c. omega arith) (λ c. omega arith)
+    second-of-requires (λ c. omega arith) (λ c. omega arith) (λ c. omega arith) (λ c. omega arith) loop-again returns)

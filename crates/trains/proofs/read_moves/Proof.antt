@@ -23,39 +23,6 @@ loop-holds c =
     let a = entry .args in
     (omega arith, omega arith, kept-first (a .moves .now) (a .step .now) (entry .pre .1))
 
-add-loop : tie.Need-add-loop Inv-loop μ-loop
-add-loop c = omega arith
-
-entry-at-requires : tie.Need-entry-at-requires Inv-loop μ-loop
-entry-at-requires c κs = omega arith
-
-mul-step : tie.Need-mul-step Inv-loop μ-loop
-mul-step c = omega arith
-
-element-write-step : tie.Need-element-write-step Inv-loop μ-loop
-element-write-step c = omega arith
-
-add-entry-at : tie.Need-add-entry-at Inv-loop μ-loop
-add-entry-at c = omega arith
-
-entry-at-requires-2 : tie.Need-entry-at-requires-2 Inv-loop μ-loop
-entry-at-requires-2 c κs = omega arith
-
-add-step : tie.Need-add-step Inv-loop μ-loop
-add-step c = omega arith
-
-mul-step-2 : tie.Need-mul-step-2 Inv-loop μ-loop
-mul-step-2 c = omega arith
-
-element-write-step-2 : tie.Need-element-write-step-2 Inv-loop μ-loop
-element-write-step-2 c = omega arith
-
-add-j : tie.Need-add-j Inv-loop μ-loop
-add-j c = omega arith
-
-loop-less : tie.Need-loop-less Inv-loop μ-loop
-loop-less c = omega arith
-
 loop-again : tie.Need-loop-again Inv-loop μ-loop
 loop-again c =
     let one = c .before in
@@ -64,15 +31,6 @@ loop-again c =
     let a = turn .before .before .before .args in
     let next = kept-two (a .moves .now) (l .step) (l .j) _ _ (omega arith) (one .entry-at .ensures) (c .entry-at2 .ensures) (l .inv .2) in
     (omega arith, omega arith, next)
-
-entry-at-requires-3 : tie.Need-entry-at-requires-3 Inv-loop μ-loop
-entry-at-requires-3 c κs = omega arith
-
-mul-step-3 : tie.Need-mul-step-3 Inv-loop μ-loop
-mul-step-3 c = omega arith
-
-element-write-step-3 : tie.Need-element-write-step-3 Inv-loop μ-loop
-element-write-step-3 c = omega arith
 
 returns-2 : tie.Need-returns-2 Inv-loop μ-loop
 returns-2 c =
@@ -93,24 +51,6 @@ pub read-moves-spec : {M : Type 1} → statement M
 read-moves-spec =
     tie.close
     (tie.spec
-    Inv-loop
-    μ-loop
-    returns
-    loop-holds
-    add-loop
-    entry-at-requires
-    mul-step
-    element-write-step
-    add-entry-at
-    entry-at-requires-2
-    add-step
-    mul-step-2
-    element-write-step-2
-    add-j
-    loop-less
-    loop-again
-    entry-at-requires-3
-    mul-step-3
-    element-write-step-3
-    returns-2
-    returns-3)
+    Inv-loop μ-loop returns loop-holds (λ c. omega arith) (λ c κs. omega arith) (λ c. omega arith) (λ c. omega arith) (λ c. omega arith)
+    (λ c κs. omega arith) (λ c. omega arith) (λ c. omega arith) (λ c. omega arith) (λ c. omega arith) (λ c. omega arith) loop-again
+    (λ c κs. omega arith) (λ c. omega arith) (λ c. omega arith) returns-2 returns-3)

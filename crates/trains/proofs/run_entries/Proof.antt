@@ -7,9 +7,6 @@ use borrow.Author.Needs.{needs}
 use Rattle.trains.proofs.run_entries.Statement.{statement}
 use Rattle.trains.proofs.run_entries.Tie as tie
 
-judge-entries-requires : tie.Need-judge-entries-requires
-judge-entries-requires c κs = search needs
-
 returns : tie.Need-returns
 returns c =
     let judging = c .before in
@@ -17,9 +14,6 @@ returns c =
     let no = not-true _ (c .if1 .taken) in
     let is = sym no ∙ judging .judge-entries .ensures in
     (is, stays (a .matrix .now) (a .racks .now) (entries (a .step .now) 0 (a .c)) (sym is))
-
-make-step-requires : tie.Need-make-step-requires
-make-step-requires c κs = search needs
 
 returns-2 : tie.Need-returns-2
 returns-2 c =
@@ -31,4 +25,4 @@ returns-2 c =
     (is, ran (a .matrix .now) (a .racks .now) (entries (a .step .now) 0 (a .c)) _ (sym is) (c .make-step .ensures))
 
 pub run-entries-spec : {M : Type 1} → statement M
-run-entries-spec = tie.close (tie.spec judge-entries-requires returns make-step-requires returns-2)
+run-entries-spec = tie.close (tie.spec (λ c κs. search needs) returns (λ c κs. search needs) returns-2)

@@ -10,9 +10,6 @@ use borrow.Author.Needs.{needs}
 use Rattle.trains.proofs.run_step.Statement.{statement}
 use Rattle.trains.proofs.run_step.Tie as tie
 
-read-moves-requires : tie.Need-read-moves-requires
-read-moves-requires c κs = search needs
-
 returns : tie.Need-returns
 returns c =
     let reading = c .before in
@@ -39,4 +36,4 @@ returns-2 c =
     )
 
 pub run-step-spec : {M : Type 1} → statement M
-run-step-spec = tie.close (tie.spec read-moves-requires returns run-entries-requires returns-2)
+run-step-spec = tie.close (tie.spec (λ c κs. search needs) returns run-entries-requires returns-2)

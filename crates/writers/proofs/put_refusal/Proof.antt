@@ -4,9 +4,6 @@ use borrow.Author.Needs.{needs}
 use Rattle.writers.proofs.put_refusal.Statement.{statement}
 use Rattle.writers.proofs.put_refusal.Tie as tie
 
-slice-aggregate-put-bytes : tie.Need-slice-aggregate-put-bytes
-slice-aggregate-put-bytes c = search needs
-
 put-bytes-requires : tie.Need-put-bytes-requires
 put-bytes-requires c κs = search (word-fits, needs)
 
@@ -43,9 +40,6 @@ put-byte-requires-3 c κs =
     end-fits _ _ (entry .pre) (put-bytes .put-bytes .ensures) (put-decimal .put-decimal .ensures) (put-byte .put-byte .ensures)
     (put-decimal2 .put-decimal2 .ensures) (put-byte2 .put-byte2 .ensures) (put-word .put-word .ensures)
 
-same-length : tie.Need-same-length
-same-length c = search needs
-
 returns : tie.Need-returns
 returns c =
     let put-byte3 = c .before .before in let out6 = put-byte3 .before .before .before in let put-word = out6 .before in
@@ -62,13 +56,5 @@ pub put-refusal-spec : {M : Type 1} → statement M
 put-refusal-spec =
     tie.close
     (tie.spec
-    slice-aggregate-put-bytes
-    put-bytes-requires
-    put-decimal-requires
-    put-byte-requires
-    put-decimal-requires-2
-    put-byte-requires-2
-    put-word-requires
-    put-byte-requires-3
-    same-length
-    returns)
+    (λ c. search needs) put-bytes-requires put-decimal-requires put-byte-requires put-decimal-requires-2 put-byte-requires-2
+    put-word-requires put-byte-requires-3 (λ c. search needs) returns)

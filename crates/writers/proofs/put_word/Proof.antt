@@ -15,9 +15,6 @@ front : (number : ℕ) {len : ℕ} {bytes : List ℕ} → (len ≡ length (famil
     → take len bytes ≡ familyWord number
 front number {len} w = ap (take len) (w .1) ∙ take-at (familyWord number) _ len (sym (w .0))
 
-family-word-requires : tie.Need-family-word-requires
-family-word-requires c κs = search needs
-
 array-share-prefix-bytes : tie.Need-array-share-prefix-bytes
 array-share-prefix-bytes c =
     let w = c .before .family-word .ensures in
@@ -34,9 +31,6 @@ put-bytes-requires c κs =
     let family-word = c .before .before .before in let entry = family-word .before .before in
     fits-as (front (entry .args .number) (family-word .family-word .ensures)) (entry .pre)
 
-same-length : tie.Need-same-length
-same-length c = search needs
-
 returns : tie.Need-returns
 returns c =
     let put-bytes = c .before .before in let bytes = put-bytes .before .before .before in
@@ -47,9 +41,4 @@ pub put-word-spec : {M : Type 1} → statement M
 put-word-spec =
     tie.close
     (tie.spec
-    family-word-requires
-    array-share-prefix-bytes
-    slice-aggregate-put-bytes
-    put-bytes-requires
-    same-length
-    returns)
+    (λ c κs. search needs) array-share-prefix-bytes slice-aggregate-put-bytes put-bytes-requires (λ c. search needs) returns)
