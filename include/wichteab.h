@@ -12,9 +12,9 @@
  *
  * From an order to a checked timetable it is three calls: wichteab_plan_make, wichteab_timetable_make and
  * wichteab_timetable_check. examples/delivery.c makes them; examples/screen.c shows which rack each move of a plan
- * takes. While a timetable is driven, a controller holds a picture of the floor, a wichteab_floor, and calls
- * wichteab_floor_open, wichteab_floor_read, wichteab_floor_run and wichteab_floor_take_back on it;
- * examples/controller.c does.
+ * takes; examples/season.c reports on a season. While a timetable is driven, a controller holds a picture of
+ * the floor, a wichteab_floor, and calls wichteab_floor_open, wichteab_floor_read, wichteab_floor_run and
+ * wichteab_floor_take_back on it; examples/controller.c does.
  *
  * What is proved: the functions under "Functions" are exported by the library. Each was proved to answer and
  * to write as described here for every input, to read and write only inside what it is lent, and to end. The
@@ -32,8 +32,9 @@
  *   Output     The result is one number: an answer, taken apart by the functions under "Helpers", or of the
  *              two functions that say so a length. Bytes are written only to a parameter named `buffer`, `floor`
  *              or `racks`, and only where the answer is accepted: a record begins at the buffer's first byte, and
- *              the bytes behind the record stay as they were. A refusal changes no byte. What is written to must
- *              not overlap another argument.
+ *              the bytes behind the record stay as they were. wichteab_season_report writes the five numbers of
+ *              `report` in the same way. A refusal changes no byte. What is written to must not overlap another
+ *              argument.
  */
 #ifndef WICHTEAB_H
 #define WICHTEAB_H
@@ -63,10 +64,12 @@ extern "C" {
  * Plans and timetables stored earlier for such floors are taken as before.
  *
  * Version 2.3 adds the live floor.
+ *
+ * Version 2.4 adds wichteab_season_report, with 46 and 47.
  */
-#define WICHTEAB_VERSION "2.3.0"
+#define WICHTEAB_VERSION "2.4.0"
 #define WICHTEAB_VERSION_MAJOR 2
-#define WICHTEAB_VERSION_MINOR 3
+#define WICHTEAB_VERSION_MINOR 4
 #define WICHTEAB_VERSION_PATCH 0
 
 /*
@@ -96,6 +99,9 @@ extern "C" {
  *              by position left, pad; c may be 0.
  *              A step's length is 1 + (3 * c + 1) / 2 bytes, and the timetable's is 3 and its steps'. The
  *              count c of the first step is byte 3; each next step begins where the one before it ends.
+ *   Season     up to WICHTEAB_SEASON_MOST pairs of an order and a timetable, one after another. An order ends
+ *              where its counts say and a timetable after its last step, whatever else is wrong with them; the
+ *              next pair follows directly.
  *
  * A record is passed alone, from its first byte to its last: a length that is not the record's own is
  * refused with 10, 30 or 40. Where one record follows another, wichteab_order_length and
@@ -107,6 +113,15 @@ extern "C" {
 
 /* How many moves a train may have, from its last rack to its leader. */
 #define WICHTEAB_TRAIN_LONGEST 8
+
+/* How many pairs a season may have. */
+#define WICHTEAB_SEASON_MOST 65535
+
+/* How many numbers a season report has. */
+#define WICHTEAB_REPORT_NUMBERS 5
+
+/* The parallelism of a season without steps: all ones, which no season's is. */
+#define WICHTEAB_PARALLELISM_NONE UINT64_MAX
 
 /*
  * Answers
@@ -163,6 +178,10 @@ enum {
                                         lowest such rack */
     WICHTEAB_TIMETABLE_BUFFER = 44,  /* the timetable buffer is shorter than 3 * k + 3 bytes */
     WICHTEAB_STEP_NUMBER = 45,       /* step 0, or a step above s, was requested */
+
+    /* The season; the place is the pair, from 1, and the earliest pair decides. */
+    WICHTEAB_SEASON_CUT = 46,   /* the bytes end before this pair does */
+    WICHTEAB_SEASON_PAIRS = 47, /* bytes follow the pair numbered 65,535, which is the place */
 
     /* The short order, tested in the order 50, 51, 14, 52; place 0. */
     WICHTEAB_SHORT_ORDER = 50,   /* its length, its spare bit or a pad bit is wrong */
@@ -338,6 +357,20 @@ uint64_t wichteab_timetable_make(const uint8_t *order, size_t order_length, cons
 uint64_t wichteab_timetable_step(const uint8_t *timetable, size_t timetable_length, uint64_t number);
 
 /*
+ * wichteab_season_report: how many pairs of a season are accepted, and how many racks moved at once?
+ *
+ * Takes a season of any length, which is only read, and an array of five numbers, whatever they are. Each pair is
+ * judged as wichteab_timetable_check judges it; one that is whole but refused is counted and passed over. Accepted:
+ * the answer is 0, and report[0] to report[4] are the pairs accepted, the pairs refused, the steps, the moves and the
+ * parallelism. Steps and moves are the exact totals over the accepted pairs; the parallelism is moves divided by
+ * steps, in thousandths rounded down, and with no steps WICHTEAB_PARALLELISM_NONE. No bytes at all are a season of
+ * no pairs: 0, 0, 0, 0 and none. Refused: 46 and 47, place: the pair; the array is as it was. A season that was cut
+ * between two pairs is a shorter season, and nothing tells: a caller that reads it from a file should see that it
+ * has read all of it. Each byte is read a bounded number of times, and nothing is kept but the totals.
+ */
+uint64_t wichteab_season_report(const uint8_t *bytes, size_t length, uint64_t report[WICHTEAB_REPORT_NUMBERS]);
+
+/*
  * wichteab_floor_open: opens the live floor.
  *
  * Takes a floor, whatever it holds, a role, an order and a timetable; order and timetable are only read. Accepted: the
@@ -409,7 +442,7 @@ static inline uint32_t wichteab_number(uint64_t answer)
     return (uint32_t)(answer & 0xFF);
 }
 
-/* A refusal's place: a move, a step or a rack, each counted from 1, or 0 where the number names none. */
+/* A refusal's place: a move, a step, a rack or a pair, each counted from 1, or 0 where the number names none. */
 static inline uint32_t wichteab_place(uint64_t answer)
 {
     return (uint32_t)(answer >> 8);
@@ -456,6 +489,36 @@ static inline size_t wichteab_step_offset(uint64_t answer)
 static inline size_t wichteab_step_length(uint64_t answer)
 {
     return (size_t)(answer >> 8 & 0xFFFF);
+}
+
+/* Of a season report, accepted: the pairs accepted. */
+static inline uint64_t wichteab_report_accepted(const uint64_t report[WICHTEAB_REPORT_NUMBERS])
+{
+    return report[0];
+}
+
+/* The pairs refused. */
+static inline uint64_t wichteab_report_refused(const uint64_t report[WICHTEAB_REPORT_NUMBERS])
+{
+    return report[1];
+}
+
+/* The steps of the accepted pairs. */
+static inline uint64_t wichteab_report_steps(const uint64_t report[WICHTEAB_REPORT_NUMBERS])
+{
+    return report[2];
+}
+
+/* The moves of the accepted pairs. */
+static inline uint64_t wichteab_report_moves(const uint64_t report[WICHTEAB_REPORT_NUMBERS])
+{
+    return report[3];
+}
+
+/* Moves divided by steps, in thousandths; with no steps WICHTEAB_PARALLELISM_NONE. */
+static inline uint64_t wichteab_report_parallelism(const uint64_t report[WICHTEAB_REPORT_NUMBERS])
+{
+    return report[4];
 }
 
 /* What a refusal's number speaks of: "order", "floor", "plan" or "timetable"; "other" for any other number. */
@@ -536,6 +599,10 @@ static inline const char *wichteab_reason(uint32_t number)
         return "The timetable buffer is too short: a plan of k moves needs 3 * k + 3 bytes.";
     case WICHTEAB_STEP_NUMBER:
         return "The timetable has no step of this number; its steps are counted from 1.";
+    case WICHTEAB_SEASON_CUT:
+        return "The bytes of the season end inside this pair of order and timetable: no totals are given.";
+    case WICHTEAB_SEASON_PAIRS:
+        return "Bytes follow pair 65,535 of the season, and a season has no more pairs: no totals are given.";
     case WICHTEAB_SHORT_ORDER:
         return "The short order was cut short, other bytes follow it, or a spare or pad bit of it is set.";
     case WICHTEAB_MODEL_UNKNOWN:

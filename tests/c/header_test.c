@@ -37,6 +37,8 @@ static const struct fault faults[] = {
     {WICHTEAB_TIMETABLE_GOAL, 43, "timetable"},
     {WICHTEAB_TIMETABLE_BUFFER, 44, "timetable"},
     {WICHTEAB_STEP_NUMBER, 45, "timetable"},
+    {WICHTEAB_SEASON_CUT, 46, "timetable"},
+    {WICHTEAB_SEASON_PAIRS, 47, "timetable"},
     {WICHTEAB_SHORT_ORDER, 50, "other"},
     {WICHTEAB_MODEL_UNKNOWN, 51, "other"},
     {WICHTEAB_ORDER_BUFFER, 52, "other"},

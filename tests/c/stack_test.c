@@ -30,6 +30,7 @@ static size_t order_length;
 static uint8_t plan[18 * POSITIONS * POSITIONS * POSITIONS + 3], timetable[3 * MOST_MOVES + 3];
 static uint8_t shortened[sizeof plan], converted[sizeof plan];
 static size_t plan_length, timetable_length;
+static uint64_t report[WICHTEAB_REPORT_NUMBERS];
 
 static void begin(struct record *record)
 {
@@ -232,6 +233,15 @@ static uint64_t floor_take_back(void)
     return wichteab_floor_take_back(&live, WICHTEAB_SUPERVISOR, order.bytes, order_length, timetable, timetable_length);
 }
 
+/* The order and the timetable as a season of one pair. */
+static uint64_t season_report(void)
+{
+    static uint8_t season[WICHTEAB_ORDER_LONGEST + sizeof timetable];
+    memcpy(season, order.bytes, order_length);
+    memcpy(season + order_length, timetable, timetable_length);
+    return wichteab_season_report(season, order_length + timetable_length, report);
+}
+
 /* A call and what it gave. */
 struct call {
     uint64_t (*function)(void);
@@ -351,6 +361,8 @@ static void run_all(void)
     expect(run(floor_read, "wichteab_floor_read") == 0, "read");
     expect(run(floor_run, "wichteab_floor_run") == (uint64_t)1 << 8, "the first step run on it");
     expect(run(floor_take_back, "wichteab_floor_take_back") == 0, "and taken back");
+    expect(run(season_report, "wichteab_season_report") == 0, "and they are a season of one pair");
+    expect(wichteab_report_accepted(report) == 1 && wichteab_report_moves(report) == wichteab_plan_moves(planned), "with the same moves");
 }
 
 int main(void)
@@ -369,5 +381,7 @@ int main(void)
     put_train();
     answer = run(timetable_check, "wichteab_timetable_check, a train of 63");
     expect(wichteab_number(answer) == WICHTEAB_TIMETABLE_STEP && wichteab_place(answer) == 1, "the train is too long");
+    expect(run(season_report, "wichteab_season_report, a train of 63") == 0, "such a pair is a season too");
+    expect(wichteab_report_refused(report) == 1, "in which it is refused");
     return close_tests();
 }

@@ -53,6 +53,8 @@ numberOf Fault.FloorSides = 26
 numberOf Fault.FloorRight = 60
 numberOf Fault.FloorRun = 61
 numberOf Fault.FloorTakeBack = 62
+numberOf Fault.SeasonCut = 46
+numberOf Fault.SeasonPairs = 47
 
 -- as an arm of a match on f tells it: f is some case, and r is that case's number
 pub record HasNumber (f : Fault) (r : ℕ) : Type 0 where

@@ -70,6 +70,10 @@ pub enum Fault {
     FloorRun,
     // There is no step to take back, or the lent step, turned round, is not legal on the live floor.
     FloorTakeBack,
+    // The bytes of a season end before a pair does.
+    SeasonCut,
+    // Bytes follow the pair numbered 65,535 of a season.
+    SeasonPairs,
 }
 
 // Document 01's number of a fault.
@@ -116,6 +120,8 @@ fn case_number(fault: Fault) -> u64
         Fault::FloorRight => 60,
         Fault::FloorRun => 61,
         Fault::FloorTakeBack => 62,
+        Fault::SeasonCut => 46,
+        Fault::SeasonPairs => 47,
     }
 }
 

@@ -5,7 +5,7 @@
 --     refuse-sized, passUp-sized, judged-sized        an answer made of sized answers is sized
 --     misplaced-small, Stopping                       a misplaced rack and the place where a replay stops are at most one above the list
 --     order-sized, floor-sized, expand-sized, planner-sized, made-sized, plan-sized, timetable-sized, maker-sized, shortener-sized,
---     converter-sized, step-sized
+--     converter-sized, step-sized, season-sized
 --                         so are the answers of each function
 -- Assumes nothing.
 use Prim.Native.Nat.{ℕ, zero, suc, _+_, _*_, _^_, _≤_, _<_}
@@ -15,7 +15,7 @@ use mathlib.Core.List.{List, [], _∷_}
 use mathlib.Core.Logic.{_≢_}
 use native.Mathlib.Omega.{arith}
 use borrow.Author.Tests.{ltb-false}
-use lib.Dec.{T, ltb, eqb, lit<}
+use lib.Dec.{T, ltb, eqb, lit<, lit≤}
 use lib.ListN.{length, drop, length-append, length-map}
 use Rattle.answers.specs.Answer.{Answer, accepted, refused, refuse, passUp}
 use Rattle.answers.proofs.AnswerLaws.{passUp-accepted}
@@ -52,6 +52,8 @@ use Rattle.timetable.proofs.SizeLaws.{count-small, total-small, offset-small, l
 use Rattle.converting.specs.Converter.{convertedOf, converterAnswer}
 use Rattle.shortening.specs.Shortener.{shortenerAnswer}
 use Rattle.shortening.proofs.ShortenerLaws.{moves-small}
+use Rattle.season.specs.Season.{orderPart, timetablePart, behindPair, cutShort, counted, seasonFrom, seasonAnswer}
+use Rattle.season.specs.declared.Totals.{Totals}
 use Rattle.scheduling.specs.Maker.{makerAnswer}
 use Rattle.scheduling.proofs.SizeLaws.{steps-small}
 
@@ -244,3 +246,17 @@ step-sized s i b =
     (λ _. refuse-sized (eqb i 0 || ltb (stepCount s) i) 45 0 _ tt tt (lit< tt)
     (λ e. let few = ltb-false (stepCount s) i (or-right (eqb i 0) (ltb (stepCount s) i) e) in
     accepts (offset-length (offset-small s b i few) (length-small s b i)))))
+
+pairs-sized : (k q : ℕ) → q + k ≤ 65535 → (t : Totals) (s : List ℕ) → Sized Any (seasonFrom k q t s)
+unfolding seasonFrom
+pairs-sized zero q few t [] = accepts tt
+pairs-sized zero q few t (b ∷ s) = refuses {number = 47} {place = q} (lit< tt) (lit< tt) (omega arith)
+pairs-sized (suc k) q few t [] = accepts tt
+pairs-sized (suc k) q few t (b ∷ s) =
+    let l = b ∷ s in
+    refuse-sized (cutShort l) 46 (suc q) _ tt tt (omega arith)
+    (λ _. pairs-sized k (suc q) (omega arith) (counted t (timetableAnswer (orderPart l) (timetablePart l))) (behindPair l))
+
+pub season-sized : (s : List ℕ) → Sized Any (seasonAnswer s)
+unfolding seasonAnswer
+season-sized s = pairs-sized 65535 0 (lit≤ tt) _ s

@@ -1,7 +1,7 @@
 // The C interface: include/wichteab.h says the same in C's words. Every function takes byte strings as pointer and length and
 // returns one number; none changes a byte that it was lent to read, and a refusal changes no byte at all. The number is an answer, packed,
-// or a length. The last four functions take the live floor's picture, a struct that the caller holds: each copies it out, calls a function
-// on the copy and stores what that left, without a branch.
+// or a length. The season report is five numbers more, in an array that the caller lends. The last four functions take the live floor's
+// picture, a struct that the caller holds: each copies it out, calls a function on the copy and stores what that left, without a branch.
 use answers::Fault;
 use converting::ConverterVerdict;
 use floor::FloorVerdict;
@@ -13,10 +13,14 @@ use order::OrderVerdict;
 use plan::PlanVerdict;
 use planner::PlannerVerdict;
 use scheduling::MakerVerdict;
+use season::Parallelism;
+use season::SeasonVerdict;
+use season::Totals;
 use shortening::ShortenerVerdict;
 use timetable::StepVerdict;
 use timetable::TimetableVerdict;
 ghost use mathlib.Core.Path.{_≡_};
+ghost use mathlib.Core.List.{_∷_};
 ghost use lib.ListN.{length};
 ghost use Rattle.answers.specs.Answer.{Answer, refusedBy};
 ghost use Rattle.order.specs.Order.{orderAnswer};
@@ -27,12 +31,14 @@ ghost use Rattle.plan.specs.Plan.{planAnswer};
 ghost use Rattle.converting.specs.Converter.{converterAnswer, bufferAfter as convertedBufferAfter};
 ghost use Rattle.planner.specs.Planner.{PlanMade};
 ghost use Rattle.scheduling.specs.Maker.{makerAnswer, bufferAfter};
+ghost use Rattle.season.specs.Season.{seasonAnswer, toldBy};
 ghost use Rattle.shortening.specs.Shortener.{shortenerAnswer, bufferAfter as planBufferAfter};
 ghost use Rattle.timetable.specs.Timetable.{timetableAnswer, stepAnswer};
 ghost use Rattle.timetable.specs.RecordLength.{wholeTimetableLength};
 ghost use Rattle.live.specs.Roles.{roleOf, opening, reading, running, takingBack};
 ghost use Rattle.live.specs.Calls.{callAnswer, byAnswer, pictureAfter, answerOf as liveAnswerOf};
 ghost use Rattle.controller.specs.Packed.{packed, nothing, oneCount, stepsAndMoves, lengthAndOffset};
+ghost use Rattle.controller.specs.Report.{numbers, orNone, reportAfter};
 ghost use Rattle.controller.specs.Unpacked.{Tells, uncounted, nothingOf, planMovesOf, madeStepsOf, stepsAndMovesOf};
 ghost use Rattle.controller.specs.Unpacked.{offsetAndLengthOf, recordLengthOf, floorStepsOf};
 
@@ -163,6 +169,38 @@ pub extern "C" fn wichteab_timetable_step(timetable: &[u8], number: u64) -> u64
     match timetable::find_step(timetable, number as usize) {
         StepVerdict::Found { offset, len } => ((len as u64) + (offset as u64) * 65536) * 256,
         StepVerdict::Refused(fault, place) => refusal(fault, place),
+    }
+}
+
+// A parallelism as one number; all ones where there is none.
+fn parallelism_number(p: Parallelism) -> u64
+    ensures { λ r. ⌜ r ≡ orNone (toldBy p) ⌝ }
+{
+    match p {
+        Parallelism::NoSteps => 18446744073709551615,
+        Parallelism::Thousandths(n) => n,
+    }
+}
+
+// The five numbers of a report, and 0 for an accepted season.
+fn put_report(t: Totals, p: Parallelism, report: &mut [u64; 5]) -> u64
+    ensures { λ r. ⌜ r ≡ 0 ⌝ }
+    ensures { λ _. ⌜ now (report .exit) ≡ numbers (t .accepted ∷ t .refused ∷ t .steps ∷ t .moves ∷ toldBy p) ⌝ }
+{
+    let last = parallelism_number(p);
+    *report = [t.accepted, t.refused, t.steps, t.moves, last];
+    0
+}
+
+// Reports on a season, order and timetable pairs one after another, judged by 46 and 47. Accepted, it writes the five numbers.
+#[no_mangle]
+pub extern "C" fn wichteab_season_report(bytes: &[u8], report: &mut [u64; 5]) -> u64
+    ensures { λ r. ⌜ Tells nothing nothingOf (uncounted (seasonAnswer (now (bytes .entry)))) r ⌝ }
+    ensures { λ _. ⌜ now (report .exit) ≡ reportAfter (seasonAnswer (now (bytes .entry))) (now (report .entry)) ⌝ }
+{
+    match season::report(bytes) {
+        SeasonVerdict::Report(totals, parallelism) => put_report(totals, parallelism, report),
+        SeasonVerdict::Refused(fault, place) => refusal(fault, place),
     }
 }
 

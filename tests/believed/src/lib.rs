@@ -10,13 +10,14 @@ use std::fs;
 use std::path::Path;
 
 /// The contracts that a C caller or a user of the programs relies on, and demand 3's: every definition that these files
-/// cite. Of the timetable program's crate it is the program's own contract.
-const CONTRACTS: [(&str, &[&str]); 5] = [
+/// cite. Of the timetable program's crate and of the season program's it is the program's own contract.
+const CONTRACTS: [(&str, &[&str]); 6] = [
     ("crates/controller/src/lib.rt", &[]),
     ("crates/delivery/src/lib.rt", &[]),
     ("crates/order_program/src/lib.rt", &[]),
     ("crates/plan_program/src/lib.rt", &[]),
     ("crates/text/src/lib.rt", &["programText", "Wrote"]),
+    ("crates/season_program/src/lib.rt", &["seasonText", "Wrote"]),
 ];
 
 /// The records that the main theorems state; of a file without names, all of it.
@@ -34,6 +35,7 @@ const THEOREMS: &[(&str, &[&str])] = &[
     ("crates/converting/specs/Theorems.antt", &[]),
     ("crates/live/specs/Picture.antt", &["LegalHere"]),
     ("crates/live/specs/Theorems.antt", &[]),
+    ("crates/season/specs/Theorems.antt", &[]),
 ];
 
 /// A decision carries the proof that it decides: what it decides stands in its type, and nobody has to believe the rest.

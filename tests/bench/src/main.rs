@@ -38,6 +38,7 @@ fn main() {
     timetable_step();
     live_floor();
     timetable_make();
+    season_report();
     quality::print_table();
     quality::print_rings();
     quality::print_shortened();
@@ -349,6 +350,37 @@ fn live_floor() {
                     |kind| second::live::call(&mut picture, kind, Some(Role::Supervisor), &order, &timetable);
                 compare::packed::count(call(Call::TakeBack)) + compare::packed::count(call(Call::Run))
             },
+        );
+    }
+}
+
+/// A season of the same order and timetable again and again, and what the timetable checker alone takes for them: the
+/// season report looks for each pair's end besides.
+fn season_report() {
+    for (m, steps, pairs) in [(62, 223, 1000), (62, 1_000_000, 4), (32, 1_000_000, 4)] {
+        let (order, timetable, moves) = grid_timetable(m, steps);
+        let season = [&order[..], &timetable].concat().repeat(pairs);
+        let mut numbers = [0; 5];
+        compare_speed(
+            "season_report",
+            &format!("{pairs} pairs of {steps} steps, {moves} moves"),
+            1,
+            || proved::season_report(black_box(&season), &mut numbers),
+            || compare::packed::nothing(second::season::report(black_box(&season))),
+        );
+        let (mut report, mut check) = (f64::MAX, f64::MAX);
+        for _ in 0..ROUNDS {
+            report = report.min(seconds(1, &mut || proved::season_report(black_box(&season), &mut numbers)));
+            check = check.min(seconds(1, &mut || {
+                (0..pairs).map(|_| proved::timetable_check(black_box(&order), &timetable)).sum()
+            }));
+        }
+        let speed = |time: f64| season.len() as f64 / time / 1e6;
+        println!(
+            "                 {:.0} MB a second; the timetable checker alone, pair by pair, {:.0}: ratio {:.2}",
+            speed(report),
+            speed(check),
+            check / report
         );
     }
 }

@@ -22,6 +22,7 @@
 //! | `timetables` | timetables, and damage                                             |
 //! | `live`       | pairs of an order and a timetable for one live floor               |
 //! | `trains`     | steps and plans with trains of a given length                      |
+//! | `seasons`    | order and timetable pairs one after another, and damage            |
 //! | `programs`   | the programs, run on an input                                      |
 
 #[macro_use]
@@ -41,6 +42,7 @@ pub mod racks;
 pub mod random;
 pub mod readers;
 pub mod rings;
+pub mod seasons;
 pub mod short_orders;
 pub mod tally;
 pub mod timetables;

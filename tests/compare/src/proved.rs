@@ -97,6 +97,7 @@ mod symbols {
             timetable: *const u8,
             timetable_length: usize,
         ) -> u64;
+        pub fn wichteab_season_report(bytes: *const u8, length: usize, report: *mut u64) -> u64;
         pub fn wichteab_order_length(bytes: *const u8, length: usize) -> u64;
         pub fn wichteab_timetable_length(bytes: *const u8, length: usize) -> u64;
         pub fn wichteab_inspect_breakdown(
@@ -263,6 +264,10 @@ pub fn floor_take_back(floor: &mut Floor, role: u32, order: &[u8], timetable: &[
             timetable.len(),
         )
     }
+}
+
+pub fn season_report(bytes: &[u8], report: &mut [u64; 5]) -> u64 {
+    unsafe { symbols::wichteab_season_report(bytes.as_ptr(), bytes.len(), report.as_mut_ptr()) }
 }
 
 pub fn order_length(bytes: &[u8]) -> u64 {

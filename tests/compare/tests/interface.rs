@@ -246,3 +246,26 @@ fn what_the_screen_example_prints() {
         "examples/screen.expected is due to read:\n{expected}"
     );
 }
+
+/// A season of 3,000 pairs, longer than the season program reads: the case book's order with its timetable, and the ring
+/// of ten with the same one, which is refused there.
+#[test]
+fn what_the_season_example_prints() {
+    let timetable = file("examples/casebook.timetable");
+    let season =
+        [casebook().record(), timetable.clone(), ring_of_ten().record(), timetable].concat().repeat(1_500);
+    assert!(season.len() > 65_536, "the program would do");
+    let report = second::season::report(&season).expect("whole");
+    let expected = format!(
+        "accepted {}\nrefused {}\nsteps {}\nmoves {}\nparallelism {}\n",
+        report.accepted,
+        report.refused,
+        report.steps,
+        report.moves,
+        report.parallelism().expect("there are steps")
+    );
+    assert!(
+        text("examples/season.expected") == expected,
+        "examples/season.expected is due to read:\n{expected}"
+    );
+}

@@ -22,6 +22,7 @@
 //! | `converting` | request (h), the other edition   | 38                 |
 //! | `live`      | request (k), the live floor       | 60 to 62           |
 //! | `shortest`  | requests (g) and (i), no shorter timetable |           |
+//! | `season`    | request (l), season report        | 46, 47             |
 #![forbid(unsafe_code)]
 
 pub mod answer;
@@ -38,6 +39,7 @@ pub mod plan;
 pub mod planning;
 pub mod program;
 pub mod record;
+pub mod season;
 pub mod shortening;
 pub mod shortest;
 pub mod timetable;

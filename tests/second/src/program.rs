@@ -7,6 +7,7 @@ use crate::order;
 use crate::plan;
 use crate::planning;
 use crate::record::{pair, positions};
+use crate::season;
 use crate::timetable::step_length;
 
 /// "Each program reads at most 65,536 bytes and judges those."
@@ -61,6 +62,20 @@ pub fn timetable_program(input: &[u8]) -> String {
     match making::make(order, plan, &mut buffer) {
         Err(refused) => refusal(refused),
         Ok(s) => lines(s, &buffer),
+    }
+}
+
+/// What the season program prints: "the lines `accepted`, `refused`, `steps`, `moves` and `parallelism`, in that order,
+/// each followed by a space and its number; with no steps the last reads `parallelism none`".
+pub fn season_program(input: &[u8]) -> String {
+    match season::report(&input[..input.len().min(READ)]) {
+        Err(refused) => refusal(refused),
+        Ok(report) => {
+            let season::Report { accepted, refused, steps, moves } = report;
+            let parallelism =
+                report.parallelism().map_or("none".to_string(), |quotient| quotient.to_string());
+            format!("accepted {accepted}\nrefused {refused}\nsteps {steps}\nmoves {moves}\nparallelism {parallelism}\n")
+        }
     }
 }
 

@@ -1,0 +1,3 @@
+pub mod SeasonLaws
+pub mod Pairs
+pub mod Examples

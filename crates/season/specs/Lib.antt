@@ -1,0 +1,3 @@
+pub mod Season
+pub mod Pair
+pub mod Theorems
