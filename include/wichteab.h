@@ -66,10 +66,12 @@ extern "C" {
  * Version 2.3 adds the live floor.
  *
  * Version 2.4 adds wichteab_season_report, with 46 and 47.
+ *
+ * Version 2.5 adds wichteab_dearest_carry, with 27 and 28.
  */
-#define WICHTEAB_VERSION "2.4.0"
+#define WICHTEAB_VERSION "2.5.0"
 #define WICHTEAB_VERSION_MAJOR 2
-#define WICHTEAB_VERSION_MINOR 4
+#define WICHTEAB_VERSION_MINOR 5
 #define WICHTEAB_VERSION_PATCH 0
 
 /*
@@ -92,9 +94,9 @@ extern "C" {
  *              rack that moves, minus 1. Its length is 3 + (9 * k + 3) / 4 bytes; the pad has 0, 6, 4 or 2 bits
  *              where k % 4 is 0, 1, 2 or 3.
  *              The spare bits 10 and 11 are no edition: a plan with them is measured as edition one (30) and
- *              then refused (31). Every function that takes a plan reads both editions. wichteab_plan_make
- *              writes edition two, wichteab_plan_shorten the edition of the plan given, and
- *              wichteab_plan_convert the other one.
+ *              then refused (31). Every function that takes a plan reads both editions. wichteab_plan_make and
+ *              wichteab_dearest_carry write edition two, wichteab_plan_shorten the edition of the plan given,
+ *              and wichteab_plan_convert the other one.
  *   Timetable  s (steps) in 22 bits, two spare zero bits; s steps. A step is one byte c, c moves ascending
  *              by position left, pad; c may be 0.
  *              A step's length is 1 + (3 * c + 1) / 2 bytes, and the timetable's is 3 and its steps'. The
@@ -153,6 +155,10 @@ enum {
     WICHTEAB_FLOOR_ORDER = 24,           /* it is a ring, and the racks stand in another order round it at the
                                             goal, so that no plan exists; judged before 23 */
     WICHTEAB_FLOOR_SIDES = 26,           /* a position has five or more edges; judged before 23 */
+
+    /* The floor, judged for its dearest carry; place 0. */
+    WICHTEAB_FLOOR_NOT_CONNECTED = 27, /* some position has no way to some other */
+    WICHTEAB_CARRY_BUFFER = 28,        /* the plan buffer cannot hold an edition-two plan of n - 1 moves */
 
     /* The plan; place 0 unless it is named. The first move that is not legal at its turn, or that names a wrong
        rack, decides, with the first of 32, 34, 35 and 36 that applies to it; all four come before 33. */
@@ -315,6 +321,21 @@ uint64_t wichteab_plan_convert(const uint8_t *order, size_t order_length, const 
                                size_t plan_length, uint8_t *buffer, size_t buffer_length);
 
 /*
+ * wichteab_dearest_carry: what is the worst trip of one rack alone on this floor?
+ *
+ * Takes an order, which is only read, and a buffer that can hold an edition-two plan of n - 1 moves (see
+ * wichteab_carry_buffer_length), whatever it holds. The order has to be well formed; its own racks are set aside, and
+ * its floor may have any shape. For one rack alone, of all pairs of a start and a goal those are taken whose shortest
+ * plan is longest: the lowest start, then the lowest goal. Accepted: wichteab_carry_start, wichteab_carry_goal and
+ * wichteab_carry_moves give the two and the count of moves, at most n - 1, and a shortest plan is at the front of the
+ * buffer, in edition two, wichteab_plan_length(2, moves) bytes long: of several, the one that enters the lower position
+ * at the first move where they differ. For the order of one rack from that start to that goal on the same floor
+ * wichteab_plan_check accepts it, and no shorter plan. On a floor of one position it is 0 to 0 with no moves. Refused:
+ * 10 to 14, then 27, then 28, place 0; the buffer is as it was.
+ */
+uint64_t wichteab_dearest_carry(const uint8_t *order, size_t order_length, uint8_t *buffer, size_t buffer_length);
+
+/*
  * wichteab_timetable_check: does this timetable bring every rack of the order to its goal?
  *
  * Takes an order, on a floor of any shape, and a timetable; both are only read. A step is legal if its moves
@@ -461,6 +482,24 @@ static inline uint32_t wichteab_plan_moves(uint64_t answer)
     return (uint32_t)(answer >> 8);
 }
 
+/* Of wichteab_dearest_carry, accepted: the start. */
+static inline uint32_t wichteab_carry_start(uint64_t answer)
+{
+    return (uint32_t)(answer >> 8 & 0xFF);
+}
+
+/* Of wichteab_dearest_carry, accepted: the goal. */
+static inline uint32_t wichteab_carry_goal(uint64_t answer)
+{
+    return (uint32_t)(answer >> 16 & 0xFF);
+}
+
+/* Of wichteab_dearest_carry, accepted: the moves of the plan that was written. */
+static inline uint32_t wichteab_carry_moves(uint64_t answer)
+{
+    return (uint32_t)(answer >> 24);
+}
+
 /* Of wichteab_timetable_check or wichteab_timetable_make, accepted: the timetable's steps. */
 static inline uint32_t wichteab_timetable_steps(uint64_t answer)
 {
@@ -564,6 +603,10 @@ static inline const char *wichteab_reason(uint32_t number)
     case WICHTEAB_FLOOR_SIDES:
         return "A position of the floor has five or more edges: a rack has four sides, so no position may have "
                "more than four.";
+    case WICHTEAB_FLOOR_NOT_CONNECTED:
+        return "The floor is not connected: a rack at some position cannot be brought to some other.";
+    case WICHTEAB_CARRY_BUFFER:
+        return "The plan buffer is too short: it has to hold a plan of edition two with n - 1 moves.";
     case WICHTEAB_PLAN_LENGTH:
         return "The plan was cut short, or other bytes follow it: its length is not the one its count of moves "
                "gives in its edition.";
@@ -653,6 +696,13 @@ static inline size_t wichteab_converted_length(const uint8_t *plan, size_t plan_
 static inline size_t wichteab_plan_buffer_length(uint32_t positions)
 {
     return 18 * (size_t)positions * positions * positions + 3;
+}
+
+/* The length that wichteab_dearest_carry asks of its buffer, for an order of so many positions: that of a plan of one
+   move fewer. It is 3 for none; the order is refused then. 145 bytes are enough for any order. */
+static inline size_t wichteab_carry_buffer_length(uint32_t positions)
+{
+    return wichteab_plan_length(2, positions > 0 ? positions - 1 : 0);
 }
 
 /* The length that wichteab_timetable_make asks of its buffer, for a plan of so many moves. */

@@ -85,6 +85,8 @@ static void run_sums(void)
     expect(wichteab_plan_length(2, 0x3FFFFF) == 9437185, "the longest plan of edition two");
     expect(wichteab_timetable_buffer_length(0x3FFFFF) == 12582912, "the longest plan's timetable");
     expect(wichteab_plan_buffer_length(4) == 1155, "a plan buffer for 4 positions");
+    expect(wichteab_carry_buffer_length(1) == 3 && wichteab_carry_buffer_length(2) == 6, "a carry's buffer for 1 and 2 positions");
+    expect(wichteab_carry_buffer_length(5) == 12 && wichteab_carry_buffer_length(64) == 145, "for 5 and 64");
     expect(wichteab_plan_buffer_length(15) == 60753, "a plan buffer for 15 positions");
     expect(wichteab_plan_buffer_length(16) == 73731, "a plan buffer for 16 positions");
     expect(wichteab_plan_buffer_length(64) == 4718595, "a plan buffer for 64 positions");

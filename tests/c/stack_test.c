@@ -233,6 +233,12 @@ static uint64_t floor_take_back(void)
     return wichteab_floor_take_back(&live, WICHTEAB_SUPERVISOR, order.bytes, order_length, timetable, timetable_length);
 }
 
+static uint64_t dearest_carry(void)
+{
+    static uint8_t buffer[145];
+    return wichteab_dearest_carry(order.bytes, order_length, buffer, sizeof buffer);
+}
+
 /* The order and the timetable as a season of one pair. */
 static uint64_t season_report(void)
 {
@@ -361,6 +367,7 @@ static void run_all(void)
     expect(run(floor_read, "wichteab_floor_read") == 0, "read");
     expect(run(floor_run, "wichteab_floor_run") == (uint64_t)1 << 8, "the first step run on it");
     expect(run(floor_take_back, "wichteab_floor_take_back") == 0, "and taken back");
+    expect(wichteab_number(run(dearest_carry, "wichteab_dearest_carry")) == 0, "its floor has a dearest carry");
     expect(run(season_report, "wichteab_season_report") == 0, "and they are a season of one pair");
     expect(wichteab_report_accepted(report) == 1 && wichteab_report_moves(report) == wichteab_plan_moves(planned), "with the same moves");
 }

@@ -55,6 +55,8 @@ numberOf Fault.FloorRun = 61
 numberOf Fault.FloorTakeBack = 62
 numberOf Fault.SeasonCut = 46
 numberOf Fault.SeasonPairs = 47
+numberOf Fault.FloorNotConnected = 27
+numberOf Fault.CarryBuffer = 28
 
 -- as an arm of a match on f tells it: f is some case, and r is that case's number
 pub record HasNumber (f : Fault) (r : ℕ) : Type 0 where

@@ -74,6 +74,10 @@ pub enum Fault {
     SeasonCut,
     // Bytes follow the pair numbered 65,535 of a season.
     SeasonPairs,
+    // The floor is not connected.
+    FloorNotConnected,
+    // The plan buffer cannot hold an edition-two plan of n - 1 moves.
+    CarryBuffer,
 }
 
 // Document 01's number of a fault.
@@ -122,6 +126,8 @@ fn case_number(fault: Fault) -> u64
         Fault::FloorTakeBack => 62,
         Fault::SeasonCut => 46,
         Fault::SeasonPairs => 47,
+        Fault::FloorNotConnected => 27,
+        Fault::CarryBuffer => 28,
     }
 }
 

@@ -1,11 +1,11 @@
 -- How large the numbers of the answers are, for every input: they fit the fields of the C interface.
 --
 --     Sized Fits a        the answer a is accepted with counts that fit, or refused with a number from 1 to 255 at a place below 2³²
---     NoCounts, OneCount, StepsMoves, OffsetLength    the counts that fit, by function
+--     NoCounts, OneCount, StepsMoves, OffsetLength, StartGoalMoves    the counts that fit, by function
 --     refuse-sized, passUp-sized, judged-sized        an answer made of sized answers is sized
 --     misplaced-small, Stopping                       a misplaced rack and the place where a replay stops are at most one above the list
 --     order-sized, floor-sized, expand-sized, planner-sized, made-sized, plan-sized, timetable-sized, maker-sized, shortener-sized,
---     converter-sized, step-sized, season-sized
+--     converter-sized, step-sized, season-sized, carry-sized
 --                         so are the answers of each function
 -- Assumes nothing.
 use Prim.Native.Nat.{ℕ, zero, suc, _+_, _*_, _^_, _≤_, _<_}
@@ -56,6 +56,8 @@ use Rattle.season.specs.Season.{orderPart, timetablePart, behindPair, cutShort,
 use Rattle.season.specs.declared.Totals.{Totals}
 use Rattle.scheduling.specs.Maker.{makerAnswer}
 use Rattle.scheduling.proofs.SizeLaws.{steps-small}
+use Rattle.carry.specs.CarryAnswer.{notConnected, cannotHold, carryAnswer}
+use Rattle.carry.proofs.Theorems.{carry-small}
 
 pub data Sized (Fits : List ℕ → Type 0) : Answer → Type 0 where
   accepts : {v : List ℕ} → Fits v → Sized Fits (accepted v)
@@ -76,6 +78,9 @@ pub data StepsMoves : List ℕ → Type 0 where
 
 pub data OffsetLength : List ℕ → Type 0 where
   offset-length : {at n : ℕ} → at < 2 ^ 31 → n ≤ 384 → OffsetLength (at ∷ n ∷ [])
+
+pub data StartGoalMoves : List ℕ → Type 0 where
+  start-goal-moves : {s g k : ℕ} → s < 64 → g < 64 → k < 64 → StartGoalMoves (s ∷ g ∷ k ∷ [])
 
 -- whatever the counts are
 abbrev Any : List ℕ → Type 0
@@ -260,3 +265,13 @@ pairs-sized (suc k) q few t (b ∷ s) =
 pub season-sized : (s : List ℕ) → Sized Any (seasonAnswer s)
 unfolding seasonAnswer
 season-sized s = pairs-sized 65535 0 (lit≤ tt) _ s
+
+pub carry-sized : (o : List ℕ) (b : ℕ) → Sized StartGoalMoves (carryAnswer o b)
+unfolding carryAnswer
+carry-sized o b =
+    passUp-sized (orderAnswer o) _ (order-sized o)
+    (λ v e. refuse-sized (notConnected (floorOf o)) 27 0 _ tt tt (lit< tt)
+    (λ whole. refuse-sized (cannotHold (floorOf o) b) 28 0 _ tt tt (lit< tt)
+    (λ room.
+    let small = carry-small o b _ _ _ (sym (passUp-accepted (orderAnswer o) _ v e ∙ rw (whole, room) refl)) in
+    accepts (start-goal-moves (small .0) (small .1) (small .2)))))

@@ -5,18 +5,19 @@
 --     packed-back               so does the answer that has them
 --     tells                     the one law: the number of a sized answer tells it
 --     told-apart                one number tells one answer
---     nothing-packs, record-length-packs, plan-moves-pack, made-steps-pack, floor-steps-pack, steps-moves-pack, offset-length-packs
+--     nothing-packs, record-length-packs, plan-moves-pack, made-steps-pack, floor-steps-pack, steps-moves-pack, offset-length-packs,
+--     start-goal-moves-pack
 --                               each packing of `Packed`
 --     uncounted-sized, uncounted-same    an answer without its counts is sized, and has the same number where no counts are given
 -- Assumes nothing.
-use Prim.Native.Nat.{ℕ, _*_, _/_, _%_, _^_, _<_}
+use Prim.Native.Nat.{ℕ, _+_, _*_, _/_, _%_, _^_, _<_}
 use mathlib.Core.Path.{_≡_, refl, sym, ap, ap₂, _∙_}
 use mathlib.Core.List.{List, [], _∷_}
 use native.Mathlib.Nat.{mod-eq-of-lt}
 use native.Mathlib.Omega.{arith}
 use borrow.Author.Tests.{ne-eqb}
 use Rattle.answers.specs.Answer.{Answer, accepted, refused}
-use Rattle.controller.specs.Packed.{packed, nothing, oneCount, stepsAndMoves, lengthAndOffset}
+use Rattle.controller.specs.Packed.{packed, nothing, oneCount, stepsAndMoves, lengthAndOffset, startGoalMoves}
 use Rattle.controller.specs.Unpacked.{
   numberIn,
   placeIn,
@@ -27,6 +28,7 @@ use Rattle.controller.specs.Unpacked.{
   floorStepsOf,
   stepsAndMovesOf,
   offsetAndLengthOf,
+  startGoalMovesOf,
   takenApart,
   uncounted,
   Tells,
@@ -45,6 +47,8 @@ use Rattle.controller.proofs.AnswerSizes.{
   steps-moves,
   OffsetLength,
   offset-length,
+  StartGoalMoves,
+  start-goal-moves,
 }
 
 pub record Packs (rest : List ℕ → ℕ) (values : ℕ → List ℕ) (Fits : List ℕ → Type 0) : Type 0 where
@@ -137,6 +141,23 @@ offset-length-packs = record { room = room; read = read }
         let at-is : r / 2 ^ 24 ≡ at = omega arith in
         let n-is : r / 2 ^ 8 % 2 ^ 16 ≡ n = omega arith in
         ap₂ (λ (x y : ℕ). x ∷ y ∷ []) at-is n-is
+
+pub start-goal-moves-pack : Packs startGoalMoves startGoalMovesOf StartGoalMoves
+start-goal-moves-pack = record { room = room; read = read }
+  where
+    room : (v : List ℕ) → StartGoalMoves v → startGoalMoves v < 2 ^ 56
+    room (s ∷ g ∷ k ∷ []) (start-goal-moves fs fg fk) = omega arith
+
+    read : (v : List ℕ) → StartGoalMoves v → startGoalMovesOf (startGoalMoves v * 256) ≡ v
+    read (s ∷ g ∷ k ∷ []) (start-goal-moves fs fg fk) =
+        let r = startGoalMoves (s ∷ g ∷ k ∷ []) * 256 in
+        let all : r / 2 ^ 8 ≡ s + (g + k * 256) * 256 = omega arith in
+        let high : r / 2 ^ 16 ≡ g + k * 256 = omega arith in
+        let top : r / 2 ^ 24 ≡ k = omega arith in
+        let s-is : r / 2 ^ 8 % 2 ^ 8 % 2 ^ 32 ≡ s = rw all (omega arith) in
+        let g-is : r / 2 ^ 16 % 2 ^ 8 % 2 ^ 32 ≡ g = rw high (omega arith) in
+        let k-is : r / 2 ^ 24 % 2 ^ 32 ≡ k = rw top (omega arith) in
+        ap₂ (λ (x : ℕ) (l : List ℕ). x ∷ l) s-is (ap₂ (λ (x y : ℕ). x ∷ y ∷ []) g-is k-is)
 
 pub uncounted-sized : {Fits : List ℕ → Type 0} {a : Answer} → Sized Fits a → Sized NoCounts (uncounted a)
 uncounted-sized (accepts fits) = accepts no-counts

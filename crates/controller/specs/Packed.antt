@@ -7,6 +7,7 @@
 --     oneCount         the one count: a full order's length, a plan's moves, a made timetable's steps, a live floor's steps
 --     stepsAndMoves    a timetable's steps in 22 bits, its moves above them
 --     lengthAndOffset  a step's length in 16 bits, its offset above it
+--     startGoalMoves   a carry's start in 8 bits, its goal in 8 above it, its moves above them
 -- Assumes nothing.
 use Prim.Native.Nat.{ℕ, _+_, _*_, _^_}
 use mathlib.Core.List.{List}
@@ -28,3 +29,6 @@ stepsAndMoves counts = getD counts 0 0 + getD counts 1 0 * 2 ^ 22
 
 abbrev pub lengthAndOffset : List ℕ → ℕ
 lengthAndOffset values = getD values 1 0 + getD values 0 0 * 2 ^ 16
+
+abbrev pub startGoalMoves : List ℕ → ℕ
+startGoalMoves counts = getD counts 0 0 + getD counts 1 0 * 2 ^ 8 + getD counts 2 0 * 2 ^ 16

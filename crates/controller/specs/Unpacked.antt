@@ -2,7 +2,8 @@
 -- quotient by 2 ^ k, a mask of k ones the remainder by 2 ^ k, a cast to uint32_t the remainder by 2 ^ 32; size_t is as wide as the number.
 --
 --     numberIn r, placeIn r        wichteab_number, wichteab_place
---     nothingOf r, recordLengthOf r, planMovesOf r, madeStepsOf r, floorStepsOf r, stepsAndMovesOf r, offsetAndLengthOf r
+--     nothingOf r, recordLengthOf r, planMovesOf r, madeStepsOf r, floorStepsOf r, stepsAndMovesOf r, offsetAndLengthOf r,
+--     startGoalMovesOf r
 --                                  what a caller reads of an accepted answer
 --     takenApart values r          the answer that a caller makes of the number r: its number, and then its place or what `values` reads
 --     uncounted a                  the answer a, without the counts of an accepted input
@@ -51,6 +52,11 @@ stepsAndMovesOf r = r / 2 ^ 8 % 2 ^ 22 % 2 ^ 32 ∷ r / 2 ^ 30 % 2 ^ 32 ∷ []
 -- wichteab_step_offset: (size_t)(answer >> 24); wichteab_step_length: (size_t)(answer >> 8 & 0xFFFF)
 abbrev pub offsetAndLengthOf : ℕ → List ℕ
 offsetAndLengthOf r = r / 2 ^ 24 ∷ r / 2 ^ 8 % 2 ^ 16 ∷ []
+
+-- wichteab_carry_start: (uint32_t)(answer >> 8 & 0xFF); wichteab_carry_goal: (uint32_t)(answer >> 16 & 0xFF); wichteab_carry_moves:
+-- (uint32_t)(answer >> 24)
+abbrev pub startGoalMovesOf : ℕ → List ℕ
+startGoalMovesOf r = r / 2 ^ 8 % 2 ^ 8 % 2 ^ 32 ∷ r / 2 ^ 16 % 2 ^ 8 % 2 ^ 32 ∷ r / 2 ^ 24 % 2 ^ 32 ∷ []
 
 -- "0 where the input is accepted, else one of the refusals"
 unfoldable pub takenApart : (ℕ → List ℕ) → ℕ → Answer

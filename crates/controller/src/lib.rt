@@ -3,6 +3,7 @@
 // or a length. The season report is five numbers more, in an array that the caller lends. The last four functions take the live floor's
 // picture, a struct that the caller holds: each copies it out, calls a function on the copy and stores what that left, without a branch.
 use answers::Fault;
+use carry::CarryVerdict;
 use converting::ConverterVerdict;
 use floor::FloorVerdict;
 use live::Driven;
@@ -31,16 +32,17 @@ ghost use Rattle.plan.specs.Plan.{planAnswer};
 ghost use Rattle.converting.specs.Converter.{converterAnswer, bufferAfter as convertedBufferAfter};
 ghost use Rattle.planner.specs.Planner.{PlanMade};
 ghost use Rattle.scheduling.specs.Maker.{makerAnswer, bufferAfter};
+ghost use Rattle.carry.specs.CarryAnswer.{carryAnswer, bufferAfter as carryBufferAfter};
 ghost use Rattle.season.specs.Season.{seasonAnswer, toldBy};
 ghost use Rattle.shortening.specs.Shortener.{shortenerAnswer, bufferAfter as planBufferAfter};
 ghost use Rattle.timetable.specs.Timetable.{timetableAnswer, stepAnswer};
 ghost use Rattle.timetable.specs.RecordLength.{wholeTimetableLength};
 ghost use Rattle.live.specs.Roles.{roleOf, opening, reading, running, takingBack};
 ghost use Rattle.live.specs.Calls.{callAnswer, byAnswer, pictureAfter, answerOf as liveAnswerOf};
-ghost use Rattle.controller.specs.Packed.{packed, nothing, oneCount, stepsAndMoves, lengthAndOffset};
+ghost use Rattle.controller.specs.Packed.{packed, nothing, oneCount, stepsAndMoves, lengthAndOffset, startGoalMoves};
 ghost use Rattle.controller.specs.Report.{numbers, orNone, reportAfter};
 ghost use Rattle.controller.specs.Unpacked.{Tells, uncounted, nothingOf, planMovesOf, madeStepsOf, stepsAndMovesOf};
-ghost use Rattle.controller.specs.Unpacked.{offsetAndLengthOf, recordLengthOf, floorStepsOf};
+ghost use Rattle.controller.specs.Unpacked.{offsetAndLengthOf, recordLengthOf, floorStepsOf, startGoalMovesOf};
 
 // A refusal as one number.
 fn refusal(fault: Fault, place: u32) -> u64
@@ -133,6 +135,22 @@ pub extern "C" fn wichteab_plan_convert(order: &[u8], plan: &[u8], buffer: &mut 
     match converting::convert(order, plan, buffer) {
         ConverterVerdict::Accepted(moves) => (moves as u64) * 256,
         ConverterVerdict::Refused(fault, place) => refusal(fault, place),
+    }
+}
+
+// Writes the plan of the dearest carry of one rack alone on an order's floor to the front of the buffer, judged by 10 to 14, 27 and 28.
+// Accepted, it gives the start, the goal and the plan's moves.
+#[no_mangle]
+pub extern "C" fn wichteab_dearest_carry(order: &[u8], buffer: &mut [u8]) -> u64
+    ensures { λ r. ⌜ Tells startGoalMoves startGoalMovesOf (carryAnswer (now (order .entry)) (length (now (buffer .entry)))) r ⌝ }
+    ensures { λ _. ⌜ now (buffer .exit) ≡ carryBufferAfter (now (order .entry)) (now (buffer .entry)) ⌝ }
+{
+    match carry::make(order, buffer) {
+        CarryVerdict::Found(carry) => ((carry.start as u64)
+            + (carry.goal as u64) * 256
+            + (carry.moves as u64) * 65536)
+            * 256,
+        CarryVerdict::Refused(fault, place) => refusal(fault, place),
     }
 }
 

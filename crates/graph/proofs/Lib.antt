@@ -4,6 +4,7 @@ pub mod ConnectedLaws
 pub mod Decision
 pub mod EdgeCountLaws
 pub mod Examples
+pub mod FewLaws
 pub mod NearestLaws
 pub mod RowLaws
 pub mod WalkLaws

@@ -33,6 +33,7 @@ nearest-same to from r =
           };
       target = r .target;
       shortest = λ t j walk is. r .shortest t j (walk-inside from walk) is;
+      lowest = λ i w t more e walk is. r .lowest i w t more e (walk-inside from walk) is;
     }
 
 pub nearest-targets : {E : ℕ → ℕ → Type 0} {P T : ℕ → Type 0} {a k : ℕ} {f : ℕ → ℕ} (U : ℕ → Type 0) → ((p : ℕ) → T p → U p)
@@ -43,6 +44,7 @@ nearest-targets U to from r =
       path = r .path;
       target = λ h. to _ (r .target h);
       shortest = λ t j walk is. r .shortest t j walk (from t is);
+      lowest = λ i w t more e walk is. r .lowest i w t more e walk (from t is);
     }
 
 module _ {E : ℕ → ℕ → Type 0} {P T : ℕ → Type 0} {a k : ℕ} {f : ℕ → ℕ} (r : Nearest E P T a k f) where

@@ -7,7 +7,7 @@
 --     whole-nothing       nothing hangs together
 --     whole-reached       nothing is left unreached from one position of a set exactly where the set hangs together
 -- Assumes nothing.
-use Prim.Native.Nat.{ℕ, _+_, _-_, _≤_, _<_}
+use Prim.Native.Nat.{ℕ, suc, _+_, _-_, _≤_, _<_}
 use mathlib.Core.Path.{_≡_, refl, sym, subst, ap, _∙_}
 use mathlib.Core.List.{List}
 use mathlib.Core.Bool.{Bool, true}
@@ -21,6 +21,7 @@ use lib.Seq.{getD-set-same, getD-set-other}
 use Rattle.sets.specs.Sets.{Has}
 use Rattle.sets.proofs.SetLaws.{has-and, has-none, has-positive, none-empty}
 use Rattle.graph.specs.Walk.{Walk, Way, Symmetric}
+use Rattle.graph.specs.Walk.Walk.{step}
 use Rattle.graph.proofs.WalkLaws.{walk-first, walk-alone}
 use Rattle.graph.specs.Connected.{Whole, Except, Below}
 use Rattle.graph.proofs.ConnectedLaws.{whole-base, whole-same}
@@ -40,6 +41,7 @@ pub record Tracing (E : ℕ → ℕ → Type 0) (l : List ℕ) (d a : ℕ) (f : 
   pub on : Has (getD l (d - k) 0) v
   pub joined : (i : ℕ) → i + 1 < k → E (getD f i 0) (getD f (i + 1) 0)
   pub level : (i : ℕ) → i < k → Has (getD l (d - 1 - i) 0) (getD f i 0)
+  pub lowest : (i w : ℕ) → i + 1 < k → E (getD f i 0) w → Has (getD l (d - 1 - (i + 1)) 0) w → getD f (i + 1) 0 ≤ w
 
 module _ (g l : List ℕ) (d a : ℕ) where
   pub tracing-begin : 0 < d → a < 64 → Has (getD l (d - 1) 0) a → Tracing (Edge g) l d a (set (replicate 64 0) 0 a) a 1
@@ -56,6 +58,7 @@ module _ (g l : List ℕ) (d a : ℕ) where
         level = λ i h.
             subst (λ (j : ℕ). Has (getD l (d - 1 - j) 0) (getD (set (replicate 64 0) 0 a) j 0)) (zero-below i h)
             (subst (λ (j : ℕ). Has (getD l j 0) a) least on);
+        lowest = λ i w h. absurd (none i h);
       }
     where
       zero-of : (i : ℕ) → i + 1 ≡ 1 → 0 ≡ i
@@ -81,8 +84,8 @@ module _ (g l : List ℕ) (d a : ℕ) where
         has-positive _ (n .at) (has-and (getD g v 0) (getD l (d - 1 - k) 0) (n .at) .1 (n .edge, n .there))
 
     pub tracing-step : (w : ℕ) → k < 64 → w < 64 → Has (bitAnd (getD g v 0) (getD l (d - 1 - k) 0)) w
-        → Tracing (Edge g) l d a (set f k w) w (k + 1)
-    tracing-step w fits small has =
+        → ((p : ℕ) → Has (bitAnd (getD g v 0) (getD l (d - 1 - k) 0)) p → w ≤ p) → Tracing (Edge g) l d a (set f k w) w (k + 1)
+    tracing-step w fits small has least =
         let both = has-and (getD g v 0) (getD l (d - 1 - k) 0) w .0 has in
         let some = t .some in
         let next : d - 1 - k ≡ d - (k + 1) = omega arith in
@@ -105,6 +108,15 @@ module _ (g l : List ℕ) (d a : ℕ) where
               (λ e. subst (λ (j : ℕ). Has (getD l (d - 1 - j) 0) (getD (set f k w) j 0)) (sym e)
               (subst (Has (getD l (d - 1 - k) 0)) (sym (here k refl)) (both .1)))
               (λ e. subst (Has (getD l (d - 1 - i) 0)) (sym (old i (omega arith))) (t .level i (omega arith)));
+          lowest = λ i u h e on.
+              by-cases (ℕ-discrete (i + 1) k)
+              (λ q. subst (λ (y : ℕ). y ≤ u) (sym (here (i + 1) q))
+              (least u (has-and (getD g v 0) (getD l (d - 1 - k) 0) u .1 (
+                subst (λ (y : ℕ). Edge g y u) (old i (omega arith) ∙ t .last i q) e,
+                subst (λ (j : ℕ). Has (getD l (d - 1 - j) 0) u) q on,
+              ))))
+              (λ q. subst (λ (y : ℕ). y ≤ u) (sym (old (i + 1) (omega arith)))
+              (t .lowest i u (omega arith) (subst (λ (y : ℕ). Edge g y u) (old i (omega arith)) e) on));
         }
       where
         more-suc : k + 1 ≤ d
@@ -118,7 +130,12 @@ module _ (g l : List ℕ) (d a : ℕ) where
 
   pub tracing-end : (f : List ℕ) (v k : ℕ) → d ≤ k → Tracing (Edge g) l d a f v k → Traced (Edge g) l d a f
   tracing-end f v k done t =
-      record { first = t .first; joined = λ i h. t .joined i (omega arith); level = λ i h. t .level i (omega arith) }
+      record {
+        first = t .first;
+        joined = λ i h. t .joined i (omega arith);
+        level = λ i h. t .level i (omega arith);
+        lowest = λ i w h. t .lowest i w (omega arith);
+      }
 
 module _ {E : ℕ → ℕ → Type 0} {P T G : ℕ → Type 0} {l : List ℕ} {a d x : ℕ} (only : (p : ℕ) → G p ↔ (p ≡ a))
     (s : Spread E P T G l d x) where
@@ -132,10 +149,14 @@ module _ {E : ℕ → ℕ → Type 0} {P T G : ℕ → Type 0} {l : List ℕ} {a
         path = λ h. absurd (never h);
         target = λ h. absurd (never h);
         shortest = λ t j walk is. omega arith;
+        lowest = λ i w t h. absurd (none-before i h);
       }
     where
       never : 0 < 0 → ⊥
       never h = omega arith
+
+      none-before : (i : ℕ) → i + 1 < 0 → ⊥
+      none-before i h = omega arith
 
   pub nearest-traced : (f : List ℕ) → 0 < d → Traced E l d a f → Nearest E P T a d (λ i. getD f i 0)
   nearest-traced f some t =
@@ -167,10 +188,25 @@ module _ {E : ℕ → ℕ → Type 0} {P T G : ℕ → Type 0} {l : List ℕ} {a
             let same = s .levels .apart (q .level) (d - 1) a (omega arith) (omega arith) (q .on) (met-at some) in
             omega arith)
             (λ h. omega arith);
+        lowest = λ i w u h e walk is. t .lowest i w h e (level-of i w u h e walk is);
       }
     where
       never : d ≡ 0 → ⊥
       never e = omega arith
+
+      -- a target is as far from w as the level below that of f i says: nearer, it would be nearer to f i too
+      level-of : (i w u : ℕ) → i + 1 < d → E (getD f i 0) w → Walk E P w u (d - (i + 1)) → T u → Has (getD l (d - 1 - (i + 1)) 0) w
+      level-of i w u h e walk is =
+          let q = s .levels .full w u (d - (i + 1)) walk is (omega arith) in
+          let before = q .before in
+          let near = s .levels .near (q .level) w (omega arith) (q .on) in
+          let on = t .level i (omega arith) in
+          let inside = walk-first (s .levels .near (d - 1 - i) (getD f i 0) (omega arith) on .walk) in
+          let up = s .levels .full (getD f i 0) (near .target) (suc (q .level + 1)) (step inside e (near .walk)) (near .is) (omega arith) in
+          let low = up .before in
+          let same = s .levels .apart (up .level) (d - 1 - i) (getD f i 0) (omega arith) (omega arith) (up .on) on in
+          let level-is : q .level ≡ d - 1 - (i + 1) = omega arith in
+          subst (λ (j : ℕ). Has (getD l j 0) w) level-is (q .on)
 
 pub whole-reached : (g : List ℕ) (f b t x d : ℕ) (l : List ℕ) → Symmetric (Edge g) → Has f b → ((p : ℕ) → Has t p ↔ (p ≡ b))
     → Spread (Edge g) (Has f) (Has t) (Has 0) l d x → (x ≡ 0) ↔ Whole (Edge g) (Has f)

@@ -11,7 +11,7 @@
 --     Spread E P T G l d x       the levels were made until one has a position of G, the last of d; or, with d = 0, until there were no
 --                                more, and x is what was never reached
 --     Descent E l d a            a is on the last of d levels, and each level but the first has an edge down from each of its positions
---     Traced E l d a f           the positions f go down d levels from a to the first
+--     Traced E l d a f           the positions f go down d levels from a to the first, each time to the lowest one joined on the next level
 -- Assumes nothing.
 use Prim.Native.Nat.{ℕ, _+_, _-_, _≤_, _<_}
 use mathlib.Core.Path.{_≡_}
@@ -70,3 +70,4 @@ pub record Traced (E : ℕ → ℕ → Type 0) (l : List ℕ) (d a : ℕ) (f : L
   pub first : getD f 0 0 ≡ a
   pub joined : (i : ℕ) → i + 1 < d → E (getD f i 0) (getD f (i + 1) 0)
   pub level : (i : ℕ) → i < d → Has (getD l (d - 1 - i) 0) (getD f i 0)
+  pub lowest : (i w : ℕ) → i + 1 < d → E (getD f i 0) w → Has (getD l (d - 1 - (i + 1)) 0) w → getD f (i + 1) 0 ≤ w

@@ -6,8 +6,9 @@
 --     Way E P a b        some walk leads from a to b
 --     Symmetric E        an edge joins both ways
 --     Path E P a b k f   the k positions f 0, f 1, .. are a walk from a to b and no two of them are the same
+--     AtMost c P         no more than c different positions are in P
 -- Assumes nothing.
-use Prim.Native.Nat.{ℕ, suc, _+_, _-_, _<_}
+use Prim.Native.Nat.{ℕ, suc, _+_, _-_, _≤_, _<_}
 use mathlib.Core.Path.{_≡_}
 use mathlib.Core.Logic.{_≢_}
 
@@ -30,3 +31,6 @@ pub record Path (E : ℕ → ℕ → Type 0) (P : ℕ → Type 0) (a b k : ℕ) 
   pub inside : (i : ℕ) → i < k → P (f i)
   pub joined : (i : ℕ) → i + 1 < k → E (f i) (f (i + 1))
   pub distinct : (i j : ℕ) → i < j → j < k → f i ≢ f j
+
+pub record AtMost (c : ℕ) (P : ℕ → Type 0) : Type 0 where
+  pub different : (f : ℕ → ℕ) (k : ℕ) → ((i : ℕ) → i < k → P (f i)) → ((i j : ℕ) → i < j → j < k → f i ≢ f j) → k ≤ c

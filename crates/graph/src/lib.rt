@@ -85,8 +85,8 @@ pub struct Route {
     pub at: [u8; 64],
 }
 
-// A shortest way from `from` to the nearest of the targets, both ends included, through free positions alone. None, exactly where there is
-// no way.
+// A shortest way from `from` to the nearest of the targets, both ends included, through free positions alone: of several, the one that
+// enters the lower position where they first differ. None, exactly where there is no way.
 pub fn search(rows: &[u64; 64], free: u64, targets: u64, from: usize) -> Route
     requires { ⌜ Symmetric (Edge (now rows)) ⌝ }
     requires { ⌜ from < 64 ⌝ }

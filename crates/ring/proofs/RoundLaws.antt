@@ -1,6 +1,5 @@
 -- The positions of a ring read round it are a circle.
 --
---     first-good, first-is       what the first number that passes a test is
 --     onward-good, onward-is     the position that comes next
 --     follow-then                the positions in a row, by the two before each
 --     found                      where a position is found in a row
@@ -8,8 +7,8 @@
 --     ring-degree                a ring's positions have two neighbours each
 -- Assumes nothing.
 use Prim.Native.Nat.{ℕ, zero, suc, _+_, _-_, _≤_, _<_}
-use mathlib.Core.Path.{_≡_, refl, sym, ap, subst, _∙_}
-use mathlib.Core.Bool.{Bool, true, false, not, cond, _&&_}
+use mathlib.Core.Path.{_≡_, refl, sym, subst, _∙_}
+use mathlib.Core.Bool.{Bool, true, false, not, _&&_}
 use mathlib.Core.List.{List, [], _∷_}
 use mathlib.Core.Logic.{_≢_, _↔_, by-cases}
 use native.Mathlib.Decide.{ℕ-discrete}
@@ -18,7 +17,7 @@ use borrow.Author.Tests.{eqb-true, eqb-false, eq-eqb, ne-eqb, not-true}
 use lib.Dec.{eqb}
 use lib.ListN.{getD, length}
 use Rattle.sets.specs.Sets.{bit}
-use Rattle.sets.specs.First.{firstFrom}
+use Rattle.sets.proofs.FirstLaws.{first-good, first-is}
 use Rattle.graph.specs.Connected.{Ring}
 use Rattle.graph.specs.EdgeCount.{edgeCount}
 use Rattle.graph.specs.Rows.{Edge, Rows}
@@ -31,36 +30,9 @@ and-both true true e = (refl, refl)
 and-both true false e = (refl, e)
 and-both false b e = (e, absurd (let z : _≡_ {A = ℕ} 0 1 = cc in omega arith))
 
-or-else : (b : Bool) (i j : ℕ) → b ≡ false → cond b i j ≡ j
-or-else b i j e = rw e refl
-
-bool? : (b : Bool) → Dec (b ≡ true)
-bool? true = yes refl
-bool? false = no (λ e. let z : _≡_ {A = ℕ} 0 1 = cc in omega arith)
-
 no-false : (b : Bool) → (b ≡ true → ⊥) → b ≡ false
 no-false true f = absurd (f refl)
 no-false false f = refl
-
-module _ (f : ℕ → Bool) where
-  pub first-good : (i k c : ℕ) → i ≤ c → c < i + k → f c ≡ true → f (firstFrom f i k) ≡ true
-  unfolding firstFrom
-  first-good i zero c l h e = absurd (let z : c < i = omega arith in omega arith)
-  first-good i (suc k) c l h e =
-      by-cases (bool? (f i))
-      (λ t. rw (t) t)
-      (λ t.
-      let no = no-false (f i) t in
-      let apart : i ≢ c = λ s. t (ap f s ∙ e) in
-      rw (no) (first-good (suc i) k c (omega arith) (omega arith) e))
-
-  pub first-is : (i k c : ℕ) → i ≤ c → c < i + k → f c ≡ true → ((p : ℕ) → p < c → f p ≡ false) → firstFrom f i k ≡ c
-  unfolding firstFrom
-  first-is i zero c l h e low = absurd (let z : c < i = omega arith in omega arith)
-  first-is i (suc k) c l h e low =
-      by-cases (ℕ-discrete i c)
-      (λ s. rw (ap f s ∙ e) s)
-      (λ s. rw (low i (omega arith)) (first-is (suc i) k c (omega arith) (omega arith) e low))
 
 module _ {E : ℕ → ℕ → Type 0} (e : ℕ → ℕ → Bool) (test : (a b : ℕ) → (e a b ≡ true) ↔ E a b) where
   passes : (a b c : ℕ) → E b c → c ≢ a → e b c && not (eqb c a) ≡ true

@@ -1,3 +1,4 @@
 pub mod WordLaws
 pub mod CountLaws
+pub mod FirstLaws
 pub mod SetLaws

@@ -20,6 +20,7 @@ use lib.Dec.{T, ltb, eqb, ltb→lt, lt→ltb}
 use lib.ListN.{length, getD, take, drop, length-append, length-drop}
 use lib.Seq.{getD-take, getD-drop, length-take-le}
 use Rattle.sets.specs.First.{firstFrom}
+use Rattle.sets.proofs.FirstLaws.{first-passes, first-least}
 use Rattle.order.specs.Floor.{some, isPair}
 use Rattle.order.proofs.EdgeLaws.{isPair-is, isPair-same}
 use Rattle.motion.specs.Arrangement.{Arrangement}
@@ -174,36 +175,6 @@ module _ (A : Arrangement) (ms : List (ℕ × ℕ)) (i j : ℕ) where
           )
 
 -- the function
-
-module _ (t : ℕ → Bool) where
-  first-most : (i n : ℕ) → firstFrom t i n ≤ i + n
-  unfolding firstFrom
-  first-most i zero = omega arith
-  first-most i (suc n) =
-      ⊎-elim (λ (y : T (t i)). rw (cond-true (t i) i (firstFrom t (suc i) n) y) (omega arith))
-      (λ (y : T (not (t i))). rw (cond-false (t i) i (firstFrom t (suc i) n) y) (omega (arith, first-most (suc i) n)))
-      (decided (t i))
-
-  first-passes : (i n : ℕ) → firstFrom t i n < i + n → T (t (firstFrom t i n))
-  unfolding firstFrom
-  first-passes i zero h = absurd (omega arith)
-  first-passes i (suc n) h =
-      ⊎-elim (λ (y : T (t i)). rw (cond-true (t i) i (firstFrom t (suc i) n) y) y)
-      (λ (y : T (not (t i))).
-      let e : cond (t i) i (firstFrom t (suc i) n) ≡ firstFrom t (suc i) n = cond-false (t i) i (firstFrom t (suc i) n) y in
-      rw e (first-passes (suc i) n (omega (arith, rw e at h))))
-      (decided (t i))
-
-  first-least : (i n h : ℕ) → i ≤ h → h < firstFrom t i n → T (t h) → ⊥
-  unfolding firstFrom
-  first-least i zero h l u y = omega arith
-  first-least i (suc n) h l u y =
-      ⊎-elim (λ (z : T (t i)). let v : h < i = rw (cond-true (t i) i (firstFrom t (suc i) n) z) at u in omega arith)
-      (λ (z : T (not (t i))).
-      let v : h < firstFrom t (suc i) n = rw (cond-false (t i) i (firstFrom t (suc i) n) z) at u in
-      ⊎-elim (λ (e : i ≡ h). not-parts (t i) .0 z (rw e y))
-      (λ (e : i ≢ h). first-least (suc i) n h (omega arith) v y) (equal? i h))
-      (decided (t i))
 
 module _ (A : Arrangement) (ms : List (ℕ × ℕ)) where
   has-partner : ℕ → Bool

@@ -1,11 +1,8 @@
 -- Laws of how far a position is from the nearest vacancy.
 --
---     at-most-below     at most n positions are below n; at-most-inside    so are those of a set of positions below n
---     at-most-less      a set within another has at most as many
---     at-most-more      and at most a larger number
---     at-most-except    one less without a position that is in it; at-most-without    the same of sets
+--     at-most-inside    at most n positions are in a set of positions below n (graph's FewLaws has the laws below it)
+--     at-most-without   one less without a position that is in it, of sets
 --     at-most-seats     at most s where each stands at one of s places of a row
---     walk-avoids       a walk avoids x, or a walk that is no longer leads from x to its end
 --     shortest-few      a shortest walk has at most as many positions as are allowed
 --     way-same, distance-same, reaches-same    the same positions allowed: the same ways, the same distance
 --     distance-one      there is one distance only; distance-way    and then there is a way
@@ -30,58 +27,13 @@ use Rattle.graph.specs.Walk.{Walk, Symmetric}
 use Rattle.graph.specs.Walk.Walk.{alone, step}
 use Rattle.graph.proofs.WalkLaws.{walk-some, walk-alone, walk-first, walk-last, walk-inside, walk-reverse}
 use Rattle.graph.specs.Connected.{Except, Below}
+pub use Rattle.graph.proofs.FewLaws.{at-most-below, at-most-less, at-most-more, at-most-except}
+use Rattle.graph.proofs.FewLaws.{walk-few}
 use Rattle.shunting.specs.Distance.{Unheld, WayFrom, NoWay, Distance, Reaches, AtMost}
 use Rattle.shunting.specs.Cleared.{Inside}
 
-pub at-most-below : (n : ℕ) → AtMost n (Below n)
-at-most-below n = record { different = λ f k below distinct. pigeonhole n f k below distinct }
-
-pub at-most-less : {P Q : ℕ → Type 0} {c : ℕ} → ((p : ℕ) → P p → Q p) → AtMost c Q → AtMost c P
-at-most-less within few = record { different = λ f k inside distinct. few .different f k (λ i l. within (f i) (inside i l)) distinct }
-
-pub at-most-more : {P : ℕ → Type 0} {c : ℕ} (d : ℕ) → c ≤ d → AtMost c P → AtMost d P
-at-most-more d le few = record { different = λ f k inside distinct. (let r = few .different f k inside distinct in omega arith) }
-
 pub at-most-inside : {P : ℕ → Type 0} (n : ℕ) → ((p : ℕ) → P p → p < n) → AtMost (suc (n - 1)) P
 at-most-inside n inside = at-most-more (suc (n - 1)) (omega arith) (at-most-less inside (at-most-below n))
-
--- x and the others are one more
-module _ {P : ℕ → Type 0} {x : ℕ} (there : P x) (f : ℕ → ℕ) (k : ℕ) (inside : (i : ℕ) → i < k → Except P x (f i))
-    (distinct : (i j : ℕ) → i < j → j < k → f i ≢ f j) where
-  joined : ℕ → ℕ
-  joined i = cond (ltb i k) (f i) x
-
-  old : (i : ℕ) → i < k → joined i ≡ f i
-  unfolding joined
-  old i l = rw (lt-ltb i k l) refl
-
-  new : (i : ℕ) → k ≤ i → joined i ≡ x
-  unfolding joined
-  new i l = rw (le-ltb i k l) refl
-
-  joined-inside : (i : ℕ) → i < suc k → P (joined i)
-  joined-inside i l =
-      by-cases (decLt i k)
-      (λ h. subst P (sym (old i h)) (inside i h .there))
-      (λ h. subst P (sym (new i (omega arith))) there)
-
-  joined-distinct : (i j : ℕ) → i < j → j < suc k → joined i ≢ joined j
-  joined-distinct i j l h e =
-      let a = old i (omega arith) in
-      by-cases (decLt j k)
-      (λ m. distinct i j l m (sym a ∙ e ∙ old j m))
-      (λ m. inside i (omega arith) .other (sym a ∙ e ∙ new j (omega arith)))
-
-pub at-most-except : {P : ℕ → Type 0} {x c : ℕ} → P x → AtMost (suc c) P → AtMost c (Except P x)
-at-most-except there few = record {
-  different = λ f k inside distinct. (
-      let r =
-      few .different (joined there f k inside distinct) (suc k) (joined-inside there f k inside distinct)
-      (joined-distinct there f k inside distinct)
-      in
-      omega arith
-      );
-}
 
 pub at-most-without : (set rest : ℕ) {x c : ℕ} → Has set x → ((p : ℕ) → Has rest p ↔ (Has set p × (p ≢ x))) → AtMost (suc c) (Has set)
     → AtMost c (Has rest)
@@ -112,38 +64,9 @@ module _ {P : ℕ → Type 0} (at : ℕ → ℕ) (s : ℕ) (seats : (p : ℕ) �
         (sym (seat-is f k inside i (decLt i k) (omega arith)) ∙ ap at e ∙ seat-is f k inside j (decLt j k) h));
   }
 
-module _ {E : ℕ → ℕ → Type 0} where
-  pub walk-avoids : {P : ℕ → Type 0} {a b k : ℕ} (x : ℕ) → Walk E P a b k
-      → Walk E (Except P x) a b k ⊎ ((j : ℕ) × (j ≤ k) × Walk E P x b j)
-  walk-avoids {P} x (alone {a = a} p) =
-      by-cases (ℕ-discrete a x)
-      (λ e. inr (1, omega arith, subst (λ (y : ℕ). Walk E P y a 1) e (alone p)))
-      (λ e. inl (alone (record { there = p; other = e })))
-  walk-avoids {P} x (step {a = a} {c = b} {k = k} p e w) =
-      by-cases (ℕ-discrete a x)
-      (λ q. inr (suc k, omega arith, subst (λ (y : ℕ). Walk E P y b (suc k)) q (step p e w)))
-      (λ q. ⊎-elim
-      (λ v. inl (step (record { there = p; other = q }) e v))
-      (λ v. let l = v .1 in inr (v .0, omega arith, v .2))
-      (walk-avoids x w))
-
-  -- without its first position the rest of it is a shortest one again
-  pub shortest-few : (k : ℕ) {P : ℕ → Type 0} {a b c : ℕ} → AtMost c P → Walk E P a b k → ((j : ℕ) → Walk E P a b j → k ≤ j) → k ≤ c
-  shortest-few zero few w least = omega arith
-  shortest-few (suc zero) {a = a} few w least =
-      few .different (λ i. a) 1 (λ i l. walk-first w) (λ i j l h. absurd (none l h))
-    where
-      none : {i j : ℕ} → i < j → j < 1 → ⊥
-      none l h = omega arith
-  shortest-few (suc (suc k)) {c = c} few (step {a = a} p e w) least =
-      ⊎-elim
-      (λ v.
-      let others = at-most-except p (at-most-more (suc (c - 1)) (omega arith) few) in
-      let rest = shortest-few (suc k) others v
-      (λ j u. let m = least (suc j) (step p e (walk-inside (λ q x. x .there) u)) in omega arith) in
-      omega arith)
-      (λ v. let m = least (v .0) (v .2) in let l = v .1 in omega arith)
-      (walk-avoids a w)
+pub shortest-few : (k : ℕ) {E : ℕ → ℕ → Type 0} {P : ℕ → Type 0} {a b c : ℕ} → AtMost c P → Walk E P a b k
+    → ((j : ℕ) → Walk E P a b j → k ≤ j) → k ≤ c
+shortest-few k {c = c} few w least = let r = walk-few c few w in let m = least (r .0) (r .2) in let l = r .1 in omega arith
 
 module _ {E : ℕ → ℕ → Type 0} {P Q : ℕ → Type 0} {h : ℕ → ℕ} {p : ℕ} where
   pub way-same : {d : ℕ} → ((q : ℕ) → P q → Q q) → WayFrom E P h p d → WayFrom E Q h p d

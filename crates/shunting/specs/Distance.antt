@@ -7,13 +7,13 @@
 --     NoWay E P h p           there is none, whatever its length
 --     Distance E P h p d      there is one, and none is shorter
 --     Reaches E P h p         there is one, whatever its length
---     AtMost c P              no more than c different positions are in P
+--     AtMost c P              no more than c different positions are in P (graph's Walk)
 -- Assumes nothing.
 use Prim.Native.Nat.{ℕ, suc, _≤_, _<_}
 use mathlib.Core.Path.{_≡_}
-use mathlib.Core.Logic.{_≢_}
 use Rattle.sets.specs.Sets.{Has}
 use Rattle.graph.specs.Walk.{Walk}
+pub use Rattle.graph.specs.Walk.{AtMost}
 
 -- "with some positions held fast"
 pub record Unheld (n held p : ℕ) : Type 0 where
@@ -38,6 +38,3 @@ pub record Distance (E : ℕ → ℕ → Type 0) (P : ℕ → Type 0) (h : ℕ �
 
 abbrev pub Reaches : (ℕ → ℕ → Type 0) → (ℕ → Type 0) → (ℕ → ℕ) → ℕ → Type 0
 Reaches E P h p = (d : ℕ) × WayFrom E P h p d
-
-pub record AtMost (c : ℕ) (P : ℕ → Type 0) : Type 0 where
-  pub different : (f : ℕ → ℕ) (k : ℕ) → ((i : ℕ) → i < k → P (f i)) → ((i j : ℕ) → i < j → j < k → f i ≢ f j) → k ≤ c

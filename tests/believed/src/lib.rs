@@ -36,6 +36,7 @@ const THEOREMS: &[(&str, &[&str])] = &[
     ("crates/live/specs/Picture.antt", &["LegalHere"]),
     ("crates/live/specs/Theorems.antt", &[]),
     ("crates/season/specs/Theorems.antt", &[]),
+    ("crates/carry/specs/Theorems.antt", &[]),
 ];
 
 /// A decision carries the proof that it decides: what it decides stands in its type, and nobody has to believe the rest.

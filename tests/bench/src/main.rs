@@ -39,6 +39,7 @@ fn main() {
     live_floor();
     timetable_make();
     season_report();
+    dearest_carry();
     quality::print_table();
     quality::print_rings();
     quality::print_shortened();
@@ -381,6 +382,25 @@ fn season_report() {
             speed(report),
             speed(check),
             check / report
+        );
+    }
+}
+
+/// The dearest carry: on the 8 by 8 grid every pair of opposite corners is as dear, on a path of 64 its two ends are.
+fn dearest_carry() {
+    let grid = floors::grid(8, 8);
+    let path = floors::Floor::new(64, (1..64).map(|at| (at - 1, at)));
+    let star = floors::Floor::new(64, (1..64).map(|at| (0, at)));
+    let mut random = Random::new(0xBE_000B);
+    for (input, floor) in [("8 by 8", grid), ("a path of 64", path), ("a star of 64", star)] {
+        let order = orders::order_on(&mut random, &floor, 0).record();
+        let (mut proved_buffer, mut second_buffer) = ([0; 145], [0; 145]);
+        compare_speed(
+            "dearest_carry",
+            input,
+            2_000,
+            || proved::dearest_carry(black_box(&order), &mut proved_buffer),
+            || compare::packed::carry(second::carry::find(black_box(&order), &mut second_buffer)),
         );
     }
 }

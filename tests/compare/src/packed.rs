@@ -2,6 +2,7 @@
 //! are the counts, or the place.
 
 use second::answer::{Answer, Refusal};
+use second::carry::Carry;
 use second::timetable::{Counts, Part};
 
 fn pack<T>(answer: Answer<T>, counts: impl Fn(T) -> u64) -> u64 {
@@ -34,6 +35,11 @@ pub fn steps_and_moves(answer: Answer<Counts>) -> u64 {
 /// Step reader: length in bits 8 to 23, offset in bits 24 and up.
 pub fn part(answer: Answer<Part>) -> u64 {
     pack(answer, |Part { offset, length }| length as u64 | (offset as u64) << 16)
+}
+
+/// Dearest carry: start in bits 8 to 15, goal in bits 16 to 23, moves in bits 24 and up.
+pub fn carry(answer: Answer<Carry>) -> u64 {
+    pack(answer, |Carry { start, goal, moves }| (start | goal << 8 | moves << 16) as u64)
 }
 
 /// A count answer taken apart again.

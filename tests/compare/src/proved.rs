@@ -44,6 +44,12 @@ mod symbols {
             buffer: *mut u8,
             buffer_length: usize,
         ) -> u64;
+        pub fn wichteab_dearest_carry(
+            order: *const u8,
+            order_length: usize,
+            buffer: *mut u8,
+            buffer_length: usize,
+        ) -> u64;
         pub fn wichteab_timetable_check(
             order: *const u8,
             order_length: usize,
@@ -177,6 +183,10 @@ pub fn plan_convert(order: &[u8], plan: &[u8], buffer: &mut [u8]) -> u64 {
             buffer.len(),
         )
     }
+}
+
+pub fn dearest_carry(order: &[u8], buffer: &mut [u8]) -> u64 {
+    unsafe { symbols::wichteab_dearest_carry(order.as_ptr(), order.len(), buffer.as_mut_ptr(), buffer.len()) }
 }
 
 pub fn timetable_check(order: &[u8], timetable: &[u8]) -> u64 {

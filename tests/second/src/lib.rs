@@ -23,10 +23,12 @@
 //! | `live`      | request (k), the live floor       | 60 to 62           |
 //! | `shortest`  | requests (g) and (i), no shorter timetable |           |
 //! | `season`    | request (l), season report        | 46, 47             |
+//! | `carry`     | request (m), the dearest single carry | 27, 28         |
 #![forbid(unsafe_code)]
 
 pub mod answer;
 pub mod breakdown;
+pub mod carry;
 pub mod clearing;
 pub mod converting;
 pub mod floor;

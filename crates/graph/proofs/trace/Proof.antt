@@ -33,7 +33,7 @@ loop-again c =
     let l = at-loop .loop in
     let a = entry .args in
     tracing-step (a .rows .now) _ _ _ (entry .pre .down) _ _ _ (l .inv) (in-loop .loop-test .taken) _ (omega arith)
-    (c .lowest .ensures .0) (c .lowest .ensures .1 .0)
+    (c .lowest .ensures .0) (c .lowest .ensures .1 .0) (c .lowest .ensures .1 .1)
 
 returns : tie.Need-returns Inv-loop μ-loop
 returns c = let a = c .before .before .args in tracing-end (a .rows .now) _ _ _ _ _ _ (omega arith) (c .before .loop .inv)

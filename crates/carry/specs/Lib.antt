@@ -1,0 +1,5 @@
+pub mod Carry
+pub mod CarryAnswer
+pub mod Theorems
+pub mod Balls
+pub mod Listing
