@@ -68,10 +68,12 @@ extern "C" {
  * Version 2.4 adds wichteab_season_report, with 46 and 47.
  *
  * Version 2.5 adds wichteab_dearest_carry, with 27 and 28.
+ *
+ * Version 2.6 adds wichteab_one_vacancy, with 29.
  */
-#define WICHTEAB_VERSION "2.5.0"
+#define WICHTEAB_VERSION "2.6.0"
 #define WICHTEAB_VERSION_MAJOR 2
-#define WICHTEAB_VERSION_MINOR 5
+#define WICHTEAB_VERSION_MINOR 6
 #define WICHTEAB_VERSION_PATCH 0
 
 /*
@@ -159,6 +161,9 @@ enum {
     /* The floor, judged for its dearest carry; place 0. */
     WICHTEAB_FLOOR_NOT_CONNECTED = 27, /* some position has no way to some other */
     WICHTEAB_CARRY_BUFFER = 28,        /* the plan buffer cannot hold an edition-two plan of n - 1 moves */
+
+    /* The floor, judged for one vacancy, before 21; place 0. */
+    WICHTEAB_VACANCY_COUNT = 29, /* the number of vacant positions is not one */
 
     /* The plan; place 0 unless it is named. The first move that is not legal at its turn, or that names a wrong
        rack, decides, with the first of 32, 34, 35 and 36 that applies to it; all four come before 33. */
@@ -262,6 +267,18 @@ uint64_t wichteab_floor_check(const uint8_t *order, size_t order_length);
  */
 uint64_t wichteab_order_expand(const uint8_t *short_order, size_t short_order_length, uint8_t *buffer,
                                size_t buffer_length);
+
+/*
+ * wichteab_one_vacancy: is this order hopeless, with its one vacant position?
+ *
+ * Takes an order with exactly one vacant position on a bi-connected floor, which may be a ring; it is only
+ * read. Accepted: wichteab_impossible gives 1 where the positions fall into two colours, each edge joining both,
+ * and the change from start to goal, as a permutation of all positions with the vacancy included, is odd and the
+ * vacancy keeps its colour, or it is even and the colour changes. Then no list of moves, of whatever length,
+ * brings every rack to its goal. In all other cases it gives 0, not judged: there may be a plan or none.
+ * Refused: 10 to 14, then 29, then 21, the first that applies in this order, place 0.
+ */
+uint64_t wichteab_one_vacancy(const uint8_t *order, size_t order_length);
 
 /*
  * wichteab_plan_make: writes a plan that brings every rack of the order to its goal.
@@ -475,6 +492,12 @@ static inline size_t wichteab_expanded_length(uint64_t answer)
     return (size_t)(answer >> 8);
 }
 
+/* Of wichteab_one_vacancy, accepted: 1 for impossible, 0 for not judged. */
+static inline uint32_t wichteab_impossible(uint64_t answer)
+{
+    return (uint32_t)(answer >> 8);
+}
+
 /* Of wichteab_plan_check, wichteab_plan_make, wichteab_plan_shorten or wichteab_plan_convert, accepted: the plan's
    moves. */
 static inline uint32_t wichteab_plan_moves(uint64_t answer)
@@ -607,6 +630,8 @@ static inline const char *wichteab_reason(uint32_t number)
         return "The floor is not connected: a rack at some position cannot be brought to some other.";
     case WICHTEAB_CARRY_BUFFER:
         return "The plan buffer is too short: it has to hold a plan of edition two with n - 1 moves.";
+    case WICHTEAB_VACANCY_COUNT:
+        return "Just one position of the floor has to be vacant for this question.";
     case WICHTEAB_PLAN_LENGTH:
         return "The plan was cut short, or other bytes follow it: its length is not the one its count of moves "
                "gives in its edition.";

@@ -24,6 +24,7 @@ static const struct fault faults[] = {
     {WICHTEAB_FLOOR_SIDES, 26, "floor"},
     {WICHTEAB_FLOOR_NOT_CONNECTED, 27, "floor"},
     {WICHTEAB_CARRY_BUFFER, 28, "floor"},
+    {WICHTEAB_VACANCY_COUNT, 29, "floor"},
     {WICHTEAB_PLAN_LENGTH, 30, "plan"},
     {WICHTEAB_PLAN_PADDING, 31, "plan"},
     {WICHTEAB_PLAN_MOVE, 32, "plan"},

@@ -167,6 +167,11 @@ static uint64_t floor_check(void)
     return wichteab_floor_check(order.bytes, order_length);
 }
 
+static uint64_t one_vacancy(void)
+{
+    return wichteab_one_vacancy(order.bytes, order_length);
+}
+
 static uint64_t plan_make(void)
 {
     return wichteab_plan_make(order.bytes, order_length, plan, sizeof plan);
@@ -386,6 +391,7 @@ int main(void)
     run_all();
     run_to_and_fro(200000);
     put_train();
+    expect(wichteab_number(run(one_vacancy, "wichteab_one_vacancy")) == 0, "63 racks and one vacancy");
     answer = run(timetable_check, "wichteab_timetable_check, a train of 63");
     expect(wichteab_number(answer) == WICHTEAB_TIMETABLE_STEP && wichteab_place(answer) == 1, "the train is too long");
     expect(run(season_report, "wichteab_season_report, a train of 63") == 0, "such a pair is a season too");

@@ -50,6 +50,7 @@ numberOf Fault.SecondBuffer = 37
 numberOf Fault.PlanRack = 36
 numberOf Fault.ConvertedBuffer = 38
 numberOf Fault.FloorSides = 26
+numberOf Fault.VacancyCount = 29
 numberOf Fault.FloorRight = 60
 numberOf Fault.FloorRun = 61
 numberOf Fault.FloorTakeBack = 62

@@ -64,6 +64,8 @@ pub enum Fault {
     ConvertedBuffer,
     // A position has five or more edges.
     FloorSides,
+    // The number of vacant positions is not one.
+    VacancyCount,
     // The role has no such right on the live floor.
     FloorRight,
     // No step is left to run, or the lent step is not legal on the live floor.
@@ -121,6 +123,7 @@ fn case_number(fault: Fault) -> u64
         Fault::PlanRack => 36,
         Fault::ConvertedBuffer => 38,
         Fault::FloorSides => 26,
+        Fault::VacancyCount => 29,
         Fault::FloorRight => 60,
         Fault::FloorRun => 61,
         Fault::FloorTakeBack => 62,

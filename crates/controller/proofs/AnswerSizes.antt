@@ -5,10 +5,10 @@
 --     refuse-sized, passUp-sized, judged-sized        an answer made of sized answers is sized
 --     misplaced-small, Stopping                       a misplaced rack and the place where a replay stops are at most one above the list
 --     order-sized, floor-sized, expand-sized, planner-sized, made-sized, plan-sized, timetable-sized, maker-sized, shortener-sized,
---     converter-sized, step-sized, season-sized, carry-sized
+--     converter-sized, step-sized, season-sized, carry-sized, vacancy-sized
 --                         so are the answers of each function
 -- Assumes nothing.
-use Prim.Native.Nat.{ℕ, zero, suc, _+_, _*_, _^_, _≤_, _<_}
+use Prim.Native.Nat.{ℕ, zero, suc, _+_, _-_, _*_, _^_, _≤_, _<_}
 use mathlib.Core.Path.{_≡_, refl, sym, ap, _∙_, subst}
 use mathlib.Core.Bool.{Bool, true, false, not, _||_}
 use mathlib.Core.List.{List, [], _∷_}
@@ -40,6 +40,7 @@ use Rattle.models.specs.Grid.{unknownModel}
 use Rattle.models.specs.ShortOrder.{modelCode, wrongShort}
 use Rattle.models.specs.Expansion.{fullOrder, expanded, expandAnswer}
 use Rattle.models.proofs.ExpansionLaws.{expanded-small}
+use Rattle.parity.specs.OneVacancy.{impossible?, judgement, vacancyAnswer}
 use Rattle.plan.specs.Plan.{moveCount, planListed, wrongPlanLength, planPaddingSet, planAnswer}
 use Rattle.plan.proofs.PlanRecord.{listed-counted}
 use Rattle.planner.specs.Planner.{refusals, PlanMade, turned-down, made}
@@ -178,6 +179,18 @@ expand-sized s n =
     (λ known. refuse-sized (wrongRacks (fullOrder s)) 14 0 _ tt tt (lit< tt)
     (λ _. refuse-sized (ltb n (length (expanded s))) 52 0 _ tt tt (lit< tt)
     (λ _. accepts (one-count (omega (arith, expanded-small s known)))))))
+
+judgement-small : {A : Type 0} (d : Dec A) → judgement d < 2 ^ 22
+unfolding judgement
+judgement-small d = cond-either (λ (x : ℕ). x < 2 ^ 22) (holds d) (lit< tt) (lit< tt)
+
+pub vacancy-sized : (o : List ℕ) → Sized OneCount (vacancyAnswer o)
+unfolding vacancyAnswer
+vacancy-sized o =
+    passUp-sized (orderAnswer o) _ (order-sized o)
+    (λ v e. refuse-sized (not (eqb (positionCount o - rackCount o) 1)) 29 0 _ tt tt (lit< tt)
+    (λ _. refuse-sized (not (holds (biConnected? (floorOf o)))) 21 0 _ tt tt (lit< tt)
+    (λ _. accepts (one-count (judgement-small (impossible? (floorOf o) (startsOf o) (goalsOf o)))))))
 
 pub planner-sized : (o : List ℕ) (b : ℕ) → Sized NoCounts (refusals o b)
 unfolding refusals

@@ -4,7 +4,8 @@
 --
 --     packed rest a    the answer a as one number, where `rest` makes one number of the counts of an accepted input
 --     nothing          no counts are given
---     oneCount         the one count: a full order's length, a plan's moves, a made timetable's steps, a live floor's steps
+--     oneCount         the one count: a full order's length, a plan's moves, a made timetable's steps, a live floor's steps; or 1 for
+--                      impossible
 --     stepsAndMoves    a timetable's steps in 22 bits, its moves above them
 --     lengthAndOffset  a step's length in 16 bits, its offset above it
 --     startGoalMoves   a carry's start in 8 bits, its goal in 8 above it, its moves above them

@@ -2,7 +2,7 @@
 -- quotient by 2 ^ k, a mask of k ones the remainder by 2 ^ k, a cast to uint32_t the remainder by 2 ^ 32; size_t is as wide as the number.
 --
 --     numberIn r, placeIn r        wichteab_number, wichteab_place
---     nothingOf r, recordLengthOf r, planMovesOf r, madeStepsOf r, floorStepsOf r, stepsAndMovesOf r, offsetAndLengthOf r,
+--     nothingOf r, recordLengthOf r, judgementOf r, planMovesOf r, madeStepsOf r, floorStepsOf r, stepsAndMovesOf r, offsetAndLengthOf r,
 --     startGoalMovesOf r
 --                                  what a caller reads of an accepted answer
 --     takenApart values r          the answer that a caller makes of the number r: its number, and then its place or what `values` reads
@@ -32,6 +32,10 @@ nothingOf r = []
 -- wichteab_expanded_length: (size_t)(answer >> 8)
 abbrev pub recordLengthOf : ℕ → List ℕ
 recordLengthOf r = r / 2 ^ 8 ∷ []
+
+-- wichteab_impossible: (uint32_t)(answer >> 8)
+abbrev pub judgementOf : ℕ → List ℕ
+judgementOf r = r / 2 ^ 8 % 2 ^ 32 ∷ []
 
 -- wichteab_plan_moves: (uint32_t)(answer >> 8)
 abbrev pub planMovesOf : ℕ → List ℕ

@@ -11,6 +11,7 @@ use live::Floor;
 use live::LiveVerdict;
 use models::ExpandVerdict;
 use order::OrderVerdict;
+use parity::VacancyVerdict;
 use plan::PlanVerdict;
 use planner::PlannerVerdict;
 use scheduling::MakerVerdict;
@@ -28,6 +29,7 @@ ghost use Rattle.order.specs.Order.{orderAnswer};
 ghost use Rattle.order.specs.RecordLength.{wholeOrderLength};
 ghost use Rattle.floor.specs.FloorAnswer.{floorAnswer};
 ghost use Rattle.models.specs.Expansion.{expandAnswer, bufferAfter as orderBufferAfter};
+ghost use Rattle.parity.specs.OneVacancy.{vacancyAnswer};
 ghost use Rattle.plan.specs.Plan.{planAnswer};
 ghost use Rattle.converting.specs.Converter.{converterAnswer, bufferAfter as convertedBufferAfter};
 ghost use Rattle.planner.specs.Planner.{PlanMade};
@@ -42,7 +44,7 @@ ghost use Rattle.live.specs.Calls.{callAnswer, byAnswer, pictureAfter, answerOf
 ghost use Rattle.controller.specs.Packed.{packed, nothing, oneCount, stepsAndMoves, lengthAndOffset, startGoalMoves};
 ghost use Rattle.controller.specs.Report.{numbers, orNone, reportAfter};
 ghost use Rattle.controller.specs.Unpacked.{Tells, uncounted, nothingOf, planMovesOf, madeStepsOf, stepsAndMovesOf};
-ghost use Rattle.controller.specs.Unpacked.{offsetAndLengthOf, recordLengthOf, floorStepsOf, startGoalMovesOf};
+ghost use Rattle.controller.specs.Unpacked.{offsetAndLengthOf, recordLengthOf, judgementOf, floorStepsOf, startGoalMovesOf};
 
 // A refusal as one number.
 fn refusal(fault: Fault, place: u32) -> u64
@@ -83,6 +85,19 @@ pub extern "C" fn wichteab_order_expand(short: &[u8], buffer: &mut [u8]) -> u64
     match models::expand(short, buffer) {
         ExpandVerdict::Accepted(length) => (length as u64) * 256,
         ExpandVerdict::Refused(fault, place) => refusal(fault, place),
+    }
+}
+
+// Tells whether an order with one vacant position is hopeless, judged by 10 to 14, 29 and 21. Accepted, it gives 1 for impossible and 0 for
+// not judged.
+#[no_mangle]
+pub extern "C" fn wichteab_one_vacancy(order: &[u8]) -> u64
+    ensures { λ r. ⌜ Tells oneCount judgementOf (vacancyAnswer (now (order .entry))) r ⌝ }
+{
+    match parity::one_vacancy(order) {
+        VacancyVerdict::Impossible => 256,
+        VacancyVerdict::NotJudged => 0,
+        VacancyVerdict::Refused(fault, place) => refusal(fault, place),
     }
 }
 

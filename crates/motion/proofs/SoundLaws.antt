@@ -4,6 +4,7 @@
 --     isSound-sound      the test passes exactly if A is sound
 --     count f n          how many numbers below n pass the test f
 --     vacancies n A      how many positions below n are vacant
+--     count-some         what passes the test is counted
 --     move-sound         a legal move keeps an arrangement sound
 --     leads-sound        so do moves that are legal each at its turn
 --     leads-length       and they keep the number of racks
@@ -123,7 +124,7 @@ unfolding count
 count-all f zero t = refl
 count-all f (suc n) t = cond-true (f n) (suc (count f n)) (count f n) (t n) ∙ ap suc (count-all f n t)
 
-count-some : (f : ℕ → Bool) (n p : ℕ) → p < n → T (f p) → 0 < count f n
+pub count-some : (f : ℕ → Bool) (n p : ℕ) → p < n → T (f p) → 0 < count f n
 unfolding count
 count-some f zero p h t = absurd (omega arith)
 count-some f (suc n) p h t =

@@ -32,11 +32,12 @@ use Rattle.motion.specs.Replay.{replayFrom, replayMoves, listed}
 use Rattle.tables.specs.Accepted.{OrderGave}
 use Rattle.tables.proofs.AcceptedLaws.{order-gave}
 use Rattle.plan.specs.Plan.{planRecord}
+use Rattle.plan.specs.Solutions.{NoPlan}
 use Rattle.floor.specs.CaseBookOrders.{threeInRing, mirrored}
 use Rattle.floor.proofs.FloorLaws.{told-disordered}
 use Rattle.floor.proofs.ExamplesLaws.{twoRacks, floors-judged, plannable-met, ring-met, on-met}
 use Rattle.planner.specs.Moves.{Solves, SomeTables, Moves}
-use Rattle.planner.specs.Rings.{OnRingFloor, NoPlan, TurnedDown}
+use Rattle.planner.specs.Rings.{OnRingFloor, TurnedDown}
 use Rattle.planner.proofs.RingTheorem.{ring-turned-down}
 use Rattle.planner.specs.Planner.{refusals, PlanMade, turned-down, made}
 

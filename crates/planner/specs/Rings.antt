@@ -1,8 +1,7 @@
 -- Ring floors: request (d): "A ring order with a vacancy is turned down for its order of racks precisely when no plan for it exists."
 --
 --     OnRingFloor o      the order o is well formed, its floor is a ring, and a position is vacant
---     NoPlan o           no list of moves, however long, is legal move by move and leads from the starts to the goals
---     TurnedDown o       24 is the answer exactly where there is no plan
+--     TurnedDown o       24 is the answer exactly where there is no plan (crates/plan, Solutions)
 -- Assumes nothing.
 use Prim.Native.Nat.{ℕ, _+_, _≤_}
 use mathlib.Core.Path.{_≡_}
@@ -10,8 +9,8 @@ use mathlib.Core.List.{List}
 use mathlib.Core.Logic.{_↔_}
 use lib.ListN.{length}
 use Rattle.answers.specs.Answer.{refused}
-use Rattle.order.specs.Order.{positionCount, rackCount, floorOf, startsOf, goalsOf, WellFormed}
-use Rattle.motion.specs.Replay.{ended, replayMoves}
+use Rattle.order.specs.Order.{positionCount, rackCount, floorOf, WellFormed}
+use Rattle.plan.specs.Solutions.{NoPlan}
 use Rattle.graph.specs.Connected.{Ring}
 use Rattle.floor.specs.FloorAnswer.{Joins, floorAnswer}
 
@@ -19,9 +18,6 @@ pub record OnRingFloor (o : List ℕ) : Type 0 where
   pub right : WellFormed o
   pub ring : Ring (floorOf o .positions) (Joins (floorOf o)) (length (floorOf o .edges))
   pub vacancy : rackCount o + 1 ≤ positionCount o
-
-abbrev pub NoPlan : List ℕ → Type 0
-NoPlan o = (ms : List (ℕ × ℕ)) → replayMoves (floorOf o) (startsOf o) ms ≡ ended (goalsOf o) → ⊥
 
 abbrev pub TurnedDown : List ℕ → Type 0
 TurnedDown o = (floorAnswer o ≡ refused 24 0) ↔ NoPlan o

@@ -24,6 +24,7 @@ const CONTRACTS: [(&str, &[&str]); 6] = [
 const THEOREMS: &[(&str, &[&str])] = &[
     ("crates/order/specs/Theorems.antt", &[]),
     ("crates/models/specs/Theorems.antt", &[]),
+    ("crates/parity/specs/Theorems.antt", &[]),
     ("crates/plan/specs/Solutions.antt", &[]),
     ("crates/timetable/specs/Solutions.antt", &[]),
     ("crates/motion/specs/LegalStep.antt", &[]),
@@ -40,9 +41,10 @@ const THEOREMS: &[(&str, &[&str])] = &[
 ];
 
 /// A decision carries the proof that it decides: what it decides stands in its type, and nobody has to believe the rest.
-const DECISIONS: [&str; 3] = [
+const DECISIONS: [&str; 4] = [
     "crates/floor/specs/WayDecision.antt",
     "crates/floor/specs/RoundDecision.antt",
+    "crates/parity/specs/ColourDecision.antt",
     "crates/live/specs/HereDecision.antt",
 ];
 

@@ -4,7 +4,7 @@
 mod quality;
 
 use compare::cancelling;
-use compare::floors;
+use compare::floors::{self, Floor};
 use compare::orders;
 use compare::plans;
 use compare::proved;
@@ -29,6 +29,7 @@ fn main() {
     order_check();
     order_expand();
     floor_check();
+    one_vacancy();
     breakdown();
     clear();
     plan_check();
@@ -160,6 +161,22 @@ fn floor_check() {
     };
     line("8 by 8 grid", &grid);
     line(&format!("complete, {} positions", floor.n), &complete);
+}
+
+fn one_vacancy() {
+    let second = |order: &[u8]| compare::packed::judgement(second::vacancy::check(order));
+    let mut random = Random::new(0xBE_000B);
+    let ring = Floor::new(64, (0..64).map(|at| (at, (at + 1) % 64)));
+    for (input, floor) in [("8 by 8 grid, 63 racks", floors::grid(8, 8)), ("ring of 64, 63 racks", ring)] {
+        let order = orders::order_on(&mut random, &floor, 63).record();
+        compare_speed(
+            "one_vacancy",
+            input,
+            1000,
+            || proved::one_vacancy(black_box(&order)),
+            || second(black_box(&order)),
+        );
+    }
 }
 
 /// The time on the 8 by 8 grid, and how long rings and handles come out on random floors. Both are read from

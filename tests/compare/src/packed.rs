@@ -4,6 +4,7 @@
 use second::answer::{Answer, Refusal};
 use second::carry::Carry;
 use second::timetable::{Counts, Part};
+use second::vacancy::Judgement;
 
 fn pack<T>(answer: Answer<T>, counts: impl Fn(T) -> u64) -> u64 {
     match answer {
@@ -25,6 +26,11 @@ pub fn nothing<T>(answer: Answer<T>) -> u64 {
 /// Plan check, planner, shortener and converter: moves. Timetable maker: steps.
 pub fn count(answer: Answer<u32>) -> u64 {
     pack(answer, u64::from)
+}
+
+/// One vacancy: 1 for impossible, 0 for not judged.
+pub fn judgement(answer: Answer<Judgement>) -> u64 {
+    pack(answer, |judgement| u64::from(judgement == Judgement::Impossible))
 }
 
 /// Timetable check: steps in bits 8 to 29, moves in bits 30 and up.

@@ -16,6 +16,7 @@ mod symbols {
     extern "C" {
         pub fn wichteab_order_check(order: *const u8, order_length: usize) -> u64;
         pub fn wichteab_floor_check(order: *const u8, order_length: usize) -> u64;
+        pub fn wichteab_one_vacancy(order: *const u8, order_length: usize) -> u64;
         pub fn wichteab_plan_check(
             order: *const u8,
             order_length: usize,
@@ -210,6 +211,10 @@ pub fn timetable_make(order: &[u8], plan: &[u8], buffer: &mut [u8]) -> u64 {
 
 pub fn timetable_step(timetable: &[u8], number: u64) -> u64 {
     unsafe { symbols::wichteab_timetable_step(timetable.as_ptr(), timetable.len(), number) }
+}
+
+pub fn one_vacancy(order: &[u8]) -> u64 {
+    unsafe { symbols::wichteab_one_vacancy(order.as_ptr(), order.len()) }
 }
 
 pub fn order_expand(short_order: &[u8], buffer: &mut [u8]) -> u64 {

@@ -24,6 +24,7 @@
 //! | `shortest`  | requests (g) and (i), no shorter timetable |           |
 //! | `season`    | request (l), season report        | 46, 47             |
 //! | `carry`     | request (m), the dearest single carry | 27, 28         |
+//! | `vacancy`   | request (n), one vacancy          | 10 to 14, 29, 21   |
 #![forbid(unsafe_code)]
 
 pub mod answer;
@@ -45,3 +46,4 @@ pub mod season;
 pub mod shortening;
 pub mod shortest;
 pub mod timetable;
+pub mod vacancy;

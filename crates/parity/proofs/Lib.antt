@@ -1,0 +1,11 @@
+pub mod InversionLaws
+pub mod VacancyLaws
+pub mod ChangeLaws
+pub mod MoveParity
+pub mod ColourLaws
+pub mod WorkLaws
+pub mod PaintingLaws
+pub mod ContraryLaws
+pub mod Layers
+pub mod Theorems
+pub mod Examples

@@ -1,0 +1,8 @@
+pub mod Colours
+pub mod Permutation
+pub mod Impossible
+pub mod ColourDecision
+pub mod OneVacancy
+pub mod Verdict
+pub mod Work
+pub mod Theorems
