@@ -10,6 +10,10 @@
  *
  *     cc -I include program.c target/staticlib/libcontroller.a
  *
+ * `make install` puts it beside the other libraries, as libwichteab.a:
+ *
+ *     cc program.c $(pkg-config --cflags --libs wichteab)
+ *
  * From an order to a checked timetable it is three calls: wichteab_plan_make, wichteab_timetable_make and
  * wichteab_timetable_check. examples/delivery.c makes them; examples/screen.c shows which rack each move of a plan
  * takes; examples/season.c reports on a season. While a timetable is driven, a controller holds a picture of
