@@ -31,8 +31,8 @@
  *              must not be NULL, not even with a length of 0, and must have that many bytes behind it.
  *   Ownership  All memory stays the caller's. Nothing is kept after the call, nothing is allocated, and
  *              there is no state between calls, so that several threads may call at once. The stack has to
- *              have room for small tables: 512 KiB are enough for every function but wichteab_plan_shorten,
- *              which takes 1 MiB.
+ *              have room for small tables: 512 KiB are enough for every function but wichteab_plan_make and
+ *              wichteab_plan_shorten, which take 1 MiB each.
  *   Output     The result is one number: an answer, taken apart by the functions under "Helpers", or of the
  *              two functions that say so a length. Bytes are written only to a parameter named `buffer`, `floor`
  *              or `racks`, and only where the answer is accepted: a record begins at the buffer's first byte, and
@@ -74,10 +74,14 @@ extern "C" {
  * Version 2.5 adds wichteab_dearest_carry, with 27 and 28.
  *
  * Version 2.6 adds wichteab_one_vacancy, with 29.
+ *
+ * What a caller of version 2 has to change: wichteab_plan_make takes 1 MiB of stack, where 512 KiB were enough, and
+ * up to a fifth of a second on 64 positions, since a search beside the method looks for a shorter plan. Its
+ * promises are as before; its plans are two to four times shorter.
  */
-#define WICHTEAB_VERSION "2.6.0"
-#define WICHTEAB_VERSION_MAJOR 2
-#define WICHTEAB_VERSION_MINOR 6
+#define WICHTEAB_VERSION "3.0.0"
+#define WICHTEAB_VERSION_MAJOR 3
+#define WICHTEAB_VERSION_MINOR 0
 #define WICHTEAB_VERSION_PATCH 0
 
 /*
@@ -296,6 +300,10 @@ uint64_t wichteab_one_vacancy(const uint8_t *order, size_t order_length);
  * the plan is at the front of the buffer, in edition two, wichteab_plan_length(2, moves) bytes long, and
  * wichteab_plan_check accepts it with these moves. Refused: as wichteab_floor_check, and then 23, place 0; the
  * buffer is as it was.
+ *
+ * A method that never fails makes the plan. Beside it a search, within a fixed budget, looks for a plan whose
+ * timetable has fewer steps, or as many and fewer moves; it is written instead only if it passes the plan check. Which
+ * plan is made depends on the order alone. On 64 positions it takes up to a fifth of a second.
  */
 uint64_t wichteab_plan_make(const uint8_t *order, size_t order_length, uint8_t *buffer,
                             size_t buffer_length);

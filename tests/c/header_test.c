@@ -89,7 +89,7 @@ static void run_version(void)
     char numbers[40];
     sprintf(numbers, "%d.%d.%d", WICHTEAB_VERSION_MAJOR, WICHTEAB_VERSION_MINOR, WICHTEAB_VERSION_PATCH);
     expect(strcmp(numbers, WICHTEAB_VERSION) == 0, "the version's numbers are its string's");
-    expect(WICHTEAB_VERSION_MAJOR == 2, "version 2");
+    expect(WICHTEAB_VERSION_MAJOR == 3, "version 3");
 }
 
 static int is(struct wichteab_move move, unsigned left, unsigned entered)

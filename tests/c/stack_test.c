@@ -1,6 +1,6 @@
 /*
- * The header says that 512 KiB of stack are enough for every exported function but wichteab_plan_shorten, which takes
- * 1 MiB. Each one runs here on a thread that has just that, below it a page that may not be touched, on floors of 64
+ * The header says that 512 KiB of stack are enough for every exported function but wichteab_plan_make and
+ * wichteab_plan_shorten, which take 1 MiB each. Each one runs here on a thread that has just that, below it a page that may not be touched, on floors of 64
  * positions: the 8 by 8 grid and a ring with one handle, both with 62 racks, and a train of 63. It has to give what it
  * gives on the main thread. How much of the stack was touched is printed; some KiB of it are the thread's own start.
  */
@@ -14,7 +14,7 @@
 #include "wichteab.h"
 
 #define STACK (512 * 1024)
-#define SHORTENER_STACK (1024 * 1024)
+#define LARGER_STACK (1024 * 1024)
 #define GUARD (64 * 1024)
 #define POSITIONS 64
 #define MOST_MOVES (8 * POSITIONS * POSITIONS * POSITIONS)
@@ -342,9 +342,9 @@ static void run_to_and_fro(unsigned moves)
 {
     put_to_and_fro(moves);
     expect(run(timetable_make, "wichteab_timetable_make, many moves") == (uint64_t)moves << 8, "each move has a step of its own");
-    expect(run_on(SHORTENER_STACK, plan_shorten, "wichteab_plan_shorten, many moves") == 0, "of the moves none is left");
+    expect(run_on(LARGER_STACK, plan_shorten, "wichteab_plan_shorten, many moves") == 0, "of the moves none is left");
     expect(turn_edition("wichteab_plan_convert, many moves") == (uint64_t)moves << 8, "they are converted");
-    expect(run_on(SHORTENER_STACK, plan_shorten, "wichteab_plan_shorten, many moves, edition two") == 0,
+    expect(run_on(LARGER_STACK, plan_shorten, "wichteab_plan_shorten, many moves, edition two") == 0,
            "of the moves in edition two none is left");
 }
 
@@ -355,11 +355,11 @@ static void run_all(void)
     expect(run(order_check, "wichteab_order_check") == 0, "a well-formed order");
     expect(run(order_end, "wichteab_order_length") == order_length, "of its length");
     expect(run(floor_check, "wichteab_floor_check") == 0, "that can be planned");
-    planned = run(plan_make, "wichteab_plan_make");
+    planned = run_on(LARGER_STACK, plan_make, "wichteab_plan_make");
     plan_length = wichteab_plan_length(2, wichteab_plan_moves(planned));
     expect(wichteab_number(planned) == 0, "planned");
     expect(run(plan_check, "wichteab_plan_check") == planned, "and its plan accepted");
-    expect(wichteab_number(run_on(SHORTENER_STACK, plan_shorten, "wichteab_plan_shorten")) == 0, "shortened");
+    expect(wichteab_number(run_on(LARGER_STACK, plan_shorten, "wichteab_plan_shorten")) == 0, "shortened");
     expect(turn_edition("wichteab_plan_convert, to edition one") == planned, "converted");
     expect(turn_edition("wichteab_plan_convert, to edition two") == planned, "and back");
     expect(wichteab_number(run(timetable_make, "wichteab_timetable_make")) == 0, "timetabled");

@@ -108,7 +108,7 @@ pub extern "C" fn wichteab_plan_make(order: &[u8], buffer: &mut [u8]) -> u64
     ensures { λ r. ⌜ ((a : Answer) × Tells oneCount planMovesOf a r
         × PlanMade (now (order .entry)) (now (buffer .entry)) a (now (buffer .exit))) ⌝ }
 {
-    match planner::make(order, buffer) {
+    match choosing::make(order, buffer) {
         PlannerVerdict::Planned(moves) => (moves as u64) * 256,
         PlannerVerdict::Refused(fault, place) => refusal(fault, place),
     }

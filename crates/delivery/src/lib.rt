@@ -33,7 +33,7 @@ pub fn deliver(order: &[u8], plan: &mut [u8], timetable: &mut [u8]) -> Delivery
     ensures delivered { λ r. ⌜ Delivers (now (order .entry)) (now (plan .entry)) (now (timetable .entry)) (answersOf r)
         (now (plan .exit)) (now (timetable .exit)) ⌝ }
 {
-    let planned = planner::make(order, plan);
+    let planned = choosing::make(order, plan);
     let PlannerVerdict::Planned(moves) = planned else {
         return Delivery {
             plan: planned,

@@ -13,11 +13,11 @@ ghost use mathlib.Core.Path.{_≡_};
 ghost use Prim.Native.Nat.{_+_, _≤_, _<_};
 ghost use lib.ListN.{length};
 ghost use Rattle.breakdown.specs.Building.{row};
-ghost use Rattle.answers.specs.Answer.{refusedBy};
+ghost use Rattle.answers.specs.Answer.{Answer, refusedBy};
 ghost use Rattle.timetable.specs.Reading.{partGiven};
 ghost use Rattle.timetable.specs.Checking.{answerOfCheck};
 ghost use Rattle.scheduling.specs.Maker.{answerOf as answerOfMaker};
-ghost use Rattle.planner.specs.Planner.{answerOf as answerOfPlanner};
+ghost use Rattle.planner.specs.Planner.{PlanMade, answerOf as answerOfPlanner};
 ghost use Rattle.delivery.specs.Delivery.{answered, callOfMaker, callOfCheck};
 ghost use Rattle.inspection.specs.Inspection.{upTo, Copied, LaidOut, Inspected, shownByte};
 ghost use Rattle.inspection.specs.Clear.{clearNumber, ClearLeft};
@@ -177,6 +177,17 @@ fn planner_value(v: u64, answer: PlannerVerdict) -> u64
         PlannerVerdict::Planned(moves) => choose(v, 0, moves as u64, 0),
         PlannerVerdict::Refused(fault, place) => refused_value(v, fault, place),
     }
+}
+
+// Plans an order by the proved method alone, without the search beside it, and writes the plan to the front of the buffer. The answer is
+// one value of the planner's: its number, 0 where it is accepted, or its count of moves or its place (`value` 0, 1).
+#[no_mangle]
+pub extern "C" fn wichteab_inspect_method(order: &[u8], buffer: &mut [u8], value: u64) -> u64
+    ensures { λ r. ⌜ ((a : Answer) × PlanMade (now (order .entry)) (now (buffer .entry)) a (now (buffer .exit))
+        × (r ≡ valueOf value (answered a))) ⌝ }
+{
+    let planned = planner::make(order, buffer);
+    planner_value(value, planned)
 }
 
 // A value of the timetable maker's answer.

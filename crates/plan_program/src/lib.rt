@@ -7,7 +7,7 @@ ghost use Rattle.plan_program.specs.Printed.{Printed};
 pub fn plan_program(input: &[u8], out: &mut [u8; 65536]) -> usize
     ensures { λ r. ⌜ Printed (now (input .entry)) (now (out .entry)) (now (out .exit)) r ⌝ }
 {
-    match planner::make(input, out) {
+    match choosing::make(input, out) {
         PlannerVerdict::Planned(moves) => 3 + (18 * moves + 7) / 8,
         PlannerVerdict::Refused(fault, place) => {
             writers::put_refusal(answers::number(fault), place, out, 0)

@@ -8,20 +8,24 @@
 --     same-pass               so they have after the same moves, whatever their windows
 --     same-window             with the same window too, and of the same steps, it stays the same
 --     pass-append             a pass over moves and the moves behind them
+--     begun, first-pass       empty tables are those of a pass that begins, so that the pass over a whole plan finds its greatest step
 -- Assumes nothing.
 use Prim.Native.Nat.{ℕ, zero, suc, _+_, _-_, _*_, _/_, _≤_, _<_, max}
-use mathlib.Core.Path.{_≡_, refl}
+use mathlib.Core.Path.{_≡_, refl, ap, _∙_}
+use mathlib.Core.Bool.{Bool}
 use mathlib.Core.List.{List, [], _∷_, _++_}
 use native.Mathlib.Omega.{arith}
 use native.Mathlib.Nat.{add-zero, le-refl}
-use lib.ListN.{length, getD, set}
+use lib.ListN.{length, getD, set, replicate}
 use lib.Dec.{ltb}
 use Rattle.field.specs.Bytes.{BelowPairs, none₂, more₂}
+use Rattle.field.specs.Listed.{moveSize, movesAt}
 use Rattle.motion.proofs.Test.{cond-either}
 use Rattle.tables.proofs.TableLaws.{zeros-at}
 use Rattle.scheduling.specs.Rows.{EntriesFit}
 use Rattle.motion.specs.LegalStep.{longestTrain}
-use Rattle.scheduling.specs.Filling.{Pass, started, turnNumber, turnBy, noted, passed, pass, Early, emptyWindow, latest}
+use Rattle.scheduling.specs.Filling.{Pass, started, turnNumber, turnBy, noted, passed, pass, passIn, Early, PassMade}
+use Rattle.scheduling.specs.Filling.{emptyWindow, latest}
 
 pub set-most : (b : ℕ) (l : List ℕ) (i v : ℕ) → ((p : ℕ) → getD l p 0 ≤ b) → v ≤ b → (p : ℕ) → getD (set l i v) p 0 ≤ b
 set-most b [] i v h k p = h p
@@ -125,3 +129,16 @@ latest-some (m ∷ ms) h =
 pub latest-few : (ms : List (ℕ × ℕ)) → latest ms ≤ length ms
 unfolding latest
 latest-few ms = omega (arith, early-pass 0 0 (started emptyWindow) (early-started emptyWindow) ms .most)
+
+pub begun : (w : List ℕ) → passIn (replicate 128 0) w 0 ≡ started w
+unfolding passIn started
+begun w = refl
+
+pub first-pass : (e : Bool) (s : List ℕ) (k g d : ℕ) (row w : List ℕ)
+    → PassMade 0 (replicate 128 0) emptyWindow (movesAt e s (6 * (moveSize e * 0)) (k - 0)) g d row w → g ≡ latest (movesAt e s 0 k)
+unfolding latest passIn
+first-pass e s k g d row w made =
+    let front : 6 * (moveSize e * 0) ≡ 0 = omega arith in
+    let all : k - 0 ≡ k = omega arith in
+    let ms = movesAt e s (6 * (moveSize e * 0)) (k - 0) in
+    ap (λ (P : Pass). P .greatest) (made .pass-is ∙ ap (λ (P : Pass). pass 0 P ms) (begun emptyWindow)) ∙ rw (front, all) refl

@@ -4,6 +4,7 @@
 --     maker-short       44
 --     maker-room, head-room  the steps and the head have room
 --     maker-made        the answer and the buffer, once steps and head are written
+--     steps-refused, steps-counted    the count of steps alone: a refusal of the plan checker passed up, and the count
 -- Assumes nothing.
 use Prim.Native.Nat.{ℕ, _+_, _-_, _*_, _^_, _≤_, _<_}
 use mathlib.Core.Path.{_≡_, refl, sym, ap, _∙_}
@@ -32,8 +33,16 @@ use Rattle.scheduling.proofs.FillingLaws.{latest-few}
 use Rattle.scheduling.specs.Windows.{allSteps}
 use Rattle.scheduling.proofs.TabledSteps.{latest-rule, allSteps-made}
 use Rattle.scheduling.proofs.RecordBytes.{record-bytes}
-use Rattle.scheduling.specs.Maker.{madeOf, makerAnswer, bufferAfter}
+use Rattle.scheduling.specs.Maker.{madeOf, makerAnswer, bufferAfter, madeCount, stepsAnswer}
 use Rattle.scheduling.proofs.MakerLaws.{made-of, made-packable}
+
+-- the greatest step that a pass over an accepted plan finds is the rule's
+rule-count : (o p : List ℕ) (k : ℕ) → accepted (k ∷ []) ≡ planAnswer o p → (n : Bool) → n ≡ named p
+    → latest (movesAt n (take (length p - 3) (drop 3 p)) 0 k) ≡ madeCount o p
+rule-count o p k e n edition =
+    let gives = gave o p k e in
+    ap latest (tail-moves o p k e n edition)
+    ∙ latest-rule (floorOf o) (gives .placed-well .few-positions) (gives .placed-well .starts-sound) (gives .leads)
 
 module _ (o p B : List ℕ) where
   -- an answer of the maker, and what it leaves
@@ -103,9 +112,7 @@ module _ (o p B : List ℕ) where
         )
 
         rule : s ≡ greatest (timed (startsOf o) [] (planMoves p))
-        rule =
-            es ∙ ap latest (tail-moves o p k e n edition)
-            ∙ latest-rule (floorOf o) (gives .placed-well .few-positions) (gives .placed-well .starts-sound) (gives .leads)
+        rule = es ∙ rule-count o p k e n edition
 
         counted : s ≡ length (madeOf o p)
         unfolding madeOf
@@ -128,3 +135,18 @@ module _ (o p B : List ℕ) where
               ap (λ (n : ℕ). accepted (n ∷ [])) rule ∙ sym up,
               buffer ∙ ap (written B 0) (sym whole) ∙ sym (ap (λ (a : Answer). leftBy a (timetableRecord (madeOf o p)) B) up),
             )
+
+module _ (o p : List ℕ) where
+  pub steps-refused : (a r : Answer) (n q : ℕ) → a ≡ planAnswer o p → a ≡ refused n q → r ≡ passUp a (accepted (0 ∷ []))
+      → r ≡ stepsAnswer o p
+  unfolding stepsAnswer
+  steps-refused a r n q ea en er =
+      er ∙ ap (λ (x : Answer). passUp x (accepted (0 ∷ []))) en
+      ∙ ap (λ (x : Answer). passUp x (accepted (madeCount o p ∷ []))) (sym en ∙ ea)
+
+  pub steps-counted : (k : ℕ) (e : accepted (k ∷ []) ≡ planAnswer o p) (n : Bool) → n ≡ named p → (s : ℕ)
+      → s ≡ latest (movesAt n (take (length p - 3) (drop 3 p)) 0 k) → accepted (s ∷ []) ≡ stepsAnswer o p
+  unfolding stepsAnswer
+  steps-counted k e n edition s es =
+      ap (λ (x : ℕ). accepted (x ∷ [])) (es ∙ rule-count o p k e n edition)
+      ∙ sym (passUp-accepted (planAnswer o p) _ (k ∷ []) (sym e))

@@ -15,7 +15,7 @@ ghost use Rattle.plan.specs.Verdict.{answerOf as planAnswerOf};
 ghost use Rattle.scheduling.specs.Filling.{noted, passIn, Early, PassMade, emptyWindow, latest};
 ghost use Rattle.scheduling.specs.Stretches.{Copied, Begun, Kept, PlanPassed, Counted};
 ghost use Rattle.scheduling.specs.Windows.{rowsOf, windowSteps, allSteps};
-ghost use Rattle.scheduling.specs.Maker.{makerAnswer, bufferAfter, answerOf};
+ghost use Rattle.scheduling.specs.Maker.{makerAnswer, bufferAfter, stepsAnswer, answerOf};
 ghost use Rattle.scheduling.specs.Rows.{EntriesFit, Left, KeepsLeft, rowMoves, rows, stepBytes, stepsBytes};
 
 // Writes the step that a row of the window holds from byte `at` on, and says where the next one begins. Only the entries of the positions
@@ -346,6 +346,18 @@ fn make_steps(tail: &[u8], named: bool, k: usize, buffer: &mut [u8]) -> usize
     make_windows(tail, named, k, &mut book, &mut due, buffer)
 }
 
+// The greatest step of the k moves of a plan's tail: one pass, whose window is not written.
+fn latest_step(tail: &[u8], named: bool, k: usize) -> usize
+    requires { ⌜ (k < 2 ^ 22) × (6 * (moveSize named * k) ≤ 8 * length (now tail)) ⌝ }
+    ensures { λ r. ⌜ r ≡ latest (movesAt named (now (tail .entry)) 0 k) ⌝ }
+{
+    let mut row = [0u32; 128];
+    let mut window = [0u8; 262144];
+    let mut leaving = [0u64; 4096];
+    let found = fill(tail, named, 0, k, 0, &mut row, &mut window, &mut leaving);
+    found.greatest
+}
+
 // The verdict of the timetable maker: specs/Maker.antt gives it document 01's number and values.
 pub enum MakerVerdict {
     Accepted(usize),
@@ -360,6 +372,19 @@ fn passed_up(plan: PlanVerdict) -> MakerVerdict
         PlanVerdict::Accepted(_) => MakerVerdict::Accepted(0),
         PlanVerdict::Refused(fault, place) => MakerVerdict::Refused(fault, place),
     }
+}
+
+// How many steps the timetable of a plan for an order has, which is not written: the plan checker's numbers, or that count.
+pub fn count_steps(order: &[u8], plan: &[u8]) -> MakerVerdict
+    ensures { λ r. ⌜ answerOf r ≡ stepsAnswer (now (order .entry)) (now (plan .entry)) ⌝ }
+{
+    let below = plan::check(order, plan);
+    let PlanVerdict::Accepted(k) = below else {
+        return passed_up(below);
+    };
+    let named = plan::names_racks(plan);
+    let steps = latest_step(&plan[3..], named, k);
+    MakerVerdict::Accepted(steps)
 }
 
 // Makes the timetable of a plan for an order and writes it at the front of the buffer: the plan checker's numbers, then 44.

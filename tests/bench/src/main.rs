@@ -1,5 +1,6 @@
 //! Prints how fast each proved function and the second implementation are on the same inputs, and how
-//! good the planner's plans are. Nothing depends on the times.
+//! good the planner's plans are. Nothing depends on the times. With a path as its argument it writes the figure of the
+//! documents there instead.
 
 mod quality;
 
@@ -22,6 +23,9 @@ use std::time::Instant;
 const ROUNDS: usize = 7;
 
 fn main() {
+    if let Some(path) = std::env::args().nth(1) {
+        return quality::write_figure(&path);
+    }
     println!("Proved library and second implementation: same inputs, both built for release, time of one");
     println!("call, best of {ROUNDS} rounds. A ratio above 1 means that the proved function is the faster.");
     println!("Buffers that are written are cleared to zero before each call, outside the measured time.");
@@ -42,6 +46,7 @@ fn main() {
     season_report();
     dearest_carry();
     quality::print_table();
+    quality::print_shortest();
     quality::print_rings();
     quality::print_shortened();
 }

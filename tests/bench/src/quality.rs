@@ -1,7 +1,7 @@
-//! How good the planner's plans are: their moves and steps beside those of BIBOX, the published method, and
-//! beside a bound that no plan undercuts.
+//! How good the planner's plans are: their moves and steps beside those of the proved method alone, of BIBOX, the
+//! published method, and beside a bound that no plan undercuts.
 
-use crate::{seconds, shown, ROUNDS};
+use crate::{seconds, shown};
 use compare::floors;
 use compare::orders;
 use compare::packed;
@@ -14,22 +14,24 @@ use published::operation::Choice;
 use second::breakdown::shortest_path;
 use second::floor::all_positions;
 use second::order;
+use std::collections::HashSet;
+use std::time::Instant;
 
 /// Rows and columns of each grid, and how many random orders are planned on it for each count of vacancies.
-const GRIDS: [(usize, usize, usize); 5] =
-    [(2, 3, 1000), (3, 4, 1000), (4, 4, 1000), (4, 5, 1000), (8, 8, 200)];
+const GRIDS: [(usize, usize, usize); 6] =
+    [(2, 3, 100), (3, 3, 100), (3, 4, 100), (4, 4, 100), (4, 5, 100), (8, 8, 100)];
+
+/// Positions of floors made of handles, how many inner positions their handles have at most, and how many such floors.
+const OF_HANDLES: [(usize, usize, usize); 4] = [(20, 4, 50), (20, 16, 50), (64, 4, 25), (64, 16, 25)];
 
 /// Prints the table. The second implementation checks and timetables every plan.
 pub fn print_table() {
     println!();
-    println!("Plans of the proved planner, and of BIBOX, the method of source document 001 (tests/published), with");
-    println!(
-        "the nearest position wherever its text leaves one open, and with the first. The same random orders;"
-    );
-    println!(
-        "means for one order. The distances of the racks from start to goal are added up: no plan has fewer"
-    );
-    println!("moves. The ratios are proved to BIBOX: below 1, the proved planner's plan is the shorter.");
+    println!("Plans of the planner, of the proved method alone, without the search beside it, and of BIBOX, the method of");
+    println!("source document 001 (tests/published), with the nearest position wherever its text leaves one open, and with");
+    println!("the first. The same random orders; means for one order. The distances of the racks from start to goal are");
+    println!("added up: no plan has fewer moves. The ratios are planner to BIBOX: below 1, the planner's plan is the shorter.");
+    println!("The time is that of planning, checking and timetabling.");
     println!("{HEAD}");
     let mut random = Random::new(0xBE_0007);
     for (rows, columns, count) in GRIDS {
@@ -40,6 +42,76 @@ pub fn print_table() {
             print_row(&format!("{rows} by {columns} {vacancies:>6}"), &orders);
         }
     }
+    for (n, longest, count) in OF_HANDLES {
+        let mut order = || {
+            let floor = floors::of_handles(&mut random, n, longest);
+            orders::order_on(&mut random, &floor, n - 2).record()
+        };
+        let orders: Vec<Vec<u8>> = (0..count).map(|_| order()).collect();
+        print_row(&format!("{n}, of {longest:<2}   2"), &orders);
+    }
+    println!("(20, of 16: floors of 20 positions, a small ring and handles of up to 16 inner positions)");
+}
+
+/// Prints the planner's moves beside those of the shortest plans there are, on the two smallest grids.
+pub fn print_shortest() {
+    println!();
+    println!(
+        "Moves of the planner's plans, and of the shortest plans there are, found by exhaustive search."
+    );
+    println!("grid   vacant  orders |  moves  least  ratio");
+    let mut random = Random::new(0xBE_000A);
+    for (rows, columns) in [(2, 3), (3, 3)] {
+        let floor = floors::grid(rows, columns);
+        let mut order = || orders::order_on(&mut random, &floor, floor.n - 2).record();
+        let orders: Vec<Vec<u8>> = (0..100).map(|_| order()).collect();
+        let made = mean_length(&orders, planned);
+        let least =
+            orders.iter().map(|order| fewest_moves(order)).sum::<usize>() as f64 / orders.len() as f64;
+        println!(
+            "{rows} by {columns}      2 {:>7} | {:>6.1} {least:>6.1} {:>6.2}",
+            orders.len(),
+            made.moves,
+            made.moves / least
+        );
+    }
+}
+
+/// The fewest moves that lead from the starts of an order to its goals: breadth-first over all arrangements.
+fn fewest_moves(order: &[u8]) -> usize {
+    let order = order::read(order).expect("the order is sound");
+    let edges: Vec<(usize, usize)> = both_ways(&order);
+    let table = |places: &[u8]| {
+        let mut racks = vec![0u8; order.floor.n];
+        places.iter().zip(1..).for_each(|(&at, rack)| racks[usize::from(at)] = rack);
+        racks
+    };
+    let goal = table(order.goals());
+    let mut layer = vec![table(order.starts())];
+    let mut seen: HashSet<Vec<u8>> = layer.iter().cloned().collect();
+    let mut moves = 0;
+    while !layer.contains(&goal) {
+        let mut next = Vec::new();
+        for racks in &layer {
+            for &(a, b) in &edges {
+                if racks[a] != 0 && racks[b] == 0 {
+                    let mut after = racks.clone();
+                    after.swap(a, b);
+                    if seen.insert(after.clone()) {
+                        next.push(after);
+                    }
+                }
+            }
+        }
+        layer = next;
+        moves += 1;
+    }
+    moves
+}
+
+fn both_ways(order: &order::Order) -> Vec<(usize, usize)> {
+    let pairs = (0..order.floor.n).flat_map(|a| (0..order.floor.n).map(move |b| (a, b)));
+    pairs.filter(|&(a, b)| order.floor.joined(a, b)).collect()
 }
 
 /// Rings of 16 and 64 positions, with one vacancy and with half of the positions vacant.
@@ -62,22 +134,20 @@ pub fn print_rings() {
                 orders.push(order.record());
             }
             let mean = |sum: usize| sum as f64 / orders.len() as f64;
-            let (proved, time) = (mean_length(&orders, proved_plan), shown(mean_time(&orders)));
+            let (planned, time) = (mean_length(&orders, planned), shown(mean_time(&orders)));
             let (one_sense, least) = (mean(one_sense), mean(least));
             println!(
-                "{n:>4} {vacancies:>8} {:>7} {one_sense:>10.1} {least:>10.1} | {proved} {time:>11}",
+                "{n:>4} {vacancies:>8} {:>7} {one_sense:>10.1} {least:>10.1} | {planned} {time:>11}",
                 orders.len()
             );
         }
     }
 }
 
-/// Prints what the planner's own plans lose when they are shortened.
+/// Prints what the proved method's own plans lose when they are shortened.
 pub fn print_shortened() {
     println!();
-    println!(
-        "The proved planner's plans, and what the proved shortener leaves of them: means for one order."
-    );
+    println!("The proved method's plans, and what the shortener leaves of them: means for one order.");
     println!("grid   vacant  orders |  moves   left     lost |  steps   left");
     let mut random = Random::new(0xBE_0009);
     for (rows, columns, count) in GRIDS {
@@ -85,7 +155,7 @@ pub fn print_shortened() {
         for vacancies in vacancy_counts(floor.n) {
             let mut order = || orders::order_on(&mut random, &floor, floor.n - vacancies).record();
             let orders: Vec<Vec<u8>> = (0..count).map(|_| order()).collect();
-            let (made, left) = (mean_length(&orders, proved_plan), mean_length(&orders, shortened_plan));
+            let (made, left) = (mean_length(&orders, by_method), mean_length(&orders, shortened_plan));
             let lost = 100.0 * (made.moves - left.moves) / made.moves;
             println!(
                 "{rows} by {columns} {vacancies:>6} {count:>7} | {:>6.1} {:>6.1} {lost:>6.2} % | {:>6.1} {:>6.1}",
@@ -96,7 +166,7 @@ pub fn print_shortened() {
 }
 
 fn shortened_plan(order: &[u8]) -> Vec<u8> {
-    let plan = proved_plan(order);
+    let plan = by_method(order);
     let mut buffer = vec![0; plan.len()];
     let k = packed::to_count(proved::plan_shorten(order, &plan, &mut buffer)).expect("the plan is accepted");
     buffer.truncate(Edition::Two.length(k as usize));
@@ -104,16 +174,18 @@ fn shortened_plan(order: &[u8]) -> Vec<u8> {
 }
 
 const HEAD: &str = "
-                      distances |      proved planner       | BIBOX, nearest     ratios | BIBOX, first       ratios
-grid   vacant  orders    in all |  moves  steps        time |  moves  steps moves steps |  moves  steps moves steps";
+                      distances |        planner            | proved method | BIBOX, nearest     ratios | BIBOX, first       ratios
+floor  vacant  orders    in all |  moves  steps        time |  moves  steps |  moves  steps moves steps |  moves  steps moves steps";
 
 fn print_row(floor: &str, orders: &[Vec<u8>]) {
-    let proved = mean_length(orders, proved_plan);
-    let (distances, time) = (mean_distances(orders), shown(mean_time(orders)));
-    print!("{floor} {:>7} {distances:>9.1} | {proved} {time:>11}", orders.len());
+    let start = Instant::now();
+    let made = mean_length(orders, planned);
+    let time = shown(start.elapsed().as_secs_f64() / orders.len() as f64);
+    let (method, distances) = (mean_length(orders, by_method), mean_distances(orders));
+    print!("{floor} {:>7} {distances:>9.1} | {made} {time:>11} | {method}", orders.len());
     for choice in [Choice::Nearest, Choice::First] {
         let bibox = mean_length(orders, |order| bibox_plan(order, choice));
-        print!(" | {bibox} {:>5.2} {:>5.2}", proved.moves / bibox.moves, proved.steps / bibox.steps);
+        print!(" | {bibox} {:>5.2} {:>5.2}", made.moves / bibox.moves, made.steps / bibox.steps);
     }
     println!();
 }
@@ -156,9 +228,18 @@ fn plan_buffer() -> Vec<u8> {
     vec![0; 18 * 64 * 64 * 64 + 3]
 }
 
-fn proved_plan(order: &[u8]) -> Vec<u8> {
+/// The planner's plan.
+fn planned(order: &[u8]) -> Vec<u8> {
     let mut buffer = plan_buffer();
     let k = packed::to_count(proved::plan_make(order, &mut buffer)).expect("the order can be planned");
+    buffer.truncate(Edition::Two.length(k as usize));
+    buffer
+}
+
+/// The plan of the proved method alone.
+fn by_method(order: &[u8]) -> Vec<u8> {
+    let mut buffer = plan_buffer();
+    let k = proved::inspect_method(order, &mut buffer, 1);
     buffer.truncate(Edition::Two.length(k as usize));
     buffer
 }
@@ -169,12 +250,11 @@ fn bibox_plan(order: &[u8], choice: Choice) -> Vec<u8> {
     Plan::of_moves(&moves).record()
 }
 
-/// Seconds that the proved planner takes for one of the orders: the best of some rounds over all of them.
+/// Seconds that the planner takes for one of the orders.
 fn mean_time(orders: &[Vec<u8>]) -> f64 {
     let mut buffer = plan_buffer();
     let mut all = || orders.iter().map(|order| proved::plan_make(order, &mut buffer)).sum();
-    let best = (0..ROUNDS).map(|_| seconds(1, &mut all)).fold(f64::MAX, f64::min);
-    best / orders.len() as f64
+    seconds(1, &mut all) / orders.len() as f64
 }
 
 /// The sum over an order's racks of the shortest way from start to goal, in the mean.
@@ -193,4 +273,64 @@ fn distances(order: &order::Order) -> usize {
         }
     };
     order.starts().iter().zip(order.goals()).map(distance).sum()
+}
+
+/// One method's plans on a grid: what the figure shows.
+struct Bar {
+    name: &'static str,
+    moves: f64,
+    steps: Option<f64>,
+}
+
+/// Writes the figure of the documents: moves and steps on the 4 by 4 and the 8 by 8 grid with two vacancies.
+pub fn write_figure(path: &str) {
+    let mut random = Random::new(0xBE_000B);
+    let mut panels = String::new();
+    for (at, (rows, columns)) in [(4, 4), (8, 8)].into_iter().enumerate() {
+        let floor = floors::grid(rows, columns);
+        let mut order = || orders::order_on(&mut random, &floor, floor.n - 2).record();
+        let orders: Vec<Vec<u8>> = (0..100).map(|_| order()).collect();
+        let bars = bars(&orders);
+        panels += &panel(&format!("{rows} by {columns} positions, two vacant"), &bars, 190 * at);
+    }
+    let text = format!(
+        "<svg xmlns=\"http://www.w3.org/2000/svg\" viewBox=\"0 0 680 390\" font-family=\"sans-serif\" font-size=\"13\">\n\
+         <rect width=\"680\" height=\"390\" fill=\"#fff\"/>\n{panels}</svg>\n"
+    );
+    std::fs::write(path, text).expect("the figure is written");
+}
+
+fn bars(orders: &[Vec<u8>]) -> [Bar; 4] {
+    let published = mean_length(orders, |order| bibox_plan(order, Choice::Nearest));
+    let method = mean_length(orders, by_method);
+    let made = mean_length(orders, planned);
+    let bar = |name, length: Length| Bar { name, moves: length.moves, steps: Some(length.steps) };
+    [
+        bar("published method", published),
+        bar("proved method", method),
+        bar("with the search", made),
+        Bar { name: "sum of distances", moves: mean_distances(orders), steps: None },
+    ]
+}
+
+/// A grid's bars, the longest 360 units long; the steps are told beside them.
+fn panel(title: &str, bars: &[Bar; 4], top: usize) -> String {
+    let most = bars.iter().map(|bar| bar.moves).fold(1.0, f64::max);
+    let mut text = format!("<text x=\"20\" y=\"{}\" font-weight=\"bold\">{title}</text>\n", top + 30);
+    for (bar, row) in bars.iter().zip(0..) {
+        let y = top + 44 + 34 * row;
+        let width = 360.0 * bar.moves / most;
+        let steps = bar.steps.map_or(String::new(), |steps| format!(", {steps:.0} steps"));
+        text += &format!(
+            "<text x=\"20\" y=\"{}\">{}</text>\n\
+             <rect x=\"140\" y=\"{y}\" width=\"{width:.1}\" height=\"22\" fill=\"#2b6cb0\"/>\n\
+             <text x=\"{:.1}\" y=\"{}\">{:.0} moves{steps}</text>\n",
+            y + 16,
+            bar.name,
+            146.0 + width,
+            y + 16,
+            bar.moves
+        );
+    }
+    text
 }

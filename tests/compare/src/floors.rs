@@ -209,13 +209,33 @@ pub fn with_sides(random: &mut Random, n: usize, sides: usize) -> Floor {
     renumbered(random, n, edges)
 }
 
+/// A bi-connected floor of a small ring and handles of up to so many inner positions, at most four neighbours to a
+/// position, without further edges. n is at least 7.
+pub fn of_handles(random: &mut Random, n: usize, longest: usize) -> Floor {
+    let settled = random.between(3, 6);
+    let edges = handles_on_ring(random, 0, n, settled, longest, 4);
+    renumbered(random, n, edges)
+}
+
 /// The edges of a bi-connected floor on the positions from `first` to below `end`, at least 3. No position has more
 /// than `sides` of them, at least 3.
 fn ring_and_handles(random: &mut Random, first: usize, end: usize, sides: usize) -> Vec<(usize, usize)> {
-    let mut settled = random.between(3, end - first);
+    let settled = random.between(3, end - first);
+    handles_on_ring(random, first, end, settled, 4, sides)
+}
+
+/// The edges of a ring of so many positions and of handles on it, each of up to `longest` inner positions.
+fn handles_on_ring(
+    random: &mut Random,
+    first: usize,
+    end: usize,
+    mut settled: usize,
+    longest: usize,
+    sides: usize,
+) -> Vec<(usize, usize)> {
     let mut edges: Vec<_> = ring(settled).into_iter().map(|(a, b)| (first + a, first + b)).collect();
     while first + settled < end {
-        let inner = random.between(1, usize::min(4, end - first - settled));
+        let inner = random.between(1, usize::min(longest, end - first - settled));
         let mut ends: Vec<usize> =
             (first..first + settled).filter(|&at| edges_at(&edges, at) < sides).collect();
         random.shuffle(&mut ends);

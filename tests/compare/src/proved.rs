@@ -121,6 +121,13 @@ mod symbols {
             buffer: *mut u8,
             buffer_length: usize,
         ) -> u64;
+        pub fn wichteab_inspect_method(
+            order: *const u8,
+            order_length: usize,
+            buffer: *mut u8,
+            buffer_length: usize,
+            value: u64,
+        ) -> u64;
         pub fn wichteab_inspect_step(
             timetable: *const u8,
             timetable_length: usize,
@@ -309,6 +316,20 @@ pub fn inspect_clear(order: &[u8], held: u64, position: u64, buffer: &mut [u8]) 
             position,
             buffer.as_mut_ptr(),
             buffer.len(),
+        )
+    }
+}
+
+/// The plan of the proved method alone, without the search beside it: one value of the planner's answer, its number
+/// (0 accepted), or its count of moves or its place.
+pub fn inspect_method(order: &[u8], buffer: &mut [u8], value: u64) -> u64 {
+    unsafe {
+        symbols::wichteab_inspect_method(
+            order.as_ptr(),
+            order.len(),
+            buffer.as_mut_ptr(),
+            buffer.len(),
+            value,
         )
     }
 }

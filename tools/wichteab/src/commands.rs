@@ -240,7 +240,7 @@ pub const COMMANDS: [Command; 12] = [
 ];
 
 /// The version of library and tool, as include/wichteab.h has it.
-pub const VERSION: &str = "2.6.0";
+pub const VERSION: &str = "3.0.0";
 
 /// Runs the subcommand that the words begin with.
 pub fn run(words: &[String]) -> Outcome {

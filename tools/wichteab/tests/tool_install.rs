@@ -182,7 +182,7 @@ fn the_installed_programs_run() {
     succeeded(&ran, line);
     let printed = String::from_utf8(ran.stdout).expect("text");
     // README.md has both beginnings and the report
-    assert!(printed.starts_with("steps 28 moves 87\n1 1>5 2>1 3>2 5>6 6>10 7>3\n"), "{printed}");
+    assert!(printed.starts_with("steps 3 moves 7\n1 5>6 6>7 7>11\n"), "{printed}");
     let report = "accepted 1\nrefused 0\nsteps 2\nmoves 4\nparallelism 2000\n";
     assert!(printed.ends_with(&format!("{report}wichteab {VERSION}\n")), "{printed}");
 }

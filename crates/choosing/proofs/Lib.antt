@@ -1,0 +1,3 @@
+pub mod Improving
+pub mod Choices
+pub mod Examples
