@@ -17,9 +17,9 @@ use mathlib.Core.Logic.{_⊎_, inl, inr, ⊎-elim}
 use native.Mathlib.Omega.{arith}
 use lib.ListN.{replicate, length-replicate}
 use Rattle.sets.specs.Sets.{bit}
-use Rattle.graph.specs.Rows.{Edge, Rows}
+use Rattle.graph.specs.Rows.{row, Edge, Rows}
 use Rattle.graph.proofs.Examples.{rows-tested}
-use Rattle.shunting.specs.Journey.{row, Space}
+use Rattle.shunting.specs.Journey.{Space}
 use Rattle.shunting.specs.Table.{Table}
 use Rattle.shunting.specs.declared.State.{State}
 use Rattle.base_ring.specs.declared.Circle.{Circle}

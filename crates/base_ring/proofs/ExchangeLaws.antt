@@ -36,12 +36,12 @@ use lib.ListN.{length}
 use borrow.Author.Tests.{eq-eqb, ne-eqb}
 use Rattle.sets.specs.Sets.{Has}
 use Rattle.graph.specs.Walk.{Symmetric}
-use Rattle.graph.specs.Rows.{Edge, Rows}
+use Rattle.graph.specs.Rows.{row, Edge, Rows}
 use Rattle.breakdown.specs.Part.{Part}
 use Rattle.shunting.specs.declared.State.{State}
 use Rattle.shunting.specs.Went.Back.{done}
 use Rattle.shunting.proofs.WentLaws.{same-refl}
-use Rattle.shunting.specs.Journey.{row, relogged, onto, Fits, Room, Space, Trip, Journey, JourneyOn}
+use Rattle.shunting.specs.Journey.{relogged, onto, Fits, Room, Space, Trip, Journey, JourneyOn}
 use Rattle.shunting.specs.Journey.Trail.{start}
 use Rattle.shunting.proofs.JourneyLaws.{trail-below, journey-append, trip-append, trip-anew, trip-more}
 use Rattle.shunting.proofs.JourneyLaws.{fits-anew, space-then, space-less}

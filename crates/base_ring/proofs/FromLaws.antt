@@ -18,9 +18,9 @@ use lib.Seq.{set-at, append-snoc}
 use Rattle.breakdown.specs.Breakdown.{Among, Between, Breakdown}
 use Rattle.breakdown.specs.Part.{placeOf}
 use Rattle.breakdown.proofs.PlaceLaws.{placeOf-in, placeOf-is}
-use Rattle.shunting.specs.Journey.{row}
 use Rattle.breakdown.specs.Answer.{BreaksDown}
 use Rattle.breakdown.specs.declared.Breakdown.{Breakdown as Parts}
+use Rattle.graph.specs.Rows.{row}
 use Rattle.base_ring.specs.declared.Circle.{Circle}
 use Rattle.base_ring.specs.Circle.{place, On, BaseRing}
 use Rattle.base_ring.specs.From.{round, circleOf}

@@ -13,9 +13,9 @@ use native.Mathlib.Decide.{ℕ-discrete}
 use lib.ListN.{replicate, getD-replicate}
 use Rattle.sets.specs.Sets.{Has}
 use Rattle.sets.proofs.SetLaws.{has-first}
-use Rattle.graph.specs.Rows.{Edge}
+use Rattle.graph.specs.Rows.{row, Edge}
 use Rattle.shunting.specs.declared.State.{State}
-use Rattle.shunting.specs.Journey.{row, Fits, JourneyOn}
+use Rattle.shunting.specs.Journey.{Fits, JourneyOn}
 use Rattle.shunting.specs.Turned.{Passed}
 use Rattle.shunting.proofs.JourneyLaws.{fits-then}
 use Rattle.base_ring.specs.Swap.{PassableBy, JoinsBy, Swappable, Swapped}

@@ -18,11 +18,11 @@ use native.Mathlib.Nat.{mul-suc, mul-comm, mul-le-mul-right}
 use native.Mathlib.Omega.{arith}
 use lib.ListN.{length}
 use Rattle.sets.specs.Sets.{Has}
-use Rattle.graph.specs.Rows.{Edge, Rows}
+use Rattle.graph.specs.Rows.{row, Edge, Rows}
 use Rattle.breakdown.specs.Part.{Part}
 use Rattle.shunting.specs.declared.State.{State}
 use Rattle.shunting.specs.Went.{Same}
-use Rattle.shunting.specs.Journey.{row, Room, Trip}
+use Rattle.shunting.specs.Journey.{Room, Trip}
 use Rattle.shunting.proofs.JourneyLaws.{trip-none, trip-more, trip-append, room-less, room-then}
 use Rattle.shunting.specs.Cleared.{Cleared}
 use Rattle.shunting.specs.Table.{Table}

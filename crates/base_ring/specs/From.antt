@@ -10,7 +10,7 @@ use mathlib.Core.List.{List, [], _∷_, _++_}
 use lib.ListN.{replicate}
 use Rattle.breakdown.specs.Part.{placeOf}
 use Rattle.breakdown.specs.declared.Breakdown.{Breakdown}
-use Rattle.shunting.specs.Journey.{row}
+use Rattle.graph.specs.Rows.{row}
 use Rattle.base_ring.specs.declared.Circle.{Circle}
 
 unfoldable pub round : (ℕ → ℕ) → ℕ → ℕ → ℕ → List ℕ

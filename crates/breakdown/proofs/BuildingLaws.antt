@@ -30,7 +30,8 @@ use Rattle.graph.specs.Connected.{Except, Below}
 use Rattle.graph.specs.Nearest.{Nearest}
 use Rattle.breakdown.specs.Breakdown.{Among, Handle, Breakdown}
 use Rattle.breakdown.specs.Choice.{Beside, Leaves}
-use Rattle.breakdown.specs.Building.{row, Settled, Extended, Building}
+use Rattle.graph.specs.Rows.{row}
+use Rattle.breakdown.specs.Building.{Settled, Extended, Building}
 
 pub settled-none : (o : List ℕ) (s : ℕ) → length o ≡ 64 → s ≡ 0 → Settled 0 o s
 settled-none o s long empty =

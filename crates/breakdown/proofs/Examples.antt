@@ -14,11 +14,10 @@ use lib.ListN.{replicate}
 use Rattle.sets.specs.Sets.{bit}
 use Rattle.graph.specs.Connected.{BiConnected, Ring, Robust}
 use Rattle.graph.proofs.ConnectedLaws.{whole-same}
-use Rattle.graph.specs.Rows.{Edge}
+use Rattle.graph.specs.Rows.{row, Edge}
 use Rattle.graph.specs.EdgeCount.{edgeCount}
 use Rattle.graph.proofs.Examples.{floorF, floorF-rows, triangle, triangle-rows, triangle-edges}
 use Rattle.breakdown.specs.Breakdown.{Among, Handle, Breakdown}
-use Rattle.breakdown.specs.Building.{row}
 use Rattle.breakdown.proofs.StageLaws.{ring-robust, breakdown-biConnected}
 
 -- the row of F's breakdown: ring, then the inside of handle 0, from place 3 up to place 4, between 1 and 2

@@ -17,10 +17,10 @@ use Rattle.sets.proofs.CountLaws.{ones-least}
 use Rattle.graph.specs.Walk.{Walk}
 use Rattle.graph.specs.Walk.Walk.{alone, step}
 use Rattle.graph.specs.Connected.{BiConnected}
-use Rattle.graph.specs.Rows.{Edge, Rows}
+use Rattle.graph.specs.Rows.{row, Edge, Rows}
 use Rattle.graph.proofs.EdgeCountLaws.{biConnected-neighbours}
 use Rattle.breakdown.specs.Choice.{Leaves, RingChoice, HandleChoice}
-use Rattle.breakdown.specs.Building.{row, Building}
+use Rattle.breakdown.specs.Building.{Building}
 
 record Unset (s n : ℕ) : Type 0 where
   at : ℕ

@@ -15,11 +15,11 @@ use lib.ListN.{length}
 use Rattle.sets.specs.Sets.{Has}
 use Rattle.graph.proofs.WalkLaws.{path-walk}
 use Rattle.graph.specs.Connected.{Except, Below}
-use Rattle.graph.specs.Rows.{Edge, Rows}
+use Rattle.graph.specs.Rows.{row, Edge, Rows}
 use Rattle.graph.specs.Nearest.{Nearest}
 use Rattle.graph.proofs.NearestLaws.{nearest-found, nearest-inner}
 use Rattle.breakdown.specs.Choice.{Beside, RingChoice, HandleChoice}
-use Rattle.breakdown.specs.Building.{row, Settled, Fresh, Extended, Building}
+use Rattle.breakdown.specs.Building.{Settled, Fresh, Extended, Building}
 use Rattle.breakdown.proofs.BuildingLaws.{building-ring}
 
 pub nearest-fresh : {n : ℕ} {E : ℕ → ℕ → Type 0} {T : ℕ → Type 0} (a b k j : ℕ) (f : List ℕ) (s : ℕ) → n ≤ 64

@@ -15,11 +15,11 @@ use Rattle.sets.proofs.SetLaws.{has-or-not}
 use Rattle.graph.specs.Walk.{Walk}
 use Rattle.graph.proofs.WalkLaws.{walk-segment}
 use Rattle.graph.specs.Connected.{Except, Below}
-use Rattle.graph.specs.Rows.{Edge, Rows}
+use Rattle.graph.specs.Rows.{row, Edge, Rows}
 use Rattle.graph.specs.EdgeCount.{rowSum, edgeCount}
 use Rattle.graph.proofs.EdgeCountLaws.{handshake, rowSum-two, rowsSum-two}
 use Rattle.breakdown.specs.Choice.{RingChoice}
-use Rattle.breakdown.specs.Building.{row, Building}
+use Rattle.breakdown.specs.Building.{Building}
 use Rattle.breakdown.proofs.BuildingLaws.{building-all, building-every}
 
 module _ {n : ℕ} {g : List ℕ} {c u w k : ℕ} (r : ℕ) (o start left right : List ℕ) (s : ℕ) (rows : Rows n g)

@@ -207,38 +207,39 @@ module _ {E : ℕ → ℕ → Type 0} (at : ℕ → ℕ) where
                 way = way-up h i le lt (λ q a b. rest k q hk b (omega arith)) (old v (h .right));
               })
 
+  -- so is what hangs on it, with it
+  whole-both : {P Q : ℕ → Type 0} → Symmetric E → Whole E P → ((p : ℕ) → Q p → Hangs E P (Both P Q) p) → Whole E (Both P Q)
+  whole-both sy whole hangs =
+      whole-hung sy (λ p a. inl a) whole (λ p x. ⊎-elim (λ a. record { at = p; there = a; way = way-stay (inl a) }) (hangs p) x)
+
   pub whole-left : {P : ℕ → Type 0} (s e u v i : ℕ) → Symmetric E → Handle E at s e u v → i ≤ e → Whole E P → P u
       → Whole E (Both P (Between at s i))
   whole-left {P} s e u v i sy h le whole end =
-      whole-hung sy (λ p a. inl a) whole (λ p x. ⊎-elim
-      (λ a. record { at = p; there = a; way = way-stay (inl a) })
-      (λ b. subst (Hangs E P (Both P (Between at s i))) (b .is)
-      (let f = b .from in
+      whole-both sy whole (λ p b.
+      let f = b .from in
       let l = b .before in
-      record {
+      subst (Hangs E P (Both P (Between at s i))) (b .is)
+      (record {
         at = u;
         there = end;
         way =
             way-down sy h (b .place) f (omega arith)
             (λ q x y. inr (record { place = q; from = x; before = omega arith; is = refl })) (inl end);
       }))
-      x)
 
   pub whole-right : {P : ℕ → Type 0} (s e u v i : ℕ) → Symmetric E → Handle E at s e u v → s ≤ i → Whole E P → P v
       → Whole E (Both P (Between at i e))
   whole-right {P} s e u v i sy h le whole end =
-      whole-hung sy (λ p a. inl a) whole (λ p x. ⊎-elim
-      (λ a. record { at = p; there = a; way = way-stay (inl a) })
-      (λ b. subst (Hangs E P (Both P (Between at i e))) (b .is)
-      (let f = b .from in
+      whole-both sy whole (λ p b.
+      let f = b .from in
       let l = b .before in
-      record {
+      subst (Hangs E P (Both P (Between at i e))) (b .is)
+      (record {
         at = v;
         there = end;
         way =
             way-up h (b .place) (omega arith) l (λ q x y. inr (record { place = q; from = omega arith; before = y; is = refl })) (inl end);
       }))
-      x)
 
 pub record Two (E : ℕ → ℕ → Type 0) (P : ℕ → Type 0) (a : ℕ) : Type 0 where
   pub one : Start E P a

@@ -12,10 +12,9 @@ use mathlib.Core.Path.{_≡_}
 use mathlib.Core.List.{List}
 use mathlib.Core.Logic.{_↔_}
 use Rattle.graph.specs.Connected.{BiConnected, Ring}
-use Rattle.graph.specs.Rows.{Edge}
+use Rattle.graph.specs.Rows.{row, Edge}
 use Rattle.graph.specs.EdgeCount.{edgeCount}
 use Rattle.breakdown.specs.Breakdown.{Breakdown}
-use Rattle.breakdown.specs.Building.{row}
 use Rattle.breakdown.specs.declared.Breakdown.{Breakdown as Parts}
 
 abbrev pub BreaksDown : ℕ → (ℕ → ℕ → Type 0) → Parts → Type 0

@@ -1,6 +1,5 @@
 -- A breakdown while it is made. The row of positions is a list o of bytes, and s is the set of those that are settled: in the row already.
 --
---     row o                       the row as a function of the place
 --     Settled m o s               the first m of the row are different positions, and those are settled, no others
 --     Fresh f k s                 the first k of f are different positions that are not settled
 --     Extended f k m o o′ s′      the first k of f stand in the row from place m on, and are settled; what came before stands as it stood
@@ -12,13 +11,11 @@ use mathlib.Core.Path.{_≡_}
 use mathlib.Core.List.{List}
 use mathlib.Core.Logic.{_≢_}
 use lib.Count.{ones}
-use lib.ListN.{getD, length}
+use lib.ListN.{length}
 use Rattle.sets.specs.Sets.{Has}
+use Rattle.graph.specs.Rows.{row}
 use Rattle.breakdown.specs.Breakdown.{Among, Handle}
 use Rattle.breakdown.specs.declared.Breakdown.{Breakdown as Parts}
-
-abbrev pub row : List ℕ → ℕ → ℕ
-row o i = getD o i 0
 
 pub record Settled (m : ℕ) (o : List ℕ) (s : ℕ) : Type 0 where
   pub long : length o ≡ 64

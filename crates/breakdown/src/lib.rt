@@ -4,10 +4,10 @@ ghost use mathlib.Core.Path.{_≡_};
 ghost use Prim.Native.Nat.{_+_, _≤_, _<_};
 ghost use Rattle.sets.specs.Sets.{Has};
 ghost use Rattle.graph.specs.Connected.{Except, Below, BiConnected};
-ghost use Rattle.graph.specs.Rows.{Edge, Rows};
+ghost use Rattle.graph.specs.Rows.{row, Edge, Rows};
 ghost use Rattle.graph.specs.Nearest.{Nearest};
 ghost use Rattle.breakdown.specs.Choice.{RingWay, Before, Better, RingChoice, HandleChoice, Size, RingSize};
-ghost use Rattle.breakdown.specs.Building.{row, Settled, Fresh, Extended, BuildingOf};
+ghost use Rattle.breakdown.specs.Building.{Settled, Fresh, Extended, BuildingOf};
 ghost use Rattle.breakdown.specs.Answer.{HandledOf, AnswerOf};
 ghost use Rattle.breakdown.specs.Part.{Places, Part, placeOf};
 

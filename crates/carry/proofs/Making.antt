@@ -1,11 +1,10 @@
 -- The answers of `make`: the order reader's refusal passed up, 27, 28, and the dearest carry with its plan.
 --
 --     carry-refused             a refusal of the order reader is the answer, and the buffer stays
---     rows-right, some-position, few-positions    what an accepted order's rows are
+--     some-position             a floor has a position
 --     carry-apart               27
 --     carry-short               28
---     whole-rows                what is left is connected
---     way-nearest               the search's answer, over positions
+--     Found, way-nearest        the dearest pair, and the search's answer for it
 --     moves-below, places-below, moves-room, part-head, part-back    the moves and the head have room
 --     carry-made                the answer and the buffer, once moves and head are written
 -- Assumes nothing.
@@ -37,17 +36,17 @@ use Rattle.order.specs.Tables.{rowsOf, decodedRows}
 use Rattle.order.proofs.OrderLaws.{right-head}
 use Rattle.motion.specs.Replay.{listed}
 use Rattle.tables.specs.Accepted.{OrderGave}
-use Rattle.tables.proofs.AcceptedLaws.{order-gave}
+use Rattle.tables.proofs.AcceptedLaws.{gave-accepted}
 use Rattle.plan.specs.Plan.{spareBits, planBytes, planRecord}
 use Rattle.plan.proofs.Listing.{length-listing, listing-fits}
 use Rattle.plan.proofs.PlanRecord.{record-parts}
 use Rattle.graph.specs.Connected.{Below, Connected}
-use Rattle.graph.specs.Rows.{Edge, Rows}
+use Rattle.graph.specs.Rows.{row, Edge}
 use Rattle.graph.specs.Nearest.{Nearest}
 use Rattle.graph.proofs.NearestLaws.{nearest-same, nearest-targets, nearest-short}
 use Rattle.floor.specs.FloorAnswer.{Joins, holds}
 use Rattle.floor.proofs.FloorLaws.{holds-yes, holds-no}
-use Rattle.floor.proofs.FloorRows.{edge-joins, joins-edge, filled-is, filled-rows}
+use Rattle.floor.proofs.FloorRows.{filled-rows, filled-joins, joins-filled}
 use Rattle.carry.specs.Carry.{wayFrom, movesAlong, longest, dearestStart, dearestGoal, dearestMoves, carryRecord}
 use Rattle.carry.specs.CarryAnswer.{connected?, notConnected, cannotHold, carryAnswer, bufferAfter}
 use Rattle.carry.specs.Balls.{Dearest}
@@ -85,153 +84,153 @@ module _ (o B : List ℕ) where
       (down ∙ sym up, after-refusal n q up)
 
   -- above an accepted order, with its rows
-  module _ (n e m : ℕ) (a : accepted (n ∷ e ∷ m ∷ []) ≡ orderAnswer o) (g : List ℕ) (filled : g ≡ decodedRows o) where
-    gave : OrderGave o n e m
-    gave = order-gave o n e m a
-
+  module _ {n e m : ℕ} (gave : OrderGave o n e m) {g : List ℕ} (filled : g ≡ decodedRows o) where
     over : carryAnswer o (length B) ≡ tests (length B)
-    over = answer-is ∙ passUp-accepted (orderAnswer o) (tests (length B)) (n ∷ e ∷ m ∷ []) (sym a)
+    over = answer-is ∙ passUp-accepted (orderAnswer o) (tests (length B)) (n ∷ e ∷ m ∷ []) (sym (gave-accepted gave))
 
-    count-is : n ≡ positionCount o
-    unfolding floorOf
-    count-is = gave .positions-are
+    pub carry-apart : (Connected n (Edge g) → ⊥) → (refused 27 0 ≡ carryAnswer o (length B)) × (B ≡ bufferAfter o B)
+    unfolding tests notConnected
+    carry-apart f =
+        let none : holds (connected? F) ≡ false =
+        holds-no (connected? F) (λ w. f (rw (gave .positions-are) (whole-along (joins-filled gave filled) w))) in
+        let up : carryAnswer o (length B) ≡ refused 27 0 = over ∙ rw none refl in
+        (sym up, after-refusal 27 0 up)
 
-    pub rows-right : Rows n g
-    rows-right = filled-rows o n e m gave g filled
+    module _ (whole-rows : Connected n (Edge g)) where
+      whole : Connected (F .positions) (Joins F)
+      whole = rw (gave .positions-are) at (whole-along (filled-joins gave filled) whole-rows)
 
-    pub some-position : 1 ≤ n
-    some-position =
-        let w = gave .right in
-        omega (arith, right-head o (w .length-right) (w .positions-right) .some-position, count-is)
+      left : carryAnswer o (length B)
+          ≡ refuse (ltb (length B) (3 + (18 * (n - 1) + 7) / 8)) 28 0 (accepted (dearestStart F ∷ dearestGoal F ∷ longest F ∷ []))
+      unfolding tests notConnected cannotHold recordLength moveSize
+      left =
+          let size : 6 * (3 * (F .positions - 1)) ≡ 18 * (n - 1) = omega (arith, gave .positions-are) in
+          over ∙ rw (holds-yes (connected? F) whole, size) refl
 
-    pub few-positions : n ≤ 64
-    few-positions = rows-right .small
+      pub carry-short : length B < 3 + (18 * (n - 1) + 7) / 8 → (refused 28 0 ≡ carryAnswer o (length B)) × (B ≡ bufferAfter o B)
+      carry-short h =
+          let up : carryAnswer o (length B) ≡ refused 28 0 = left ∙ rw (lt-ltb (length B) (3 + (18 * (n - 1) + 7) / 8) h) refl in
+          (sym up, after-refusal 28 0 up)
 
-    to : (x y : ℕ) → Edge g x y → Joins F x y
-    to x y h =
-        edge-joins F (gave .placed-well .edges-below) x y (subst (λ (l : List ℕ). Edge l x y) (filled-is o n e m gave g filled) h)
+pub some-position : {o : List ℕ} {n e m : ℕ} → OrderGave o n e m → 1 ≤ n
+unfolding floorOf
+some-position {o} gave =
+    let w = gave .right in
+    omega (arith, right-head o (w .length-right) (w .positions-right) .some-position, gave .positions-are)
 
-    from : (x y : ℕ) → Joins F x y → Edge g x y
-    from x y h =
-        subst (λ (l : List ℕ). Edge l x y) (sym (filled-is o n e m gave g filled)) (joins-edge F (gave .placed-well .edges-below) x y h)
+-- the floor is connected and there is room: the dearest pair, s and d with k moves, and the way between them that the search found
+pub record Found (o B : List ℕ) (n e m : ℕ) (g : List ℕ) (s d k : ℕ) (at : List ℕ) : Type 0 where
+  pub gave : OrderGave o n e m
+  pub filled : g ≡ decodedRows o
+  pub whole : Connected n (Edge g)
+  pub room : 3 + (18 * (n - 1) + 7) / 8 ≤ length B
+  pub dear : Dearest n (Edge g) s d k
+  pub size : ℕ
+  pub way : Nearest (Edge g) (Below n) (λ p. p ≡ d) s size (row at)
 
-    module _ (r : Bool) (t : (r ≡ true) ↔ Connected n (Edge g)) where
-      pub carry-apart : r ≡ false → (refused 27 0 ≡ carryAnswer o (length B)) × (B ≡ bufferAfter o B)
-      unfolding tests notConnected
-      carry-apart f =
-          let none : holds (connected? F) ≡ false =
-          holds-no (connected? F) (λ w. clash (t .1 (rw (gave .positions-are) (whole-along from w)))) in
-          let up : carryAnswer o (length B) ≡ refused 27 0 = over ∙ rw none refl in
-          (sym up, after-refusal 27 0 up)
-        where
-          clash : r ≡ true → ⊥
-          clash h = let z : _≡_ {A = ℕ} 0 1 = ap (λ (b : Bool). cond b 1 0) (sym f ∙ h) in omega arith
+pub way-nearest : (n all target d s size : ℕ) (g at : List ℕ) → ((p : ℕ) → Has all p ↔ (p < n)) → ((p : ℕ) → Has target p ↔ (p ≡ d))
+    → Nearest (Edge g) (Has all) (Has target) s size (row at) → Nearest (Edge g) (Below n) (λ p. p ≡ d) s size (row at)
+way-nearest n all target d s size g at below only found =
+    nearest-targets (λ p. p ≡ d) (λ p. only p .0) (λ p. only p .1)
+    (nearest-same {Q = Below n} (λ p. below p .0) (λ p. below p .1) found)
 
-      module _ (so : r ≡ true) where
-        pub whole-rows : Connected n (Edge g)
-        whole-rows = t .0 so
+module _ {o B : List ℕ} {n e m : ℕ} {g : List ℕ} {s d k : ℕ} {at : List ℕ} (f : Found o B n e m g s d k at) where
+  abbrev gave : OrderGave o n e m
+  gave = f .gave
 
-        whole : Connected (F .positions) (Joins F)
-        whole = rw (gave .positions-are) at (whole-along to whole-rows)
+  joined : Connected (floorOf o .positions) (Joins (floorOf o))
+  joined = whole o B gave (f .filled) (f .whole)
 
-        left : carryAnswer o (length B)
-            ≡ refuse (ltb (length B) (3 + (18 * (n - 1) + 7) / 8)) 28 0 (accepted (dearestStart F ∷ dearestGoal F ∷ longest F ∷ []))
-        unfolding tests notConnected cannotHold recordLength moveSize
-        left =
-            let size : 6 * (3 * (F .positions - 1)) ≡ 18 * (n - 1) = omega (arith, gave .positions-are) in
-            over ∙ rw (holds-yes (connected? F) whole, size) refl
+  few-positions : n ≤ 64
+  few-positions = filled-rows gave (f .filled) .small
 
-        pub carry-short : length B < 3 + (18 * (n - 1) + 7) / 8 → (refused 28 0 ≡ carryAnswer o (length B)) × (B ≡ bufferAfter o B)
-        carry-short h =
-            let up : carryAnswer o (length B) ≡ refused 28 0 = left ∙ rw (lt-ltb (length B) (3 + (18 * (n - 1) + 7) / 8) h) refl in
-            (sym up, after-refusal 28 0 up)
+  to : (x y : ℕ) → Edge g x y → Joins (floorOf o) x y
+  to = filled-joins gave (f .filled)
 
-        -- the dearest pair, and the search's answer for it
-        module _ (room : 3 + (18 * (n - 1) + 7) / 8 ≤ length B) (s d k : ℕ) (dear : Dearest n (Edge g) s d k) where
-          near : Dearest (F .positions) (Joins F) s d k
-          near = rw (gave .positions-are) at (dearest-along to from dear)
+  from : (x y : ℕ) → Joins (floorOf o) x y → Edge g x y
+  from = joins-filled gave (f .filled)
 
-          pairs : (s ≡ dearestStart F) × (d ≡ dearestGoal F) × (k ≡ longest F)
-          pairs =
-              dearest-one near
-              (is-dearest F (omega (arith, some-position, gave .positions-are)) (gave .placed-well .few-positions)
-              (gave .placed-well .edges-right) whole)
+  near : Dearest (floorOf o .positions) (Joins (floorOf o)) s d k
+  near = rw (gave .positions-are) at (dearest-along to from (f .dear))
 
-          module _ (all target size : ℕ) (at : List ℕ) (below : (p : ℕ) → Has all p ↔ (p < n)) (only : (p : ℕ) → Has target p ↔ (p ≡ d))
-              (found : Nearest (Edge g) (Has all) (Has target) s size (λ i. getD at i 0)) where
-            way : Nearest (Edge g) (Below (F .positions)) (λ p. p ≡ d) s (k + 1) (λ i. getD at i 0)
-            way =
-                let r = nearest-targets (λ p. p ≡ d) (λ p. only p .0) (λ p. only p .1)
-                (nearest-same {Q = Below n} (λ p. below p .0) (λ p. below p .1) found) in
-                rw (gave .positions-are) at
-                (subst (λ (j : ℕ). Nearest (Edge g) (Below n) (λ p. p ≡ d) s j (λ i. getD at i 0)) (nearest-size dear r) r)
+  pairs : (s ≡ dearestStart (floorOf o)) × (d ≡ dearestGoal (floorOf o)) × (k ≡ longest (floorOf o))
+  pairs =
+      dearest-one near
+      (is-dearest (floorOf o) (omega (arith, some-position gave, gave .positions-are)) (gave .placed-well .few-positions)
+      (gave .placed-well .edges-right) joined)
 
-            less : k < n
-            less = let short = nearest-short way n (λ p h. omega (arith, h, gave .positions-are)) in omega arith
+  way : Nearest (Edge g) (Below (floorOf o .positions)) (λ p. p ≡ d) s (k + 1) (row at)
+  way =
+      rw (gave .positions-are) at
+      (subst (λ (j : ℕ). Nearest (Edge g) (Below n) (λ p. p ≡ d) s j (row at)) (nearest-size (f .dear) (f .way)) (f .way))
 
-            pub places-below : (k < 64) × ((i : ℕ) → i ≤ k → getD at i 0 < 64)
-            places-below = (
-              omega (arith, less, few-positions),
-              λ i h. omega (arith, inside F to from at s d k way i h, gave .positions-are, few-positions),
-            )
+  less : k < n
+  less = let short = nearest-short way n (λ p h. omega (arith, h, gave .positions-are)) in omega arith
 
-            pub moves-room : (18 * k + 7) / 8 ≤ length (take (length B - 3) (drop 3 B))
-            moves-room = rw (rest-is 3 B, length-drop 3 B) (omega (arith, room, less))
+  pub places-below : (k < 64) × ((i : ℕ) → i ≤ k → getD at i 0 < 64)
+  places-below = (
+    omega (arith, less, few-positions),
+    λ i h. omega (arith, inside (floorOf o) to from at s d k way i h, gave .positions-are, few-positions),
+  )
 
-            pub part-head : 3 ≤ length B
-            part-head = omega (arith, room)
+  pub moves-room : (18 * k + 7) / 8 ≤ length (take (length B - 3) (drop 3 B))
+  moves-room = rw (rest-is 3 B, length-drop 3 B) (omega (arith, f .room, less))
 
-            -- the buffer when its part behind the head has come back
-            pub part-back : (y : List ℕ) → (3 ≤ length (take 3 B ++ y)) × (k < 2 ^ 22) × (1 < 4)
-            part-back y = (
-              omega (arith, length-append (take 3 B) y, length-take-le 3 B part-head),
-              omega (arith, places-below .0),
-              omega arith,
-            )
+  pub part-head : 3 ≤ length B
+  part-head = omega (arith, f .room)
 
-            abbrev moves : List ℕ
-            moves = packPositions (allUnits true (taken at 0 k))
+  -- the buffer when its part behind the head has come back
+  pub part-back : (y : List ℕ) → (3 ≤ length (take 3 B ++ y)) × (k < 2 ^ 22) × (1 < 4)
+  part-back y = (
+    omega (arith, length-append (take 3 B) y, length-take-le 3 B part-head),
+    omega (arith, places-below .0),
+    omega arith,
+  )
 
-            listed-are : taken at 0 k ≡ listed true (dearestStart F ∷ []) (dearestMoves F)
-            unfolding dearestMoves
-            listed-are = way-taken F to from at s d k way ∙ rw (pairs .0, pairs .1, pairs .2) refl
+  abbrev moves : List ℕ
+  moves = packPositions (allUnits true (taken at 0 k))
 
-            many : length (taken at 0 k) ≡ k
-            unfolding dearestMoves
-            many =
-                ap length listed-are ∙ length-listing true (dearestStart F ∷ []) (dearestMoves F)
-                ∙ way-count F (longest F) (dearestStart F) (dearestGoal F) ∙ sym (pairs .2)
+  listed-are : taken at 0 k ≡ listed true (dearestStart (floorOf o) ∷ []) (dearestMoves (floorOf o))
+  unfolding dearestMoves
+  listed-are = way-taken (floorOf o) to from at s d k way ∙ rw (pairs .0, pairs .1, pairs .2) refl
 
-            size-is : length moves ≡ (18 * k + 7) / 8
-            unfolding moveSize
-            size-is =
-                let six : 6 * (3 * k) ≡ 18 * k = omega arith in
-                length-packed (allUnits true (taken at 0 k))
-                ∙ ap (λ (q : ℕ). (6 * q + 7) / 8) (length-units true (taken at 0 k) ∙ ap (λ (q : ℕ). 3 * q) many)
-                ∙ ap (λ (q : ℕ). (q + 7) / 8) six
+  many : length (taken at 0 k) ≡ k
+  unfolding dearestMoves
+  many =
+      ap length listed-are ∙ length-listing true (dearestStart (floorOf o) ∷ []) (dearestMoves (floorOf o))
+      ∙ way-count (floorOf o) (longest (floorOf o)) (dearestStart (floorOf o)) (dearestGoal (floorOf o)) ∙ sym (pairs .2)
 
-            parts : carryRecord F ≡ headBytes k 1 ++ moves
-            unfolding carryRecord planRecord spareBits
-            parts =
-                let w = gave .placed-well in
-                let plan = dearest-plan F (omega (arith, some-position, gave .positions-are)) (w .few-positions) (w .edges-right) whole in
-                let fits = listing-fits true F (w .few-positions) (omega arith) plan in
-                let all = listed true (dearestStart F ∷ []) (dearestMoves F) in
-                let count : length all ≡ k = ap length (sym listed-are) ∙ many in
-                record-parts true all (omega (arith, count, places-below .0)) fits
-                ∙ rw (count, listed-are) refl
+  size-is : length moves ≡ (18 * k + 7) / 8
+  unfolding moveSize
+  size-is =
+      let six : 6 * (3 * k) ≡ 18 * k = omega arith in
+      length-packed (allUnits true (taken at 0 k))
+      ∙ ap (λ (q : ℕ). (6 * q + 7) / 8) (length-units true (taken at 0 k) ∙ ap (λ (q : ℕ). 3 * q) many)
+      ∙ ap (λ (q : ℕ). (q + 7) / 8) six
 
-            pub carry-made : (t : List ℕ) → t ≡ written (take (length B - 3) (drop 3 B)) 0 moves → (b : List ℕ)
-                → b ≡ written (take 3 B ++ (t ++ drop (length B - 3) (drop 3 B))) 0 (headBytes k 1)
-                → (accepted (s ∷ d ∷ k ∷ []) ≡ carryAnswer o (length B)) × (b ≡ bufferAfter o B)
-            unfolding bufferAfter
-            carry-made t et b eb =
-                let same : accepted (dearestStart F ∷ dearestGoal F ∷ longest F ∷ []) ≡ accepted (s ∷ d ∷ k ∷ []) =
-                rw (← pairs .0, ← pairs .1, ← pairs .2) refl in
-                let up : carryAnswer o (length B) ≡ accepted (s ∷ d ∷ k ∷ []) =
-                left ∙ rw (le-ltb (length B) (3 + (18 * (n - 1) + 7) / 8) room) same in
-                let fits : 3 + length moves ≤ length B = omega (arith, size-is, less, room) in (
-                  sym up,
-                  eb ∙ record-written B (headBytes k 1) moves t (length-headBytes k 1) fits et ∙ ap (written B 0) (sym parts)
-                      ∙ sym (ap (λ (x : Answer). leftBy x (carryRecord F) B) up),
-                )
+  parts : carryRecord (floorOf o) ≡ headBytes k 1 ++ moves
+  unfolding carryRecord planRecord spareBits
+  parts =
+      let w = gave .placed-well in
+      let plan = dearest-plan (floorOf o) (omega (arith, some-position gave, gave .positions-are)) (w .few-positions) (w .edges-right)
+      joined in
+      let fits = listing-fits true (floorOf o) (w .few-positions) (omega arith) plan in
+      let all = listed true (dearestStart (floorOf o) ∷ []) (dearestMoves (floorOf o)) in
+      let count : length all ≡ k = ap length (sym listed-are) ∙ many in
+      record-parts true all (omega (arith, count, places-below .0)) fits
+      ∙ rw (count, listed-are) refl
+
+  pub carry-made : {t : List ℕ} → t ≡ written (take (length B - 3) (drop 3 B)) 0 moves → {b : List ℕ}
+      → b ≡ written (take 3 B ++ (t ++ drop (length B - 3) (drop 3 B))) 0 (headBytes k 1)
+      → (accepted (s ∷ d ∷ k ∷ []) ≡ carryAnswer o (length B)) × (b ≡ bufferAfter o B)
+  unfolding bufferAfter
+  carry-made {t} et eb =
+      let same : accepted (dearestStart (floorOf o) ∷ dearestGoal (floorOf o) ∷ longest (floorOf o) ∷ []) ≡ accepted (s ∷ d ∷ k ∷ []) =
+      rw (← pairs .0, ← pairs .1, ← pairs .2) refl in
+      let up : carryAnswer o (length B) ≡ accepted (s ∷ d ∷ k ∷ []) =
+      left o B gave (f .filled) (f .whole) ∙ rw (le-ltb (length B) (3 + (18 * (n - 1) + 7) / 8) (f .room)) same in
+      let fits : 3 + length moves ≤ length B = omega (arith, size-is, less, f .room) in (
+        sym up,
+        eb ∙ record-written B (headBytes k 1) moves t (length-headBytes k 1) fits et ∙ ap (written B 0) (sym parts)
+            ∙ sym (ap (λ (x : Answer). leftBy x (carryRecord (floorOf o)) B) up),
+      )

@@ -14,9 +14,9 @@ use native.Mathlib.Decide.{ℕ-discrete}
 use native.Mathlib.Omega.{arith}
 use lib.ListN.{getD, set, length, length-set}
 use lib.Seq.{getD-set-same, getD-set-other}
-use Rattle.graph.specs.Rows.{Edge}
+use Rattle.graph.specs.Rows.{row, Edge}
 use Rattle.ring.specs.Circle.{Circle, next}
-use Rattle.ring.specs.Standing.{row, OnCircle}
+use Rattle.ring.specs.Standing.{OnCircle}
 use Rattle.ring.proofs.CircleLaws.{next-below, circle-next}
 use Rattle.shunting.specs.declared.State.{State}
 use Rattle.shunting.specs.Journey.{unlogged, Space, Moved, Trip}

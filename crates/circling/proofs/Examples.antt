@@ -9,7 +9,7 @@ use mathlib.Core.Path.{_≡_, refl, ap}
 use mathlib.Core.List.{List, [], _∷_}
 use mathlib.Core.Logic.{_≢_, ⊎-elim}
 use native.Mathlib.Omega.{arith}
-use Rattle.ring.specs.Standing.{row}
+use Rattle.graph.specs.Rows.{row}
 use Rattle.ring.proofs.Examples.{oneRack, circle-met}
 use Rattle.circling.specs.Drive.{Driveable}
 use Rattle.circling.specs.Needs.{Aimed, RoundAlike}

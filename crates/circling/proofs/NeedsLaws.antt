@@ -14,7 +14,7 @@ use native.Mathlib.Omega.{arith}
 use lib.ListN.{getD, set, length, length-set, replicate}
 use lib.Seq.{getD-set-same, getD-set-other}
 use Rattle.ring.specs.Order.{Rack, Places, distance}
-use Rattle.ring.specs.Standing.{row}
+use Rattle.graph.specs.Rows.{row}
 use Rattle.ring.proofs.OrderLaws.{first, ahead-below}
 use Rattle.circling.specs.Lands.{total}
 use Rattle.circling.specs.Needs.{reach, Aimed, Needs}

@@ -19,7 +19,8 @@ use Rattle.sets.proofs.CountLaws.{pigeonhole}
 use Rattle.graph.specs.Walk.{Symmetric}
 use Rattle.ring.specs.Circle.{Circle, next}
 use Rattle.ring.specs.Order.{Rack, Places, ahead, distance, SameOrder}
-use Rattle.ring.specs.Standing.{row, OnCircle, StandAt}
+use Rattle.graph.specs.Rows.{row}
+use Rattle.ring.specs.Standing.{OnCircle, StandAt}
 use Rattle.ring.proofs.CircleLaws.{place?, next-is, circle-one, circle-next}
 use Rattle.ring.proofs.OrderLaws.{first, ahead-is, ahead-below, order-kept}
 use Rattle.ring.proofs.StandingLaws.{stand-one}

@@ -15,7 +15,8 @@ use mathlib.Core.Path.{_≡_}
 use mathlib.Core.List.{List}
 use lib.ListN.{length}
 use Rattle.ring.specs.Order.{Rack, distance, SameOrder}
-use Rattle.ring.specs.Standing.{row, StandAt}
+use Rattle.graph.specs.Rows.{row}
+use Rattle.ring.specs.Standing.{StandAt}
 use Rattle.circling.specs.Lands.{Lands, total}
 
 abbrev pub reach : ℕ → ℕ → (ℕ → ℕ) → ℕ → ℕ

@@ -1,7 +1,5 @@
--- How large the numbers of the answers are, for every input: they fit the fields of the C interface.
+-- How large the numbers of the answers are, for every input: they fit the fields of the C interface, as `Sized` of `packing` says.
 --
---     Sized Fits a        the answer a is accepted with counts that fit, or refused with a number from 1 to 255 at a place below 2³²
---     NoCounts, OneCount, StepsMoves, OffsetLength, StartGoalMoves    the counts that fit, by function
 --     refuse-sized, passUp-sized, judged-sized        an answer made of sized answers is sized
 --     misplaced-small, Stopping                       a misplaced rack and the place where a replay stops are at most one above the list
 --     order-sized, floor-sized, expand-sized, planner-sized, made-sized, plan-sized, timetable-sized, maker-sized, shortener-sized,
@@ -59,29 +57,8 @@ use Rattle.scheduling.specs.Maker.{makerAnswer}
 use Rattle.scheduling.proofs.SizeLaws.{steps-small}
 use Rattle.carry.specs.CarryAnswer.{notConnected, cannotHold, carryAnswer}
 use Rattle.carry.proofs.Theorems.{carry-small}
-
-pub data Sized (Fits : List ℕ → Type 0) : Answer → Type 0 where
-  accepts : {v : List ℕ} → Fits v → Sized Fits (accepted v)
-  refuses : {number place : ℕ} → 0 < number → number < 256 → place < 2 ^ 32 → Sized Fits (refused number place)
-
-pub data NoCounts : List ℕ → Type 0 where
-  no-counts : NoCounts []
-
-pub data OneCount : List ℕ → Type 0 where
-  one-count : {k : ℕ} → k < 2 ^ 22 → OneCount (k ∷ [])
-
--- the steps on a live floor, whoever wrote it
-pub data WordCount : List ℕ → Type 0 where
-  word-count : {k : ℕ} → k < 2 ^ 32 → WordCount (k ∷ [])
-
-pub data StepsMoves : List ℕ → Type 0 where
-  steps-moves : {steps moves : ℕ} → steps < 2 ^ 22 → moves < 2 ^ 30 → StepsMoves (steps ∷ moves ∷ [])
-
-pub data OffsetLength : List ℕ → Type 0 where
-  offset-length : {at n : ℕ} → at < 2 ^ 31 → n ≤ 384 → OffsetLength (at ∷ n ∷ [])
-
-pub data StartGoalMoves : List ℕ → Type 0 where
-  start-goal-moves : {s g k : ℕ} → s < 64 → g < 64 → k < 64 → StartGoalMoves (s ∷ g ∷ k ∷ [])
+use Rattle.packing.proofs.Sized.{Sized, accepts, refuses, NoCounts, no-counts, OneCount, one-count, StepsMoves, steps-moves}
+use Rattle.packing.proofs.Sized.{OffsetLength, offset-length, StartGoalMoves, start-goal-moves}
 
 -- whatever the counts are
 abbrev Any : List ℕ → Type 0

@@ -54,8 +54,8 @@ use denote.Exit.{yes}
 use Rattle.live.specs.Roles.{Kind, roleOf}
 use Rattle.live.specs.Calls.{callAnswer, pictureAfter}
 use Rattle.live.specs.declared.Floor.{Floor}
-use Rattle.controller.specs.Packed.{oneCount}
-use Rattle.controller.specs.Unpacked.{floorStepsOf, Tells}
+use Rattle.packing.specs.Packed.{oneCount}
+use Rattle.packing.specs.Unpacked.{floorStepsOf, Tells}
 use Rattle.controller.specs.declared.Called.{Called}
 use Rattle.live.proofs.Floor as T
 use Rattle.live.proofs.Floor.Laws as T′

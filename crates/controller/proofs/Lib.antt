@@ -1,3 +1,3 @@
 pub mod AnswerSizes
 pub mod LentFloor
-pub mod PackedLaws
+pub mod LiveCalls

@@ -2,7 +2,6 @@
 // returns one number; none changes a byte that it was lent to read, and a refusal changes no byte at all. The number is an answer, packed,
 // or a length. The season report is five numbers more, in an array that the caller lends. The last four functions take the live floor's
 // picture, a struct that the caller holds: each copies it out, calls a function on the copy and stores what that left, without a branch.
-use answers::Fault;
 use carry::CarryVerdict;
 use converting::ConverterVerdict;
 use floor::FloorVerdict;
@@ -24,7 +23,7 @@ use timetable::TimetableVerdict;
 ghost use mathlib.Core.Path.{_≡_};
 ghost use mathlib.Core.List.{_∷_};
 ghost use lib.ListN.{length};
-ghost use Rattle.answers.specs.Answer.{Answer, refusedBy};
+ghost use Rattle.answers.specs.Answer.{Answer};
 ghost use Rattle.order.specs.Order.{orderAnswer};
 ghost use Rattle.order.specs.RecordLength.{wholeOrderLength};
 ghost use Rattle.floor.specs.FloorAnswer.{floorAnswer};
@@ -41,17 +40,10 @@ ghost use Rattle.timetable.specs.Timetable.{timetableAnswer, stepAnswer};
 ghost use Rattle.timetable.specs.RecordLength.{wholeTimetableLength};
 ghost use Rattle.live.specs.Roles.{roleOf, opening, reading, running, takingBack};
 ghost use Rattle.live.specs.Calls.{callAnswer, byAnswer, pictureAfter, answerOf as liveAnswerOf};
-ghost use Rattle.controller.specs.Packed.{packed, nothing, oneCount, stepsAndMoves, lengthAndOffset, startGoalMoves};
+ghost use Rattle.packing.specs.Packed.{nothing, oneCount, stepsAndMoves, lengthAndOffset, startGoalMoves};
 ghost use Rattle.controller.specs.Report.{numbers, orNone, reportAfter};
-ghost use Rattle.controller.specs.Unpacked.{Tells, uncounted, nothingOf, planMovesOf, madeStepsOf, stepsAndMovesOf};
-ghost use Rattle.controller.specs.Unpacked.{offsetAndLengthOf, recordLengthOf, judgementOf, floorStepsOf, startGoalMovesOf};
-
-// A refusal as one number.
-fn refusal(fault: Fault, place: u32) -> u64
-    ensures { λ r. ⌜ r ≡ packed nothing (refusedBy fault place) ⌝ }
-{
-    answers::number(fault) + (place as u64) * 256
-}
+ghost use Rattle.packing.specs.Unpacked.{Tells, uncounted, nothingOf, planMovesOf, madeStepsOf, stepsAndMovesOf};
+ghost use Rattle.packing.specs.Unpacked.{offsetAndLengthOf, recordLengthOf, judgementOf, floorStepsOf, startGoalMovesOf};
 
 // Judges an order by 10 to 14.
 #[no_mangle]
@@ -60,7 +52,7 @@ pub extern "C" fn wichteab_order_check(order: &[u8]) -> u64
 {
     match order::read(order) {
         OrderVerdict::Accepted(_) => 0,
-        OrderVerdict::Refused(fault, place) => refusal(fault, place),
+        OrderVerdict::Refused(fault, place) => packing::refusal(fault, place),
     }
 }
 
@@ -71,7 +63,7 @@ pub extern "C" fn wichteab_floor_check(order: &[u8]) -> u64
 {
     match floor::check(order) {
         FloorVerdict::Accepted(_) => 0,
-        FloorVerdict::Refused(fault, place) => refusal(fault, place),
+        FloorVerdict::Refused(fault, place) => packing::refusal(fault, place),
     }
 }
 
@@ -83,8 +75,8 @@ pub extern "C" fn wichteab_order_expand(short: &[u8], buffer: &mut [u8]) -> u64
     ensures { λ _. ⌜ now (buffer .exit) ≡ orderBufferAfter (now (short .entry)) (now (buffer .entry)) ⌝ }
 {
     match models::expand(short, buffer) {
-        ExpandVerdict::Accepted(length) => (length as u64) * 256,
-        ExpandVerdict::Refused(fault, place) => refusal(fault, place),
+        ExpandVerdict::Accepted(length) => packing::one_count(length),
+        ExpandVerdict::Refused(fault, place) => packing::refusal(fault, place),
     }
 }
 
@@ -97,7 +89,7 @@ pub extern "C" fn wichteab_one_vacancy(order: &[u8]) -> u64
     match parity::one_vacancy(order) {
         VacancyVerdict::Impossible => 256,
         VacancyVerdict::NotJudged => 0,
-        VacancyVerdict::Refused(fault, place) => refusal(fault, place),
+        VacancyVerdict::Refused(fault, place) => packing::refusal(fault, place),
     }
 }
 
@@ -109,8 +101,8 @@ pub extern "C" fn wichteab_plan_make(order: &[u8], buffer: &mut [u8]) -> u64
         × PlanMade (now (order .entry)) (now (buffer .entry)) a (now (buffer .exit))) ⌝ }
 {
     match choosing::make(order, buffer) {
-        PlannerVerdict::Planned(moves) => (moves as u64) * 256,
-        PlannerVerdict::Refused(fault, place) => refusal(fault, place),
+        PlannerVerdict::Planned(moves) => packing::one_count(moves),
+        PlannerVerdict::Refused(fault, place) => packing::refusal(fault, place),
     }
 }
 
@@ -120,8 +112,8 @@ pub extern "C" fn wichteab_plan_check(order: &[u8], plan: &[u8]) -> u64
     ensures { λ r. ⌜ Tells oneCount planMovesOf (planAnswer (now (order .entry)) (now (plan .entry))) r ⌝ }
 {
     match plan::check(order, plan) {
-        PlanVerdict::Accepted(moves) => (moves as u64) * 256,
-        PlanVerdict::Refused(fault, place) => refusal(fault, place),
+        PlanVerdict::Accepted(moves) => packing::one_count(moves),
+        PlanVerdict::Refused(fault, place) => packing::refusal(fault, place),
     }
 }
 
@@ -134,8 +126,8 @@ pub extern "C" fn wichteab_plan_shorten(order: &[u8], plan: &[u8], buffer: &mut 
     ensures { λ _. ⌜ now (buffer .exit) ≡ planBufferAfter (now (order .entry)) (now (plan .entry)) (now (buffer .entry)) ⌝ }
 {
     match shortening::shorten(order, plan, buffer) {
-        ShortenerVerdict::Accepted(moves) => (moves as u64) * 256,
-        ShortenerVerdict::Refused(fault, place) => refusal(fault, place),
+        ShortenerVerdict::Accepted(moves) => packing::one_count(moves),
+        ShortenerVerdict::Refused(fault, place) => packing::refusal(fault, place),
     }
 }
 
@@ -148,8 +140,8 @@ pub extern "C" fn wichteab_plan_convert(order: &[u8], plan: &[u8], buffer: &mut 
     ensures { λ _. ⌜ now (buffer .exit) ≡ convertedBufferAfter (now (order .entry)) (now (plan .entry)) (now (buffer .entry)) ⌝ }
 {
     match converting::convert(order, plan, buffer) {
-        ConverterVerdict::Accepted(moves) => (moves as u64) * 256,
-        ConverterVerdict::Refused(fault, place) => refusal(fault, place),
+        ConverterVerdict::Accepted(moves) => packing::one_count(moves),
+        ConverterVerdict::Refused(fault, place) => packing::refusal(fault, place),
     }
 }
 
@@ -161,11 +153,10 @@ pub extern "C" fn wichteab_dearest_carry(order: &[u8], buffer: &mut [u8]) -> u64
     ensures { λ _. ⌜ now (buffer .exit) ≡ carryBufferAfter (now (order .entry)) (now (buffer .entry)) ⌝ }
 {
     match carry::make(order, buffer) {
-        CarryVerdict::Found(carry) => ((carry.start as u64)
-            + (carry.goal as u64) * 256
-            + (carry.moves as u64) * 65536)
-            * 256,
-        CarryVerdict::Refused(fault, place) => refusal(fault, place),
+        CarryVerdict::Found(carry) => {
+            packing::start_goal_moves(carry.start, carry.goal, carry.moves)
+        }
+        CarryVerdict::Refused(fault, place) => packing::refusal(fault, place),
     }
 }
 
@@ -175,9 +166,8 @@ pub extern "C" fn wichteab_timetable_check(order: &[u8], timetable: &[u8]) -> u6
     ensures { λ r. ⌜ Tells stepsAndMoves stepsAndMovesOf (timetableAnswer (now (order .entry)) (now (timetable .entry))) r ⌝ }
 {
     match timetable::check(order, timetable) {
-        TimetableVerdict::Accepted { steps, moves } => ((steps as u64) + (moves as u64) * 4194304)
-            * 256,
-        TimetableVerdict::Refused(fault, place) => refusal(fault, place),
+        TimetableVerdict::Accepted { steps, moves } => packing::steps_and_moves(steps, moves),
+        TimetableVerdict::Refused(fault, place) => packing::refusal(fault, place),
     }
 }
 
@@ -189,8 +179,8 @@ pub extern "C" fn wichteab_timetable_make(order: &[u8], plan: &[u8], buffer: &mu
     ensures { λ _. ⌜ now (buffer .exit) ≡ bufferAfter (now (order .entry)) (now (plan .entry)) (now (buffer .entry)) ⌝ }
 {
     match scheduling::make(order, plan, buffer) {
-        MakerVerdict::Accepted(steps) => (steps as u64) * 256,
-        MakerVerdict::Refused(fault, place) => refusal(fault, place),
+        MakerVerdict::Accepted(steps) => packing::one_count(steps),
+        MakerVerdict::Refused(fault, place) => packing::refusal(fault, place),
     }
 }
 
@@ -200,8 +190,8 @@ pub extern "C" fn wichteab_timetable_step(timetable: &[u8], number: u64) -> u64
     ensures { λ r. ⌜ Tells lengthAndOffset offsetAndLengthOf (stepAnswer (now (timetable .entry)) number) r ⌝ }
 {
     match timetable::find_step(timetable, number as usize) {
-        StepVerdict::Found { offset, len } => ((len as u64) + (offset as u64) * 65536) * 256,
-        StepVerdict::Refused(fault, place) => refusal(fault, place),
+        StepVerdict::Found { offset, len } => packing::length_and_offset(offset, len),
+        StepVerdict::Refused(fault, place) => packing::refusal(fault, place),
     }
 }
 
@@ -233,7 +223,7 @@ pub extern "C" fn wichteab_season_report(bytes: &[u8], report: &mut [u64; 5]) ->
 {
     match season::report(bytes) {
         SeasonVerdict::Report(totals, parallelism) => put_report(totals, parallelism, report),
-        SeasonVerdict::Refused(fault, place) => refusal(fault, place),
+        SeasonVerdict::Refused(fault, place) => packing::refusal(fault, place),
     }
 }
 
@@ -265,8 +255,8 @@ fn live_number(verdict: LiveVerdict) -> u64
     ensures { λ r. ⌜ Tells oneCount floorStepsOf (liveAnswerOf verdict) r ⌝ }
 {
     match verdict {
-        LiveVerdict::Accepted(steps) => (steps as u64) * 256,
-        LiveVerdict::Refused(fault, place) => refusal(fault, place),
+        LiveVerdict::Accepted(steps) => packing::one_count(steps as usize),
+        LiveVerdict::Refused(fault, place) => packing::refusal(fault, place),
     }
 }
 

@@ -10,6 +10,8 @@
 --     joined-other                       an edge joins two different positions
 --     floor-rows                         the rows of a floor that 13 passes are what crates/graph asks for
 --     filled-is, filled-rows             what an accepted order is decoded to are those rows
+--     filled-joins, joins-filled, filled-onFloor, filled-biConnected    so they have the floor's edges
+--     filled-starts, filled-goals        and its tables of racks hold its starts and its goals
 -- Assumes nothing.
 use Prim.Native.Nat.{ℕ, _^_, _≤_, _<_}
 use mathlib.Core.Path.{_≡_, sym, ap, subst, _∙_}
@@ -24,13 +26,15 @@ use lib.Seq.{getD-set-same, getD-set-other}
 use Rattle.field.specs.Bytes.{BelowPairs, none₂, more₂}
 use Rattle.field.proofs.UnitLaws.{or-left}
 use Rattle.order.specs.Floor.{Floor, some, isPair, joined}
-use Rattle.order.specs.Order.{floorOf, badEdge, ascending, wrongEdges}
+use Rattle.order.specs.Order.{floorOf, startsOf, goalsOf, badEdge, ascending, wrongEdges}
 use Rattle.order.proofs.EdgeLaws.{good-edge}
-use Rattle.order.proofs.TablesLaws.{decoded-rows}
+use Rattle.order.proofs.TablesLaws.{decoded-rows, decoded-starts, decoded-goals}
 use Rattle.motion.proofs.Test.{and-parts, or-parts, eqb-parts, equal?}
 use Rattle.tables.proofs.TableLaws.{passed, zeros-at}
 use Rattle.tables.specs.Accepted.{OrderGave}
 use Rattle.tables.proofs.MatrixLaws.{joined-below}
+use Rattle.tables.proofs.TablesLaws.{Holds}
+use Rattle.tables.proofs.TableLaws.{placed-holds}
 use Rattle.sets.specs.Sets.{Has}
 use Rattle.sets.proofs.SetLaws.{has-none, has-or, has-only}
 use Rattle.graph.specs.Walk.{Walk, Way}
@@ -38,7 +42,7 @@ use Rattle.graph.specs.Walk.Walk.{alone, step}
 use Rattle.graph.specs.Connected.{BiConnected}
 use Rattle.graph.specs.Rows.{Edge, Rows}
 use Rattle.floor.specs.FloorAnswer.{Joins}
-use Rattle.order.specs.Tables.{joining, joinedRows, rowsOf, decodedRows}
+use Rattle.order.specs.Tables.{joining, joinedRows, rowsOf, racksAt, decodedRows, decodedStarts, decodedGoals}
 
 module _ {E D : ℕ → ℕ → Type 0} (more : (a b : ℕ) → E a b → D a b) where
   pub walk-along : {P : ℕ → Type 0} {a b k : ℕ} → Walk E P a b k → Walk D P a b k
@@ -155,7 +159,7 @@ module _ (F : Floor) (small : BelowPairs 64 (F .edges)) where
           other = λ a b h e. joined-other a (subst (λ (p : ℕ). T (joined F a p)) (sym e) (edge-joins a b h));
         }
 
-module _ (o : List ℕ) (n e m : ℕ) (gave : OrderGave o n e m) (g : List ℕ) (filled : g ≡ decodedRows o) where
+module _ {o : List ℕ} {n e m : ℕ} (gave : OrderGave o n e m) {g : List ℕ} (filled : g ≡ decodedRows o) where
   pub filled-is : g ≡ rowsOf (floorOf o)
   filled-is = filled ∙ decoded-rows o (gave .right)
 
@@ -163,3 +167,35 @@ module _ (o : List ℕ) (n e m : ℕ) (gave : OrderGave o n e m) (g : List ℕ) 
   filled-rows =
       let p = gave .placed-well in
       rw (gave .positions-are, filled-is) (floor-rows (floorOf o) (p .edges-below) (p .few-positions) (p .edges-right))
+
+  pub filled-joins : (a b : ℕ) → Edge g a b → Joins (floorOf o) a b
+  filled-joins a b h =
+      edge-joins (floorOf o) (gave .placed-well .edges-below) a b (subst (λ (r : List ℕ). Edge r a b) filled-is h)
+
+  pub joins-filled : (a b : ℕ) → Joins (floorOf o) a b → Edge g a b
+  joins-filled a b h =
+      subst (λ (r : List ℕ). Edge r a b) (sym filled-is) (joins-edge (floorOf o) (gave .placed-well .edges-below) a b h)
+
+  pub filled-onFloor : (a b : ℕ) → Edge g a b → (a < floorOf o .positions) × (b < floorOf o .positions) × T (joined (floorOf o) a b)
+  filled-onFloor a b h =
+      let l = filled-rows .inside a b h in
+      let p = gave .positions-are in
+      (omega arith, omega arith, filled-joins a b h)
+
+  pub filled-biConnected : BiConnected n (Edge g) ↔ BiConnected (floorOf o .positions) (Joins (floorOf o))
+  filled-biConnected = rw (gave .positions-are, filled-is) (biConnected-rows (floorOf o) (gave .placed-well .edges-below))
+
+module _ {o : List ℕ} {n e m : ℕ} (gave : OrderGave o n e m) {h : List ℕ} where
+  pub filled-starts : h ≡ decodedStarts o → Holds (startsOf o) h
+  unfolding racksAt
+  filled-starts is =
+      let w = gave .placed-well in
+      subst (Holds (startsOf o)) (sym (is ∙ decoded-starts o (gave .right)))
+      (placed-holds (floorOf o .positions) (startsOf o) (w .few-positions) (w .starts-sound))
+
+  pub filled-goals : h ≡ decodedGoals o → Holds (goalsOf o) h
+  unfolding racksAt
+  filled-goals is =
+      let w = gave .placed-well in
+      subst (Holds (goalsOf o)) (sym (is ∙ decoded-goals o (gave .right)))
+      (placed-holds (floorOf o .positions) (goalsOf o) (w .few-positions) (w .goals-sound))

@@ -1,12 +1,12 @@
 -- The floor judge's layers: its answer from the order reader's acceptance and its own tests.
 --
 --     order-refused     a refusal of the order reader is the answer
---     gave              what an accepted order tells
+--     RingFloor o, Order o    the floor of o is a ring; the racks have one order round it
 --     crowded           20 off rings
 --     ring-full, ring-other, ring-plain    on a ring 20, 24, and acceptance
 --     counts-are, handed    the counts that an acceptance hands on
 --     refused-too, order-handed    a refusal hands on no counts
---     rows-right, rows-counted, rings, ring-tables    the rows that the order's edges fill are those of its floor
+--     rows-counted, rings, ring-tables    the rows that the order's edges fill are those of its floor
 --     apart, many-sided, plain    off rings 21, 26, and acceptance, from what the search of the rows says
 -- Assumes nothing.
 use Prim.Native.Nat.{ℕ, _+_, _≤_, _<_}
@@ -19,19 +19,19 @@ use borrow.Author.Tests.{lt-ltb, le-ltb}
 use lib.ListN.{length}
 use lib.Dec.{ltb}
 use Rattle.answers.specs.Answer.{Answer, accepted, refused, passUp}
-use Rattle.answers.proofs.AnswerLaws.{passUp-refused}
 use Rattle.field.proofs.RecordLaws.{length-pairs}
 use Rattle.order.specs.Order.{positionCount, edgeCount, rackCount, floorOf, startsOf, goalsOf, counts, orderAnswer}
 use Rattle.tables.specs.Accepted.{OrderGave}
-use Rattle.tables.proofs.AcceptedLaws.{order-gave}
+use Rattle.tables.proofs.AcceptedLaws.{gave-accepted}
+use Rattle.tables.proofs.Layers.{handed-up}
 use Rattle.graph.specs.Connected.{BiConnected, Ring}
 use Rattle.graph.specs.EdgeCount.{edgeCount as edgesIn, FourSided as FourInRows}
-use Rattle.graph.specs.Rows.{Edge, Rows}
+use Rattle.graph.specs.Rows.{Edge}
 use Rattle.floor.specs.FloorAnswer.{Joins, SameRound, biConnected?, disordered?, vacanciesOwed, holds, floorAnswer}
 use Rattle.order.specs.Tables.{rowsOf, decodedRows, decodedStarts, decodedGoals}
 use Rattle.floor.specs.RingTables.{RingTables}
 use Rattle.floor.specs.Sides.{FourSided, fourSided?}
-use Rattle.floor.proofs.FloorRows.{biConnected-rows, filled-is, filled-rows}
+use Rattle.floor.proofs.FloorRows.{filled-is, filled-biConnected}
 use Rattle.floor.proofs.FloorLaws.{holds-yes, holds-no, floorRefusals, floor-over, owed-on, owed-off}
 use Rattle.floor.proofs.EdgesCounted.{edges-counted, ring-rows}
 use Rattle.floor.proofs.SidesLaws.{sides-rows, ring-sides}
@@ -47,11 +47,7 @@ positions-are o = refl
 pub order-refused : (o : List ℕ) (below r : Answer) (number place : ℕ) → below ≡ orderAnswer o → below ≡ refused number place
     → r ≡ passUp below (accepted []) → r ≡ floorAnswer o
 unfolding floorAnswer
-order-refused o below r number place is f e =
-    e
-    ∙ sym (passUp-refused below (accepted []) number place f)
-    ∙ passUp-refused below (floorRefusals o) number place f
-    ∙ ap (λ (b : Answer). passUp b (floorRefusals o)) is
+order-refused o below r number place = handed-up (accepted []) (floorRefusals o)
 
 -- a refusal hands on no counts
 pub refused-too : (o : List ℕ) (number place : ℕ) → refused number place ≡ floorAnswer o
@@ -64,12 +60,15 @@ order-handed o below r h number place is up same f =
     let down : refused number place ≡ floorAnswer o = sym (up ∙ ap (λ (b : Answer). passUp b (accepted [])) f) ∙ is in
     same ∙ f ∙ refused-too o number place down
 
-module _ (o : List ℕ) (n e m : ℕ) (a : accepted (n ∷ e ∷ m ∷ []) ≡ orderAnswer o) where
-  pub gave : OrderGave o n e m
-  gave = order-gave o n e m a
+abbrev pub RingFloor : List ℕ → Type 0
+RingFloor o = Ring (floorOf o .positions) (Joins (floorOf o)) (length (floorOf o .edges))
 
+abbrev pub Order : List ℕ → Type 0
+Order o = SameRound (floorOf o) (rackCount o) (startsOf o) (goalsOf o)
+
+module _ {o : List ℕ} {n e m : ℕ} (gave : OrderGave o n e m) where
   over : floorAnswer o ≡ floorRefusals o
-  over = floor-over o (n ∷ e ∷ m ∷ []) (sym a)
+  over = floor-over o (n ∷ e ∷ m ∷ []) (sym (gave-accepted gave))
 
   counts-are : n ∷ e ∷ m ∷ [] ≡ counts o
   unfolding counts
@@ -79,12 +78,6 @@ module _ (o : List ℕ) (n e m : ℕ) (a : accepted (n ∷ e ∷ m ∷ []) ≡ o
 
   pub handed : accepted [] ≡ floorAnswer o → accepted (n ∷ e ∷ m ∷ []) ≡ passUp (floorAnswer o) (accepted (counts o))
   handed up = ap accepted counts-are ∙ ap (λ (b : Answer). passUp b (accepted (counts o))) up
-
-  abbrev pub RingFloor : Type 0
-  RingFloor = Ring (floorOf o .positions) (Joins (floorOf o)) (length (floorOf o .edges))
-
-  abbrev pub Order : Type 0
-  Order = SameRound (floorOf o) (rackCount o) (startsOf o) (goalsOf o)
 
   -- 20 by the counts
   full : (k : ℕ) → vacanciesOwed (floorOf o) ≡ k → n < m + k → ltb (positionCount o) (rackCount o + vacanciesOwed (floorOf o)) ≡ true
@@ -99,13 +92,13 @@ module _ (o : List ℕ) (n e m : ℕ) (a : accepted (n ∷ e ∷ m ∷ []) ≡ o
       let r = gave .racks-are in
       le-ltb (positionCount o) (rackCount o + vacanciesOwed (floorOf o)) (omega arith)
 
-  pub crowded : (RingFloor → ⊥) → n < m + 2 → refused 20 0 ≡ floorAnswer o
+  pub crowded : (RingFloor o → ⊥) → n < m + 2 → refused 20 0 ≡ floorAnswer o
   crowded off h = sym (over ∙ rw (full 2 (owed-off (floorOf o) off) h) refl)
 
-  pub ring-full : RingFloor → n ≤ m → refused 20 0 ≡ floorAnswer o
+  pub ring-full : RingFloor o → n ≤ m → refused 20 0 ≡ floorAnswer o
   ring-full ring h = sym (over ∙ rw (full 1 (owed-on (floorOf o) ring) (omega arith)) refl)
 
-  pub ring-other : RingFloor → m < n → (Order → ⊥) → refused 24 0 ≡ floorAnswer o
+  pub ring-other : RingFloor o → m < n → (Order o → ⊥) → refused 24 0 ≡ floorAnswer o
   ring-other ring h other =
       sym
       (over
@@ -115,7 +108,7 @@ module _ (o : List ℕ) (n e m : ℕ) (a : accepted (n ∷ e ∷ m ∷ []) ≡ o
         holds-yes (disordered? (floorOf o) (rackCount o) (startsOf o) (goalsOf o)) (record { ring = ring; other = other }),
       ) refl)
 
-  pub ring-plain : RingFloor → m < n → Order → accepted [] ≡ floorAnswer o
+  pub ring-plain : RingFloor o → m < n → Order o → accepted [] ≡ floorAnswer o
   ring-plain ring h same =
       let w = gave .placed-well in
       sym
@@ -127,12 +120,9 @@ module _ (o : List ℕ) (n e m : ℕ) (a : accepted (n ∷ e ∷ m ∷ []) ≡ o
         holds-yes (fourSided? (floorOf o)) (ring-sides (floorOf o) (w .edges-below) (w .few-positions) (w .edges-right) ring),
       ) refl)
 
-  module _ (g : List ℕ) (filled : g ≡ decodedRows o) where
+  module _ {g : List ℕ} (filled : g ≡ decodedRows o) where
     rows-are : g ≡ rowsOf (floorOf o)
-    rows-are = filled-is o n e m gave g filled
-
-    pub rows-right : Rows n g
-    rows-right = filled-rows o n e m gave g filled
+    rows-are = filled-is gave filled
 
     pub rows-counted : e ≡ edgesIn g n
     rows-counted =
@@ -141,28 +131,24 @@ module _ (o : List ℕ) (n e m : ℕ) (a : accepted (n ∷ e ∷ m ∷ []) ≡ o
         gave .edges-are ∙ sym (edges-length o) ∙ sym c ∙ ap₂ (λ (x : List ℕ) (k : ℕ). edgesIn x k) (sym rows-are) (sym
         (gave .positions-are))
 
-    pub rings : Ring n (Edge g) (edgesIn g n) ↔ RingFloor
+    pub rings : Ring n (Edge g) (edgesIn g n) ↔ RingFloor o
     rings =
         let w = gave .placed-well in
         rw (gave .positions-are, rows-are) (ring-rows (floorOf o) (w .edges-below) (w .edges-right))
 
-    pub ring-tables : Ring n (Edge g) (edgesIn g n) → m < n → (h k : List ℕ) → h ≡ decodedStarts o → k ≡ decodedGoals o
+    pub ring-tables : Ring n (Edge g) (edgesIn g n) → m < n → {h k : List ℕ} → h ≡ decodedStarts o → k ≡ decodedGoals o
         → RingTables o n m g h k
-    ring-tables ring less h k starts goals =
+    ring-tables ring less starts goals =
         record { edges = e; gave = gave; rings = ring; less = less; rows-are = filled; starts-are = starts; goals-are = goals }
 
-    module _ (off : RingFloor → ⊥) (room : m + 2 ≤ n) (r : Bool) (t : (r ≡ true) ↔ BiConnected n (Edge g)) where
-      same : BiConnected n (Edge g) ↔ BiConnected (floorOf o .positions) (Joins (floorOf o))
-      same =
-          rw (gave .positions-are, rows-are) (biConnected-rows (floorOf o) (gave .placed-well .edges-below))
-
+    module _ (off : RingFloor o → ⊥) (room : m + 2 ≤ n) (r : Bool) (t : (r ≡ true) ↔ BiConnected n (Edge g)) where
       pub apart : r ≡ false → refused 21 0 ≡ floorAnswer o
       apart f =
           sym
           (over
           ∙ rw (
             vacant 2 (owed-off (floorOf o) off) room,
-            holds-no (biConnected? (floorOf o)) (λ b. false≢true (sym f ∙ t .1 (same .1 b))),
+            holds-no (biConnected? (floorOf o)) (λ b. false≢true (sym f ∙ t .1 (filled-biConnected gave filled .1 b))),
           ) refl)
 
       module _ (y : r ≡ true) (q : Bool) (u : (q ≡ true) ↔ FourInRows n g) where
@@ -177,7 +163,7 @@ module _ (o : List ℕ) (n e m : ℕ) (a : accepted (n ∷ e ∷ m ∷ []) ≡ o
             (over
             ∙ rw (
               vacant 2 (owed-off (floorOf o) off) room,
-              holds-yes (biConnected? (floorOf o)) (same .0 (t .0 y)),
+              holds-yes (biConnected? (floorOf o)) (filled-biConnected gave filled .0 (t .0 y)),
               holds-no (disordered? (floorOf o) (rackCount o) (startsOf o) (goalsOf o)) (λ d. off (d .ring)),
               holds-no (fourSided? (floorOf o)) (λ b. false≢true (sym f ∙ u .1 (four .1 b))),
             ) refl)
@@ -188,7 +174,7 @@ module _ (o : List ℕ) (n e m : ℕ) (a : accepted (n ∷ e ∷ m ∷ []) ≡ o
             (over
             ∙ rw (
               vacant 2 (owed-off (floorOf o) off) room,
-              holds-yes (biConnected? (floorOf o)) (same .0 (t .0 y)),
+              holds-yes (biConnected? (floorOf o)) (filled-biConnected gave filled .0 (t .0 y)),
               holds-no (disordered? (floorOf o) (rackCount o) (startsOf o) (goalsOf o)) (λ d. off (d .ring)),
               holds-yes (fourSided? (floorOf o)) (four .0 (u .0 z)),
             ) refl)

@@ -16,23 +16,20 @@ use lib.Dec.{T}
 use lib.ListN.{length, getD}
 use Rattle.order.specs.Floor.{Floor, joined}
 use Rattle.order.specs.Order.{floorOf, startsOf, goalsOf}
-use Rattle.order.specs.Tables.{racksAt, decodedStarts, decodedGoals}
-use Rattle.order.proofs.TablesLaws.{decoded-starts, decoded-goals}
 use Rattle.motion.specs.Arrangement.{Arrangement, stands}
 use Rattle.motion.specs.Sound.{Sound}
 use Rattle.motion.proofs.ArrangementLaws.{occupied-rack, occupied-or-vacant}
 use Rattle.tables.proofs.TablesLaws.{Holds}
-use Rattle.tables.proofs.TableLaws.{placed-holds, passed}
-use Rattle.tables.specs.Accepted.{OrderGave}
-use Rattle.graph.specs.Rows.{Edge, Rows}
+use Rattle.tables.proofs.TableLaws.{passed}
+use Rattle.graph.specs.Rows.{row, Edge, Rows}
 use Rattle.ring.specs.Circle.{Circle, roundOf, edgeIn, placeIn}
 use Rattle.ring.specs.Order.{Rack, InTurn, SameOrder}
-use Rattle.ring.specs.Standing.{row, OnCircle, StandAt}
+use Rattle.ring.specs.Standing.{OnCircle, StandAt}
 use Rattle.ring.proofs.CircleLaws.{circle-every, circle-one}
 use Rattle.ring.proofs.RoundLaws.{ring-degree, edge-test, round-place}
 use Rattle.floor.specs.FloorAnswer.{roundPlace, SameRound}
 use Rattle.floor.specs.RingTables.{RingTables}
-use Rattle.floor.proofs.FloorRows.{edge-joins, joins-edge, filled-is, filled-rows}
+use Rattle.floor.proofs.FloorRows.{filled-rows, filled-joins, joins-filled, filled-starts, filled-goals}
 
 module _ {A : Arrangement} {h : List ℕ} (holds : Holds A h) where
   rack-at : (p : ℕ) → row h p ≢ 0 → (i : ℕ) × (i < length A) × (getD A i 0 ≡ p)
@@ -85,36 +82,24 @@ order-along {m} {p} {q} {g} {f} a b same r s t kr ks kt turn =
         subst (λ (x : ℕ). InTurn (v r) (v s) x) (e t kt)
         (subst (λ (x : ℕ). InTurn (v r) x (u t)) (e s ks) (subst (λ (x : ℕ). InTurn x (u s) (u t)) (e r kr) w))
 
-module _ (o : List ℕ) (n m : ℕ) (g h k : List ℕ) (t : RingTables o n m g h k) where
+module _ {o : List ℕ} {n m : ℕ} {g h k : List ℕ} (t : RingTables o n m g h k) where
   abbrev F : Floor
   F = floorOf o
 
   pub rows : Rows n g
-  rows = filled-rows o n (t .edges) m (t .gave) g (t .rows-are)
+  rows = filled-rows (t .gave) (t .rows-are)
 
   pub starts-hold : Holds (startsOf o) h
-  unfolding racksAt
-  starts-hold =
-      let w = t .gave .placed-well in
-      subst (Holds (startsOf o)) (sym (t .starts-are ∙ decoded-starts o (t .gave .right)))
-      (placed-holds (F .positions) (startsOf o) (w .few-positions) (w .starts-sound))
+  starts-hold = filled-starts (t .gave) (t .starts-are)
 
   pub goals-hold : Holds (goalsOf o) k
-  unfolding racksAt
-  goals-hold =
-      let w = t .gave .placed-well in
-      subst (Holds (goalsOf o)) (sym (t .goals-are ∙ decoded-goals o (t .gave .right)))
-      (placed-holds (F .positions) (goalsOf o) (w .few-positions) (w .goals-sound))
+  goals-hold = filled-goals (t .gave) (t .goals-are)
 
   test-same : (a b : ℕ) → edgeIn g a b ≡ joined F a b
   test-same a b =
-      let w = t .gave .placed-well in
-      let is = filled-is o n (t .edges) m (t .gave) g (t .rows-are) in
       same-test (edgeIn g a b) (joined F a b)
-      (λ e. passed (joined F a b) (edge-joins F (w .edges-below) a b (subst (λ (x : List ℕ). Edge x a b) is (edge-test rows
-      (t .rings) a b .0 e))))
-      (λ e. edge-test rows (t .rings) a b .1
-      (subst (λ (x : List ℕ). Edge x a b) (sym is) (joins-edge F (w .edges-below) a b (subst T (sym e) tt))))
+      (λ e. passed (joined F a b) (filled-joins (t .gave) (t .rows-are) a b (edge-test rows (t .rings) a b .0 e)))
+      (λ e. edge-test rows (t .rings) a b .1 (joins-filled (t .gave) (t .rows-are) a b (subst T (sym e) tt)))
 
   pub round-is : roundOf n (edgeIn g) ≡ roundOf (F .positions) (joined F)
   round-is =

@@ -4,12 +4,12 @@ ghost use mathlib.Core.Bool.{true};
 ghost use mathlib.Core.Logic.{_↔_};
 ghost use mathlib.Core.Path.{_≡_};
 ghost use Prim.Native.Nat.{ℕ, _+_, _-_, _≤_, _<_};
-ghost use lib.ListN.{getD, length};
+ghost use lib.ListN.{length};
 ghost use Rattle.sets.specs.Sets.{Has};
 ghost use Rattle.graph.specs.Walk.{Symmetric};
 ghost use Rattle.graph.specs.Connected.{Whole, Connected, ConnectedWithout, BiConnected, Ring};
 ghost use Rattle.graph.specs.EdgeCount.{edgeCount, FourSided};
-ghost use Rattle.graph.specs.Rows.{Edge, Rows};
+ghost use Rattle.graph.specs.Rows.{row, Edge, Rows};
 ghost use Rattle.graph.specs.Levels.{Touches, Spread, Descent, Traced};
 ghost use Rattle.graph.specs.Nearest.{Nearest};
 
@@ -90,7 +90,7 @@ pub struct Route {
 pub fn search(rows: &[u64; 64], free: u64, targets: u64, from: usize) -> Route
     requires { ⌜ Symmetric (Edge (now rows)) ⌝ }
     requires { ⌜ from < 64 ⌝ }
-    ensures { λ r. ⌜ Nearest (Edge (now (rows .entry))) (Has free) (Has targets) from (r .size) (λ i. getD (r .at) i 0) ⌝ }
+    ensures { λ r. ⌜ Nearest (Edge (now (rows .entry))) (Has free) (Has targets) from (r .size) (row (r .at)) ⌝ }
 {
     let mut levels = [0u64; 64];
     let reach = spread(rows, free, targets, sets::only(from), &mut levels);

@@ -28,14 +28,14 @@ use Rattle.graph.specs.Walk.{Symmetric}
 use Rattle.graph.proofs.WalkLaws.{walk-inside}
 use Rattle.graph.specs.Connected.{Whole, Except}
 use Rattle.graph.proofs.ConnectedLaws.{whole-same}
-use Rattle.graph.specs.Rows.{Edge}
+use Rattle.graph.specs.Rows.{row, Edge}
 use Rattle.breakdown.specs.Breakdown.{Among, Between}
 use Rattle.breakdown.proofs.StageLaws.{Both, whole-left, whole-right}
 use Rattle.shunting.specs.Went.{Same}
 use Rattle.shunting.specs.Went.Back.{done}
 use Rattle.shunting.proofs.WentLaws.{same-refl}
 use Rattle.shunting.specs.declared.State.{State}
-use Rattle.shunting.specs.Journey.{row, onto, Trail, Space, Journey, JourneyIn}
+use Rattle.shunting.specs.Journey.{onto, Trail, Space, Journey, JourneyIn}
 use Rattle.shunting.specs.Journey.Trail.{start}
 use Rattle.shunting.proofs.JourneyLaws.{journey-trail, space-then, space-less}
 use Rattle.shunting.specs.Undone.{carried, Entries, Undoing}

@@ -20,13 +20,12 @@ use Rattle.sets.specs.Sets.{Has}
 use Rattle.sets.proofs.SetLaws.{has-and, has-positive}
 use Rattle.graph.proofs.WalkLaws.{walk-inside}
 use Rattle.graph.proofs.ConnectedLaws.{third}
-use Rattle.graph.specs.Rows.{Edge, Rows}
+use Rattle.graph.specs.Rows.{row, Edge, Rows}
 use Rattle.graph.specs.Nearest.{Nearest}
 use Rattle.graph.proofs.NearestLaws.{nearest-found}
 use Rattle.breakdown.specs.Breakdown.{Among}
 use Rattle.breakdown.specs.Part.{Places, Part}
 use Rattle.breakdown.proofs.StageLaws.{among, Two, robust-neighbours}
-use Rattle.shunting.specs.Journey.{row}
 use Rattle.handles.specs.Lane.{HandleOn, BesideEnd, Closed, Copied}
 use Rattle.handles.proofs.StageLaws.{apart, between-among, among-between, among-few}
 

@@ -19,7 +19,7 @@ use lib.Dec.{lit<, lit≤}
 use lib.ListN.{length, replicate, length-replicate}
 use Rattle.sets.specs.Sets.{bit}
 use Rattle.graph.specs.declared.Route.{Route}
-use Rattle.graph.specs.Rows.{Edge, Rows}
+use Rattle.graph.specs.Rows.{row, Edge, Rows}
 use Rattle.graph.proofs.Examples.{floorF, floorF-rows}
 use Rattle.breakdown.specs.declared.Breakdown.{Breakdown}
 use Rattle.breakdown.specs.Answer.{BreaksDown}
@@ -30,7 +30,7 @@ use Rattle.shunting.proofs.WentLaws.{same-refl}
 use Rattle.shunting.proofs.JourneyLaws.{space-room}
 use Rattle.shunting.specs.declared.State.{State}
 use Rattle.shunting.specs.Cleared.{Vacancy}
-use Rattle.shunting.specs.Journey.{row, Room, Space}
+use Rattle.shunting.specs.Journey.{Room, Space}
 use Rattle.shunting.specs.Table.{Table}
 use Rattle.shunting.proofs.TableLaws.{table-went}
 use Rattle.shunting.proofs.TableExamples.{start, goal, start-table, goal-table}

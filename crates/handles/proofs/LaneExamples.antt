@@ -15,12 +15,11 @@ use native.Mathlib.Omega.{arith}
 use lib.Dec.{lit<, lit≤}
 use lib.ListN.{replicate}
 use Rattle.sets.specs.Sets.{bit}
-use Rattle.graph.specs.Rows.{Edge}
+use Rattle.graph.specs.Rows.{row, Edge}
 use Rattle.graph.proofs.Examples.{floorF, floorF-rows}
 use Rattle.breakdown.specs.Breakdown.{Among}
 use Rattle.breakdown.proofs.StageLaws.{stage-robust}
 use Rattle.breakdown.proofs.Examples.{inRow, inRow-is, floorF-breakdown}
-use Rattle.shunting.specs.Journey.{row}
 use Rattle.shunting.specs.Cleared.{Vacancy}
 use Rattle.shunting.proofs.TableExamples.{start, goal, start-table, goal-table}
 use Rattle.handles.specs.Lane.{HandleOn, BesideEnd, Closed, Placing, Fetched}

@@ -26,8 +26,9 @@ use lib.ListN.{length}
 use Rattle.graph.specs.Walk.{Symmetric}
 use Rattle.breakdown.specs.Breakdown.{Breakdown}
 use Rattle.breakdown.proofs.StageLaws.{stage-within, stage-robust}
+use Rattle.graph.specs.Rows.{row}
 use Rattle.shunting.specs.declared.State.{State}
-use Rattle.shunting.specs.Journey.{row, Room, Trip}
+use Rattle.shunting.specs.Journey.{Room, Trip}
 use Rattle.shunting.proofs.JourneyLaws.{trip-none, trip-more, trip-append, room-then, room-less}
 use Rattle.shunting.specs.Table.{Table}
 use Rattle.handles.specs.Lane.{HandleOn, Agreed, Filled, Placing}

@@ -30,7 +30,7 @@ use Rattle.graph.specs.Connected.{Whole}
 use Rattle.breakdown.specs.Breakdown.{Among, Between}
 use Rattle.breakdown.specs.Part.{Places, Part}
 use Rattle.breakdown.proofs.StageLaws.{Both, whole-right}
-use Rattle.shunting.specs.Journey.{row}
+use Rattle.graph.specs.Rows.{row}
 use Rattle.shunting.specs.Distance.{Reaches, AtMost}
 use Rattle.shunting.proofs.DistanceLaws.{at-most-inside, at-most-seats, reaches-back}
 use Rattle.shunting.specs.Cleared.{VacantBelow, Vacancy}

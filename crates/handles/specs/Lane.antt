@@ -28,8 +28,8 @@ use mathlib.Core.Logic.{_≢_}
 use Rattle.graph.specs.declared.Route.{Route}
 use Rattle.graph.specs.Connected.{Robust}
 use Rattle.breakdown.specs.Breakdown.{Among, Handle}
+use Rattle.graph.specs.Rows.{row}
 use Rattle.shunting.specs.Went.{Same}
-use Rattle.shunting.specs.Journey.{row}
 use Rattle.shunting.specs.Undone.{carried}
 use Rattle.shunting.specs.Cleared.{Vacancy}
 use Rattle.shunting.specs.Table.{Table}

@@ -35,13 +35,12 @@ use Rattle.tables.proofs.AcceptedLaws.{order-gave}
 use Rattle.tables.proofs.TablesLaws.{Holds}
 use Rattle.tables.proofs.TableLaws.{placed-holds}
 use Rattle.graph.proofs.WalkLaws.{walk-last}
-use Rattle.graph.specs.Rows.{Edge, Rows}
+use Rattle.graph.specs.Rows.{row, Edge, Rows}
 use Rattle.floor.specs.FloorAnswer.{Joins}
-use Rattle.floor.proofs.FloorRows.{walk-along, edge-joins, joins-edge, filled-is, filled-rows}
+use Rattle.floor.proofs.FloorRows.{walk-along, filled-rows, filled-joins, joins-filled, filled-starts}
 use Rattle.shunting.specs.Went.{Same}
 use Rattle.shunting.specs.declared.State.{State}
 use Rattle.shunting.specs.declared.Clearing.{Clearing}
-use Rattle.shunting.specs.Journey.{row}
 use Rattle.shunting.specs.Distance.{Unheld, WayFrom, NoWay, Distance}
 use Rattle.shunting.proofs.DistanceLaws.{at-most-inside, way-same, distance-same, distance-one, distance-way, distance-few}
 use Rattle.shunting.specs.Cleared.{RoomToClear, Outcome}
@@ -49,7 +48,6 @@ use Rattle.shunting.specs.Cleared.Outcome.{by-nearest, no-way}
 use Rattle.shunting.proofs.ClearLaws.{clear-room}
 use Rattle.solving.proofs.Held.{HeldBy, held-racks, went-led}
 use Rattle.planner.proofs.OrderTables.{held-by}
-use Rattle.planner.proofs.MovesLaws.{start-holds}
 use Rattle.inspection.specs.Inspection.{upTo, Copied}
 use Rattle.inspection.specs.NearestDecision.{Found}
 use Rattle.inspection.specs.Clear.{Loose, away, told, clearNumber, ClearLeft}
@@ -151,23 +149,19 @@ module _ {o : List ℕ} {n e m : ℕ} {g h : List ℕ} (decoded : Decoded o n e 
   gave = order-gave o n e m (decoded .answer)
 
   pub rows-right : Rows n g
-  rows-right = filled-rows o n e m gave g (decoded .filled)
+  rows-right = filled-rows gave (decoded .filled)
 
   holds : Holds (startsOf o) h
-  holds = start-holds o n e m gave h (decoded .placed)
+  holds = filled-starts gave (decoded .placed)
 
   racks : (q : ℕ) → row h q ≡ rackAt (startsOf o) q
   racks = held-racks (held-by holds)
 
   to-floor : (x y : ℕ) → Edge g x y → Joins (floorOf o) x y
-  to-floor x y l =
-      edge-joins (floorOf o) (gave .placed-well .edges-below) x y
-      (subst (λ (r : List ℕ). Edge r x y) (filled-is o n e m gave g (decoded .filled)) l)
+  to-floor = filled-joins gave (decoded .filled)
 
   from-floor : (x y : ℕ) → Joins (floorOf o) x y → Edge g x y
-  from-floor x y l =
-      subst (λ (r : List ℕ). Edge r x y) (sym (filled-is o n e m gave g (decoded .filled)))
-      (joins-edge (floorOf o) (gave .placed-well .edges-below) x y l)
+  from-floor = joins-filled gave (decoded .filled)
 
   abbrev begun : State
   begun = record { racks = h; real = m; written = 0; logged = 0 }

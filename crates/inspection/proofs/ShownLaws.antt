@@ -2,7 +2,6 @@
 --
 --     breakdown-along     a breakdown stays one where more edges join
 --     handles-few         there are fewer handles than positions
---     gave, rows-right    what an accepted order tells, and that the rows filled are those of a floor
 --     small               the ring's size and the number of handles fit into the answer
 --     short, order-refused, not-found, found    what is shown: nothing in too short a buffer, of a refused order or
 --                                               where there is none; else it
@@ -20,14 +19,12 @@ use Rattle.order.specs.Order.{floorOf, counts, orderAnswer}
 use Rattle.order.specs.Tables.{rowsOf, decodedRows}
 use Rattle.order.proofs.OrderLaws.{accepted-is}
 use Rattle.tables.specs.Accepted.{OrderGave}
-use Rattle.tables.proofs.AcceptedLaws.{order-gave}
 use Rattle.graph.specs.Connected.{BiConnected, Ring}
-use Rattle.graph.specs.Rows.{Rows}
+use Rattle.graph.specs.Rows.{row}
 use Rattle.breakdown.specs.Breakdown.{Handle, Breakdown}
-use Rattle.breakdown.specs.Building.{row}
 use Rattle.breakdown.specs.Answer.{Answer}
 use Rattle.floor.specs.FloorAnswer.{Joins}
-use Rattle.floor.proofs.FloorRows.{edge-joins, biConnected-rows, filled-is, filled-rows}
+use Rattle.floor.proofs.FloorRows.{edge-joins, biConnected-rows, filled-is}
 use Rattle.floor.proofs.EdgesCounted.{ring-rows}
 use Rattle.inspection.specs.Inspection.{upTo, LaidOut, Breaks, Inspected}
 
@@ -87,17 +84,11 @@ order-refused o old number place f = nothing-shown o old (λ b. never (f ∙ acc
     never : refused number place ≡ accepted (counts o) → ⊥
     never e = let z : _≡_ {A = ℕ} 0 1 = cc in omega arith
 
-module _ (o : List ℕ) (n e m : ℕ) (a : accepted (n ∷ e ∷ m ∷ []) ≡ orderAnswer o) (g : List ℕ) (filled : g ≡ decodedRows o) where
-  pub gave : OrderGave o n e m
-  gave = order-gave o n e m a
-
-  pub rows-right : Rows n g
-  rows-right = filled-rows o n e m gave g filled
-
-  module _ (r c : ℕ) (row₁ row₂ row₃ row₄ : List ℕ) (answer : Answer n g r c row₁ row₂ row₃ row₄) where
+module _ {o : List ℕ} {n e m : ℕ} (gave : OrderGave o n e m) {g : List ℕ} (filled : g ≡ decodedRows o) where
+  module _ {r c : ℕ} {row₁ row₂ row₃ row₄ : List ℕ} (answer : Answer n g r c row₁ row₂ row₃ row₄) where
     -- by the floor's own edges
     on-floor : Answer (floorOf o .positions) (rowsOf (floorOf o)) r c row₁ row₂ row₃ row₄
-    on-floor = rw (gave .positions-are, filled-is o n e m gave g filled) at answer
+    on-floor = rw (gave .positions-are, filled-is gave filled) at answer
 
     exact : (0 < r)
         ↔ (BiConnected (floorOf o .positions) (Joins (floorOf o))

@@ -12,7 +12,7 @@ use timetable::TimetableVerdict;
 ghost use mathlib.Core.Path.{_≡_};
 ghost use Prim.Native.Nat.{_+_, _≤_, _<_};
 ghost use lib.ListN.{length};
-ghost use Rattle.breakdown.specs.Building.{row};
+ghost use Rattle.graph.specs.Rows.{row};
 ghost use Rattle.answers.specs.Answer.{Answer, refusedBy};
 ghost use Rattle.timetable.specs.Reading.{partGiven};
 ghost use Rattle.timetable.specs.Checking.{answerOfCheck};

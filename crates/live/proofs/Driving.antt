@@ -1,24 +1,24 @@
 -- The calls, above what every call begins with: the answer and the picture afterwards at each return.
 --
---     opening-allowed, driving-allowed    a role's number, and whether the picture is open, tell what it may do
+--     opening-allowed         a role's number tells whether it may open a picture
 --     opened                  an opening that is let in
 --     shown-racks             a reading that is let in
 --     turned-below            a step turned round has the same positions
 --     run-lent                the step to run is lent; run-none, run-illegal, ran-on    61, and the step run
 --     take-lent               the step to take back is lent; take-none, take-past, take-illegal, took-back    62, and the step taken back
 -- Assumes nothing.
-use Prim.Native.Nat.{ℕ, zero, suc, _+_, _-_, _*_, _^_, _≤_, _<_}
+use Prim.Native.Nat.{ℕ, zero, suc, _+_, _-_, _*_, _≤_, _<_}
 use mathlib.Core.Path.{_≡_, refl, sym, ap, _∙_, subst}
-use mathlib.Core.Bool.{Bool, true, false, not, cond, _&&_, _||_, or-true}
+use mathlib.Core.Bool.{Bool, true, false, not, cond}
 use mathlib.Core.List.{List, [], _∷_, map}
 use native.Mathlib.Omega.{arith}
 use borrow.Author.Tests.{eq-eqb, ne-eqb, le-leb, lt-leb, le-ltb, lt-ltb}
 use lib.Dec.{eqb, leb, ltb}
 use lib.ListN.{length, take, drop, replicate}
-use Rattle.answers.specs.Answer.{Answer, accepted, refused, refuse}
+use Rattle.answers.specs.Answer.{Answer, accepted, refused}
 use Rattle.field.specs.Bits.{positions}
 use Rattle.field.specs.Bytes.{BelowPairs, none₂, more₂}
-use Rattle.order.specs.Order.{positionCount, floorOf, startsOf, WellFormed}
+use Rattle.order.specs.Order.{floorOf, startsOf}
 use Rattle.order.specs.Tables.{placed, racksAt}
 use Rattle.order.proofs.TailLaws.{tail-starts}
 use Rattle.motion.specs.StepOf.{insert, sort}
@@ -26,13 +26,12 @@ use Rattle.motion.specs.TurnedStep.{turned, turnedStep}
 use Rattle.tables.specs.Accepted.{OrderGave}
 use Rattle.tables.proofs.AcceptedLaws.{well-placed}
 use Rattle.trains.specs.StepOn.{stepOn}
-use Rattle.timetable.specs.Timetable.{stepCount, stepMoves, timetableAnswer}
+use Rattle.timetable.specs.Timetable.{stepCount}
 use Rattle.timetable.proofs.TimetableRecord.{moves-low}
 use Rattle.timetable.proofs.Leading.{accepted-leads}
-use Rattle.live.specs.Picture.{Picture, isOpen}
+use Rattle.live.specs.Picture.{Picture}
 use Rattle.live.specs.Roles.{Kind, opening, reading, running, takingBack, roleNumber}
-use Rattle.live.specs.HereDecision.{legalHere?}
-use Rattle.live.specs.Calls.{allowed, holds, stepNumbered, cannotRun, cannotTakeBack, ownAnswer, callAnswer, changed, byAnswer}
+use Rattle.live.specs.Calls.{allowed, stepNumbered, cannotRun, cannotTakeBack, ownAnswer, callAnswer, changed, byAnswer}
 use Rattle.live.specs.Calls.{pictureAfter}
 use Rattle.live.specs.Judging.{legalOn, ranHere, Lent}
 use Rattle.live.specs.declared.Role.{Role}
@@ -73,12 +72,6 @@ opening-allowed r P n e = subst (λ (k : ℕ). not (eqb n 0) ≡ leb 1 k) e (on 
     on : (n : ℕ) → not (eqb n 0) ≡ leb 1 n
     on zero = refl
     on (suc n) = rw (ne-eqb (suc n) 0 (λ e. omega arith), le-leb 1 (suc n) (omega arith)) refl
-
--- a role's number and the picture tell whether it may do the rest
-pub driving-allowed : (r : Role) (P : Picture) (a : Bool) (n : ℕ) → a ≡ (leb n (roleNumber r) && not (eqb (P .positions) 0))
-    → (n ≡ 1 → a ≡ allowed reading r P) × (n ≡ 2 → a ≡ allowed running r P) × (n ≡ 3 → a ≡ allowed takingBack r P)
-unfolding isOpen
-driving-allowed r P a n e = (λ q. e ∙ rw q refl, λ q. e ∙ rw q refl, λ q. e ∙ rw q refl)
 
 module _ (r : Role) (P : Picture) (o t : List ℕ) where
   pub opened : {c : ℕ} → Admitted (allowed opening r P) o t c → (n e m : ℕ) → OrderGave o n e m → (h : List ℕ)

@@ -16,14 +16,13 @@
 use Prim.Native.Nat.{ℕ, _≤_}
 use mathlib.Core.Path.{_≡_, refl}
 use mathlib.Core.Logic.{_≢_}
-use mathlib.Core.List.{List, [], _∷_, _++_}
+use mathlib.Core.List.{List, [], _∷_}
 use native.Mathlib.Omega.{arith}
 use lib.ListN.{replicate}
 use Rattle.answers.specs.Answer.{accepted, refused}
 use Rattle.order.specs.Tables.{placed, racksAt}
 use Rattle.motion.specs.StepOf.{insert, sort}
 use Rattle.motion.specs.TurnedStep.{turned, turnedStep}
-use Rattle.motion.specs.Step.{every}
 use Rattle.motion.proofs.StepDecision.{by-test}
 use Rattle.tables.specs.Simulation.{Each, each-none, each-more}
 use Rattle.trains.specs.StepOn.{takenUp, putDown, stepOn}

@@ -3,24 +3,30 @@
 --     gate-lacking, gate-below, gate-passed   the gate's answer at each return
 --     Admitted a o t k        an allowed call, with an order and a timetable that the checker accepts, of k steps
 --     gate-told               what the gate's acceptance tells
---     refused-below           a refusal by the gate is the call's, and leaves the picture; refused-reading: it shows nothing
+--     let-in                  the same of a verdict of the gate
+--     refused-below           a refusal by the gate is the call's, and leaves the picture; turned-away: the same of a verdict of the gate;
+--                             refused-reading: a refused reading shows nothing
 --     admitted-answer, admitted-picture   of an admitted call the rest decides
 --     own-refused, own-accepted           the answer and the picture, where the rest is a refusal and where it is none
+--     after                   an answer and a picture that are those before, which are those asked for
 -- Assumes nothing.
 use Prim.Native.Nat.{ℕ, _^_, _<_}
-use mathlib.Core.Path.{_≡_, refl, sym, ap, _∙_, subst}
+use mathlib.Core.Path.{_≡_, refl, sym, ap, _∙_}
 use mathlib.Core.Bool.{Bool, true, false, not}
 use mathlib.Core.List.{List, [], _∷_}
 use native.Mathlib.Omega.{arith}
 use Rattle.answers.specs.Answer.{Answer, accepted, refused, refuse, passUp}
+use Rattle.answers.specs.declared.Fault.{Fault}
 use Rattle.timetable.specs.Timetable.{stepCount, total, partsOf, timetableAnswer}
 use Rattle.timetable.proofs.SizeLaws.{count-small}
-use Rattle.timetable.proofs.Leading.{LeadingTimetable, accepted-leads}
+use Rattle.timetable.proofs.Leading.{accepted-leads}
 use Rattle.live.specs.Picture.{Picture}
 use Rattle.live.specs.Roles.{Kind, reading}
-use Rattle.live.specs.Calls.{allowed, ownAnswer, callAnswer, changed, byAnswer, pictureAfter}
+use Rattle.live.specs.Calls.{allowed, ownAnswer, callAnswer, changed, byAnswer, pictureAfter, answerOf}
 use Rattle.live.specs.Judging.{gateAnswer}
 use Rattle.live.specs.declared.Role.{Role}
+use Rattle.live.specs.declared.LiveVerdict.{LiveVerdict}
+use Rattle.live.specs.declared.LiveVerdict.the-variants.{Accepted, Refused}
 
 pub record Admitted (a : Bool) (o t : List ℕ) (k : ℕ) : Type 0 where
   pub is-allowed : a ≡ true
@@ -96,6 +102,19 @@ module _ (k : Kind) (r : Role) (P : Picture) (o t : List ℕ) where
         → (accepted v ≡ callAnswer k r P o t) × (changed k P o t ≡ pictureAfter k r P o t)
     unfolding pictureAfter
     own-accepted v e = let is = admitted-answer ∙ e in (sym is, rw is refl)
+
+-- what a verdict of the gate tells
+module _ (k : Kind) (r : Role) (P : Picture) (o t : List ℕ) (v : LiveVerdict) (e : answerOf v ≡ gateAnswer (allowed k r P) o t) where
+  pub let-in : (n : ℕ) → v ≡ Accepted n → Admitted (allowed k r P) o t n
+  let-in n is = gate-told _ o t n (sym (ap answerOf is) ∙ e)
+
+  pub turned-away : (f : Fault) (p : ℕ) → v ≡ Refused f p → (answerOf v ≡ callAnswer k r P o t) × (P ≡ pictureAfter k r P o t)
+  turned-away f p is =
+      let told = refused-below k r P o t _ _ (sym (ap answerOf is) ∙ e) in
+      (ap answerOf is ∙ told .0, told .1)
+
+pub after : {a b c : Answer} {P Q R : Picture} → (a ≡ b) × (P ≡ Q) → (b ≡ c) × (Q ≡ R) → (a ≡ c) × (P ≡ R)
+after left told = (left .0 ∙ told .0, left .1 ∙ told .1)
 
 -- a refused reading shows nothing
 pub refused-reading : (r : Role) (P : Picture) (o t : List ℕ) (v : Answer) (n p : ℕ) → v ≡ refused n p

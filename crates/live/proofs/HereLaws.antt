@@ -5,25 +5,22 @@
 --     here-yes          a step that is legal on the picture passes
 -- Assumes nothing.
 use Prim.Native.Nat.{ℕ, zero, suc, _+_, _<_}
-use mathlib.Core.Path.{_≡_, refl, sym, ap, ap₂, _∙_}
-use mathlib.Core.Bool.{Bool, true, false, not, cond, _&&_, _||_}
+use mathlib.Core.Path.{_≡_, refl, sym, ap, _∙_}
+use mathlib.Core.Bool.{Bool, true, false, not, cond, _&&_}
 use mathlib.Core.List.{List, [], _∷_}
-use mathlib.Core.Logic.{_↔_, ⊎-elim}
+use mathlib.Core.Logic.{_↔_}
 use native.Mathlib.Omega.{arith}
 use native.Mathlib.Nat.{add-suc, suc-add, add-zero, zero-add}
 use borrow.Author.Tests.{eq-eqb, ne-eqb}
 use lib.Dec.{T, eqb}
-use lib.ListN.{getD, replicate}
 use Rattle.field.specs.Bytes.{BelowPairs}
 use Rattle.order.specs.Floor.{Floor, some}
 use Rattle.order.specs.Order.{wrongEdges}
-use Rattle.order.specs.Tables.{marked}
-use Rattle.motion.specs.Arrangement.{Arrangement, occupied}
-use Rattle.motion.specs.Step.{every, legalStep}
+use Rattle.motion.specs.Arrangement.{occupied}
+use Rattle.motion.specs.Step.{every}
 use Rattle.motion.proofs.StepDecision.{by-test}
 use Rattle.tables.specs.Tables.{heldAt}
 use Rattle.tables.proofs.MovesOnLaws.{matrixOf}
-use Rattle.trains.specs.StepOn.{legalStepOn}
 use Rattle.trains.proofs.LegalOn.{legal-step-same}
 use Rattle.live.specs.Picture.{Picture, heldFrom, standing, LegalHere}
 use Rattle.live.specs.Judging.{knows, legalOn}

@@ -8,14 +8,13 @@
 --     part-is, part-sized the part that the step reader gives back is the step, as long as its count says
 --     lent-readable       a lent step can be read
 -- Assumes nothing.
-use Prim.Native.Nat.{ℕ, _-_, _*_, _≤_, _<_}
+use Prim.Native.Nat.{ℕ, _-_, _≤_}
 use mathlib.Core.Path.{_≡_, refl, sym, ap, _∙_, subst}
-use mathlib.Core.Bool.{Bool, true, false, cond, _&&_}
-use mathlib.Core.List.{List, [], _∷_}
+use mathlib.Core.Bool.{Bool, true, false}
+use mathlib.Core.List.{List}
 use native.Mathlib.Omega.{arith}
 use borrow.Author.Tests.{ne-eqb, le-ltb}
 use lib.ListN.{length, getD, take, drop, replicate}
-use Rattle.answers.specs.Answer.{Answer, accepted}
 use Rattle.field.specs.Bits.{pairs}
 use Rattle.order.specs.Floor.{Floor}
 use Rattle.order.specs.Order.{positionCount, edgeCount, rackCount, floorOf, counts, WellFormed, CountsOf}
@@ -25,9 +24,9 @@ use Rattle.order.proofs.TailLaws.{tail-edges}
 use Rattle.motion.specs.Step.{every}
 use Rattle.tables.specs.Accepted.{OrderGave}
 use Rattle.tables.proofs.AcceptedLaws.{order-gave}
-use Rattle.trains.specs.StepOn.{legalStepOn, stepOn, ranOn}
+use Rattle.trains.specs.StepOn.{legalStepOn, ranOn}
 use Rattle.timetable.specs.Timetable.{stepLength, stepCount, stepPart, stepMoves, offset, stepAnswer}
-use Rattle.timetable.specs.Reading.{WellPacked, givenBy, partGiven}
+use Rattle.timetable.specs.Reading.{partGiven}
 use Rattle.timetable.proofs.StepLaws.{length-partAt, head-partAt, length-moves}
 use Rattle.timetable.proofs.ReadingLaws.{step-room, stepPart-is}
 use Rattle.live.specs.Calls.{stepNumbered}

@@ -11,9 +11,9 @@
 --     operator-back     an operator's taking back is refused with 60
 --     never-back        without a supervisor and without an opening the steps run never become fewer
 -- Assumes nothing.
-use Prim.Native.Nat.{ℕ, suc, _+_, _-_, _≤_, _<_}
-use mathlib.Core.Path.{_≡_, refl, sym, ap, ap₂, _∙_, subst}
-use mathlib.Core.Bool.{Bool, true, false, not, _&&_, _||_}
+use Prim.Native.Nat.{ℕ, _+_, _-_, _≤_, _<_}
+use mathlib.Core.Path.{_≡_, refl, sym, ap, _∙_, subst}
+use mathlib.Core.Bool.{true, false, not, _||_}
 use mathlib.Core.Logic.{_≢_, by-cases}
 use mathlib.Core.List.{List, [], _∷_, _++_}
 use native.Mathlib.Omega.{arith}
@@ -22,7 +22,7 @@ use borrow.Author.Tests.{leb-false, eqb-false, le-leb, lt-leb, eq-eqb, ne-eqb, l
 use lib.Dec.{leb, eqb, ltb}
 use lib.ListN.{length, take}
 use lib.Seq.{length-take-le, take-take}
-use Rattle.answers.specs.Answer.{Answer, accepted, refused, refuse, passUp}
+use Rattle.answers.specs.Answer.{Answer, accepted, refused, refuse}
 use Rattle.answers.proofs.AnswerLaws.{refuse-not, refuse-else, passUp-low, passUp-high}
 use Rattle.field.proofs.UnitLaws.{or-left}
 use Rattle.order.specs.Order.{floorOf, startsOf}
@@ -34,7 +34,7 @@ use Rattle.tables.specs.Simulation.{Each, each-none, each-more}
 use Rattle.timetable.specs.Timetable.{stepCount, stepsOf, timetableAnswer}
 use Rattle.timetable.proofs.ReadingLaws.{count-steps}
 use Rattle.timetable.proofs.Leading.{LeadingTimetable, accepted-leads}
-use Rattle.live.specs.Picture.{Picture, LegalHere}
+use Rattle.live.specs.Picture.{Picture}
 use Rattle.live.specs.Roles.{Kind, opening, reading, running, takingBack}
 use Rattle.live.specs.HereDecision.{legalHere?}
 use Rattle.live.specs.Calls.{allowed, holds, stepNumbered, cannotRun, cannotTakeBack, ownAnswer, callAnswer, changed, byAnswer}

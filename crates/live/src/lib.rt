@@ -16,6 +16,7 @@ ghost use Rattle.motion.specs.StepTests.{EnteredOnce};
 ghost use Rattle.motion.specs.TurnedStep.{turnedStep};
 ghost use Rattle.trains.specs.StepOn.{entries};
 ghost use Rattle.timetable.specs.Checking.{answerOfCheck};
+ghost use Rattle.live.specs.Picture.{isOpen};
 ghost use Rattle.live.specs.Roles.{roleNumber, roleOf, opening, reading, running, takingBack};
 ghost use Rattle.live.specs.Calls.{stepNumbered, callAnswer, byAnswer, pictureAfter, answerOf};
 ghost use Rattle.live.specs.Judging.{knows, legalOn, ranHere, gateAnswer, Lent, Readable, originsOf, OriginsLow, rowMoves};
@@ -49,7 +50,9 @@ pub struct Driven {
     pub verdict: LiveVerdict,
 }
 
-// The lowest role that may run a step, and the one that may take one back.
+// The lowest role that may read a picture, the one that may run a step, and the one that may take one back.
+const READS: u32 = 1;
+
 const RUNS: u32 = 2;
 
 const TAKES_BACK: u32 = 3;
@@ -116,6 +119,22 @@ fn admit(allowed: bool, order: &[u8], timetable: &[u8]) -> LiveVerdict
     LiveVerdict::Accepted(steps as u32)
 }
 
+// The same for the calls on an open picture, by a role from `lowest` on.
+fn enter(floor: Floor, role: Role, lowest: u32, order: &[u8], timetable: &[u8]) -> LiveVerdict
+    ensures { λ r. ⌜ answerOf r ≡
+        gateAnswer (leb lowest (roleNumber role) && isOpen floor) (now (order .entry)) (now (timetable .entry)) ⌝ }
+{
+    let allowed = may_drive(role, lowest, floor.positions);
+    admit(allowed, order, timetable)
+}
+
+// The picture as it was, with the verdict of a call that is refused.
+fn leave(floor: Floor, verdict: LiveVerdict) -> Driven
+    ensures { λ r. ⌜ (answerOf (r .verdict) ≡ answerOf verdict) × (r .floor ≡ floor) ⌝ }
+{
+    Driven { floor, verdict }
+}
+
 // Opens a picture: each rack at its start, no step run. A picture that was open is replaced; a refused opening leaves it.
 pub fn open(floor: Floor, role: Role, order: &[u8], timetable: &[u8]) -> Driven
     ensures answer { λ r. ⌜ answerOf (r .verdict) ≡ callAnswer opening role floor (now (order .entry)) (now (timetable .entry)) ⌝ }
@@ -124,10 +143,7 @@ pub fn open(floor: Floor, role: Role, order: &[u8], timetable: &[u8]) -> Driven
     let allowed = role_number(role) != 0;
     let gate = admit(allowed, order, timetable);
     let LiveVerdict::Accepted(_) = gate else {
-        return Driven {
-            floor,
-            verdict: gate,
-        };
+        return leave(floor, gate);
     };
     let counts = order::counts_of(order);
     let mut racks = [0u8; 64];
@@ -154,8 +170,7 @@ pub fn read(
     ensures racks { λ _. ⌜ now (shown .exit) ≡
         byAnswer (callAnswer reading role floor (now (order .entry)) (now (timetable .entry))) (floor .racks) (now (shown .entry)) ⌝ }
 {
-    let allowed = may_drive(role, 1, floor.positions);
-    let gate = admit(allowed, order, timetable);
+    let gate = enter(floor, role, READS, order, timetable);
     let LiveVerdict::Accepted(_) = gate else {
         return gate;
     };
@@ -300,19 +315,12 @@ pub fn run(floor: Floor, role: Role, order: &[u8], timetable: &[u8]) -> Driven
 {
     let steps = floor.steps;
     let positions = floor.positions;
-    let allowed = may_drive(role, RUNS, positions);
-    let gate = admit(allowed, order, timetable);
+    let gate = enter(floor, role, RUNS, order, timetable);
     let LiveVerdict::Accepted(count) = gate else {
-        return Driven {
-            floor,
-            verdict: gate,
-        };
+        return leave(floor, gate);
     };
     if count <= steps {
-        return Driven {
-            floor,
-            verdict: LiveVerdict::Refused(Fault::FloorRun, 0),
-        };
+        return leave(floor, LiveVerdict::Refused(Fault::FloorRun, 0));
     }
     let mut racks = floor.racks;
     if !run_lent(
@@ -322,10 +330,7 @@ pub fn run(floor: Floor, role: Role, order: &[u8], timetable: &[u8]) -> Driven
         positions as usize,
         &mut racks,
     ) {
-        return Driven {
-            floor,
-            verdict: LiveVerdict::Refused(Fault::FloorRun, 0),
-        };
+        return leave(floor, LiveVerdict::Refused(Fault::FloorRun, 0));
     }
     Driven {
         floor: Floor {
@@ -344,25 +349,15 @@ pub fn take_back(floor: Floor, role: Role, order: &[u8], timetable: &[u8]) -> Dr
 {
     let steps = floor.steps;
     let positions = floor.positions;
-    let allowed = may_drive(role, TAKES_BACK, positions);
-    let gate = admit(allowed, order, timetable);
+    let gate = enter(floor, role, TAKES_BACK, order, timetable);
     let LiveVerdict::Accepted(count) = gate else {
-        return Driven {
-            floor,
-            verdict: gate,
-        };
+        return leave(floor, gate);
     };
     if steps == 0 {
-        return Driven {
-            floor,
-            verdict: LiveVerdict::Refused(Fault::FloorTakeBack, 0),
-        };
+        return leave(floor, LiveVerdict::Refused(Fault::FloorTakeBack, 0));
     }
     if count < steps {
-        return Driven {
-            floor,
-            verdict: LiveVerdict::Refused(Fault::FloorTakeBack, 0),
-        };
+        return leave(floor, LiveVerdict::Refused(Fault::FloorTakeBack, 0));
     }
     let mut racks = floor.racks;
     if !take_back_lent(
@@ -372,10 +367,7 @@ pub fn take_back(floor: Floor, role: Role, order: &[u8], timetable: &[u8]) -> Dr
         positions as usize,
         &mut racks,
     ) {
-        return Driven {
-            floor,
-            verdict: LiveVerdict::Refused(Fault::FloorTakeBack, 0),
-        };
+        return leave(floor, LiveVerdict::Refused(Fault::FloorTakeBack, 0));
     }
     Driven {
         floor: Floor {

@@ -1,9 +1,9 @@
 -- The layers of the short order's judge: its answer from what the code's calls and tests leave.
 --
 --     not-length, not-spare, pad-room, not-pad, well-packed    50, from the second byte and the pad
---     ShortHead s x b          x and b are the two bytes of the head
+--     ShortHead s x b, read-head    x and b are the two bytes of the head
 --     Known s x, known-model   what 51 leaves
---     judged-50, judged-none, judged-many    50 and 51
+--     judged-50, passed-50, judged-none, judged-many    50 and 51
 --     racks-room, judged-racks    14
 --     judged-short             52
 --     judged-sound             accepted, with the length of the full record
@@ -78,6 +78,9 @@ pub record ShortHead (s : List ℕ) (x b : ℕ) : Type 0 where
   pub racks-byte : b ≡ getD s 1 0
   pub racks-small : b < 256
 
+pub read-head : {s : List ℕ} {x b : ℕ} → (x ≡ getD s 0 0) × (x < 256) → (b ≡ getD s 1 0) × (b < 256) → ShortHead s x b
+read-head (m, l) (r, k) = record { model-byte = m; model-small = l; racks-byte = r; racks-small = k }
+
 -- the order passed 50, and its model is in the table
 pub record Known (s : List ℕ) (x m : ℕ) : Type 0 where
   pub right : wrongShort s ≡ false
@@ -90,38 +93,37 @@ module _ (n₀ : ℕ) (s : List ℕ) (w : Bool) (t : w ≡ not (wrongShort s)) w
   pub judged-50 : w ≡ false → refused 50 0 ≡ expandAnswer s n₀
   judged-50 e = meets-50 s n₀ (sym e ∙ t)
 
-  module _ (o : w ≡ true) where
-    right : wrongShort s ≡ false
-    right = not-true (wrongShort s) (sym t ∙ o)
+  pub passed-50 : w ≡ true → wrongShort s ≡ false
+  passed-50 o = not-true (wrongShort s) (sym t ∙ o)
 
-    pub head-there : 2 ≤ length s
-    head-there = short-fits s right .head-there
+module _ (n₀ : ℕ) {s : List ℕ} {x b : ℕ} (right : wrongShort s ≡ false) (h : ShortHead s x b) where
+  there : 2 ≤ length s
+  there = short-fits s right .head-there
 
-    module _ (x b : ℕ) (h : ShortHead s x b) where
-      code : x ≡ modelCode s
-      code =
-          let l = head-there in
-          let byte = h .model-byte in
-          let small = h .model-small in
-          let r = model-is s l (omega arith) in
-          omega arith
+  code : x ≡ modelCode s
+  code =
+      let l = there in
+      let byte = h .model-byte in
+      let small = h .model-small in
+      let r = model-is s l (omega arith) in
+      omega arith
 
-      pub judged-none : x ≡ 0 → refused 51 0 ≡ expandAnswer s n₀
-      judged-none e = no-model s n₀ right (subst (λ (k : ℕ). unknownModel k ≡ true) code (unknown-zero x e))
+  pub judged-none : x ≡ 0 → refused 51 0 ≡ expandAnswer s n₀
+  judged-none e = no-model s n₀ right (subst (λ (k : ℕ). unknownModel k ≡ true) code (unknown-zero x e))
 
-      pub judged-many : 5 < x → refused 51 0 ≡ expandAnswer s n₀
-      judged-many l = no-model s n₀ right (subst (λ (k : ℕ). unknownModel k ≡ true) code (unknown-many x l))
+  pub judged-many : 5 < x → refused 51 0 ≡ expandAnswer s n₀
+  judged-many l = no-model s n₀ right (subst (λ (k : ℕ). unknownModel k ≡ true) code (unknown-many x l))
 
-      pub known-model : (x ≡ 0 → ⊥) → x ≤ 5 → Known s x (b / 2)
-      known-model d l =
-          record {
-            right = right;
-            model = code;
-            racks = racks s b head-there (h .racks-byte) (h .racks-small);
-            known = known-is x d l;
-          }
+  pub known-model : (x ≡ 0 → ⊥) → x ≤ 5 → Known s x (b / 2)
+  known-model d l =
+      record {
+        right = right;
+        model = code;
+        racks = racks s b there (h .racks-byte) (h .racks-small);
+        known = known-is x d l;
+      }
 
-module _ (n₀ : ℕ) (s : List ℕ) (x m : ℕ) (k : Known s x m) (r c : ℕ) (size : SizeOf x r c) where
+module _ (n₀ : ℕ) {s : List ℕ} {x m : ℕ} (k : Known s x m) {r c : ℕ} (size : SizeOf x r c) where
   known : unknownModel (modelCode s) ≡ false
   known = subst (λ (y : ℕ). unknownModel y ≡ false) (k .model) (k .known)
 
@@ -143,7 +145,7 @@ module _ (n₀ : ℕ) (s : List ℕ) (x m : ℕ) (k : Known s x m) (r c : ℕ) (
       let few : shortRacks s < 128 = unfold shortRacks in field-lt s 8 7 in
       (size .few, omega arith, omega arith)
 
-  module _ (p : Bool) (h₀ h₁ : List ℕ) (u : RacksJudged (take (length s - 2) (drop 2 s)) (r * c) 0 m p h₀ h₁) where
+  module _ {p : Bool} {h₀ h₁ : List ℕ} (u : RacksJudged (take (length s - 2) (drop 2 s)) (r * c) 0 m p h₀ h₁) where
     racks-test : p ≡ not (wrongRacks (fullOrder s))
     unfolding wrongRacks fullOrder
     racks-test =

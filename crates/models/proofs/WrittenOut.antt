@@ -6,7 +6,8 @@
 --     racks-room, units-room     they can be read, and have room
 --     edges-written      how many edges were written
 --     written-out        what the tail's writer and the head's leave is the record at the front
---     out-known, out-racks, out-room, out-counts, out-written    the same, of what the writer has read and called
+--     Begun s B x b      what the writer is given and has read
+--     out-known, out-racks, out-room, out-counts, out-written    the same, of what it has read and called
 -- Assumes nothing.
 use Prim.Native.Nat.{ℕ, _+_, _-_, _*_, _/_, _≤_, _<_}
 use mathlib.Core.Path.{_≡_, refl, sym, ap, ap₂, subst, _∙_}
@@ -141,32 +142,38 @@ module _ (s : List ℕ) where
               (w .bytes-are ∙ put-front (part 3 B) units units-room ∙ sym (written-front (part 3 B) (pack units)))
               ∙ ap (written B 0) (sym expanded-is)
 
--- the writer's own names: x and b are the head's two bytes, and the size is the model's
-module _ (s B : List ℕ) (right : wrongShort s ≡ false) (known : unknownModel (modelCode s) ≡ false)
-    (enough : length (expanded s) ≤ length B) (x b : ℕ) (h : ShortHead s x b) where
+-- the writer's own names: the order s passed 50 and 51, the buffer B has room, and x and b are the head's two bytes
+pub record Begun (s B : List ℕ) (x b : ℕ) : Type 0 where
+  pub right : wrongShort s ≡ false
+  pub known : unknownModel (modelCode s) ≡ false
+  pub enough : length (expanded s) ≤ length B
+  pub head : ShortHead s x b
+
+module _ {s B : List ℕ} {x b : ℕ} (o : Begun s B x b) where
   fits : ShortFits s
-  fits = short-fits s right
+  fits = short-fits s (o .right)
 
   model : x ≡ modelCode s
   model =
       let l = fits .head-there in
-      let byte = h .model-byte in
-      let small = h .model-small in
+      let byte = o .head .model-byte in
+      let small = o .head .model-small in
       let is = model-is s l (omega arith) in
       omega arith
 
   racks : b / 2 ≡ shortRacks s
   racks =
       let l = fits .head-there in
-      let byte = h .racks-byte in
-      let small = h .racks-small in
+      let byte = o .head .racks-byte in
+      let small = o .head .racks-small in
       let is = racks-is s l (omega arith) in
       omega arith
 
   pub out-known : unknownModel x ≡ false
-  out-known = subst (λ (k : ℕ). unknownModel k ≡ false) (sym model) known
+  out-known = subst (λ (k : ℕ). unknownModel k ≡ false) (sym model) (o .known)
 
-  module _ (rows columns : ℕ) (size : SizeOf x rows columns) where
+  -- and the size is the model's
+  module _ {rows columns : ℕ} (size : SizeOf x rows columns) where
     rows-are : rows ≡ rowsOf (modelCode s)
     rows-are = size .rows-are ∙ ap rowsOf model
 
@@ -180,9 +187,9 @@ module _ (s B : List ℕ) (right : wrongShort s ≡ false) (known : unknownModel
     out-racks = rw racks (racks-room s fits)
 
     pub out-room : Room (part 3 B) 0 (tailPairs rows columns (part 2 s) (b / 2))
-    out-room = subst (Room (part 3 B) 0) (sym same-units) (units-room s fits known B enough)
+    out-room = subst (Room (part 3 B) 0) (sym same-units) (units-room s fits (o .known) B (o .enough))
 
-    module _ (t : List ℕ) (e : ℕ) (w : Put (part 3 B) 0 (tailPairs rows columns (part 2 s) (b / 2)) t (e + b / 2)) where
+    module _ {t : List ℕ} (e : ℕ) (w : Put (part 3 B) 0 (tailPairs rows columns (part 2 s) (b / 2)) t (e + b / 2)) where
       put : Put (part 3 B) 0 (units s) t (e + shortRacks s)
       put =
           subst (λ (m : ℕ). Put (part 3 B) 0 (units s) t (e + m)) racks
@@ -191,15 +198,15 @@ module _ (s B : List ℕ) (right : wrongShort s ≡ false) (known : unknownModel
       pub out-counts : (rows * columns < 128) × (e < 256) × (b / 2 < 128)
       out-counts =
           let few = size .few in
-          let count = edges-written s fits known B enough t e put in
-          let most = few-edges s fits known in
+          let count = edges-written s fits (o .known) B (o .enough) t e put in
+          let most = few-edges s fits (o .known) in
           let is = racks in
           let q = few-bits s in
           (omega arith, omega arith, omega arith)
 
-      pub out-written : (y : List ℕ)
+      pub out-written : {y : List ℕ}
           → y ≡ written (take 3 B ++ (t ++ drop (length B - 3) (drop 3 B))) 0 (orderHead (rows * columns) e (b / 2))
           → y ≡ written B 0 (expanded s)
-      out-written y is =
-          written-out s fits known B enough t e put y
+      out-written {y} is =
+          written-out s fits (o .known) B (o .enough) t e put y
           (is ∙ (rw (rows-are, columns-are, racks) refl))

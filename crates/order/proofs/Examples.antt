@@ -35,9 +35,9 @@ caseBookOrder =
     }
 
 case-book-accepted : orderAnswer caseBook ≡ accepted (4 ∷ 5 ∷ 2 ∷ [])
-unfolding caseBook orderAnswer wrongLength misfits recordLength unitCount wrongPositions paddingSet padSet unclean pad wrongEdges some badEdge
-    precedes ascending wrongRacks wrongPlaces repeats orderOf floorOf startsOf goalsOf counts positionCount edgeCount rackCount field number
-    bitsOf bits pairs positions
+unfolding caseBook orderAnswer wrongLength misfits recordLength unitCount wrongPositions paddingSet padSet unclean pad wrongEdges some
+    badEdge precedes ascending wrongRacks wrongPlaces repeats orderOf floorOf startsOf goalsOf counts positionCount edgeCount rackCount
+    field number bitsOf bits pairs positions
 case-book-accepted = refl
 
 case-book-read : orderOf caseBook ≡ caseBookOrder
@@ -68,19 +68,19 @@ meets-11 = refl
 
 -- the second spare bit is set
 meets-12 : orderAnswer (0x02 ∷ 0x00 ∷ 0x01 ∷ []) ≡ refused 12 0
-unfolding orderAnswer wrongLength misfits recordLength unitCount wrongPositions paddingSet padSet unclean pad positionCount edgeCount rackCount
-    field number bitsOf bits
+unfolding orderAnswer wrongLength misfits recordLength unitCount wrongPositions paddingSet padSet unclean pad positionCount edgeCount
+    rackCount field number bitsOf bits
 meets-12 = refl
 
 -- the edge 1-0 is not lower first
 meets-13 : orderAnswer (0x04 ∷ 0x02 ∷ 0x00 ∷ 0x04 ∷ 0x00 ∷ []) ≡ refused 13 0
-unfolding orderAnswer wrongLength misfits recordLength unitCount wrongPositions paddingSet padSet unclean pad wrongEdges some badEdge precedes
-    ascending floorOf positionCount edgeCount rackCount field number bitsOf bits pairs
+unfolding orderAnswer wrongLength misfits recordLength unitCount wrongPositions paddingSet padSet unclean pad wrongEdges some badEdge
+    precedes ascending floorOf positionCount edgeCount rackCount field number bitsOf bits pairs
 meets-13 = refl
 
 -- n = 1, one rack from 0 to 1
 meets-14 : orderAnswer (0x02 ∷ 0x00 ∷ 0x04 ∷ 0x00 ∷ 0x10 ∷ []) ≡ refused 14 0
-unfolding orderAnswer wrongLength misfits recordLength unitCount wrongPositions paddingSet padSet unclean pad wrongEdges some badEdge precedes
-    ascending wrongRacks wrongPlaces repeats orderOf floorOf startsOf goalsOf positionCount edgeCount rackCount field number bitsOf bits
-    pairs positions
+unfolding orderAnswer wrongLength misfits recordLength unitCount wrongPositions paddingSet padSet unclean pad wrongEdges some badEdge
+    precedes ascending wrongRacks wrongPlaces repeats orderOf floorOf startsOf goalsOf positionCount edgeCount rackCount field number
+    bitsOf bits pairs positions
 meets-14 = refl

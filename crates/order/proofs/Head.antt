@@ -37,12 +37,12 @@ pub short : (s : List ℕ) → length s < 3 → refused 10 0 ≡ headAnswer s
 unfolding headAnswer wrongLength
 short s h = simp (misfits-short s (unitCount s) h)
 
-module _ (s : List ℕ) (n e m : ℕ) (are : CountsOf s n e m) where
+module _ {s : List ℕ} {n e m : ℕ} (are : CountsOf s n e m) where
   units-are : 2 * (e + m) ≡ unitCount s
   unfolding unitCount
   units-are = omega arith
 
-  module _ (f : Bool) (t : f ≡ not (misfits s (2 * (e + m)))) where
+  module _ {f : Bool} (t : f ≡ not (misfits s (2 * (e + m)))) where
     length-test : f ≡ not (wrongLength s)
     unfolding wrongLength
     length-test = t ∙ ap (λ (u : ℕ). not (misfits s u)) units-are
@@ -66,7 +66,7 @@ module _ (s : List ℕ) (n e m : ℕ) (are : CountsOf s n e m) where
       unfolding headAnswer
       many k = simp (right-length, many-positions s (omega arith))
 
-      module _ (some : n ≡ 0 → ⊥) (few : n ≤ 64) (g : Bool) (u : g ≡ not (unclean s (2 * (e + m)))) where
+      module _ (some : n ≡ 0 → ⊥) (few : n ≤ 64) {g : Bool} (u : g ≡ not (unclean s (2 * (e + m)))) where
         positions-right : wrongPositions s ≡ false
         positions-right = right-positions s (λ z. some (are .positions-are ∙ z)) (omega arith)
 

@@ -1,9 +1,8 @@
 -- The layers of the answer, from the order reader's acceptance and the tests behind it.
 --
 --     order-refused      a refusal of the order reader is the answer
---     gave               what an accepted order tells
 --     not-one            29
---     rows-right, starts-stand, goals-stand    what the tables of the order are, behind 29
+--     starts-stand, goals-stand    what the tables of the order's racks are, behind 29
 --     apart              21
 --     colourless, contrary, agreeing    not judged where two colours will not do; with two colours impossible, or not judged
 -- Assumes nothing.
@@ -17,19 +16,20 @@ use borrow.Author.Tests.{eq-eqb, ne-eqb}
 use lib.ListN.{length}
 use lib.Dec.{eqb}
 use Rattle.answers.specs.Answer.{Answer, accepted, refused, refuse, passUp}
-use Rattle.answers.proofs.AnswerLaws.{passUp-refused, passUp-accepted}
+use Rattle.answers.proofs.AnswerLaws.{passUp-accepted}
 use Rattle.order.specs.Order.{positionCount, rackCount, floorOf, startsOf, goalsOf, orderAnswer}
-use Rattle.order.specs.Tables.{rowsOf, racksAt, decodedRows, decodedStarts, decodedGoals}
+use Rattle.order.specs.Tables.{racksAt, decodedRows, decodedStarts, decodedGoals}
 use Rattle.order.proofs.TablesLaws.{decoded-starts, decoded-goals}
 use Rattle.motion.specs.Arrangement.{Arrangement}
 use Rattle.motion.specs.Sound.{Sound}
 use Rattle.tables.specs.Accepted.{OrderGave}
-use Rattle.tables.proofs.AcceptedLaws.{order-gave}
+use Rattle.tables.proofs.AcceptedLaws.{gave-accepted}
+use Rattle.tables.proofs.Layers.{handed-up}
 use Rattle.graph.specs.Connected.{BiConnected}
-use Rattle.graph.specs.Rows.{Edge, Rows}
+use Rattle.graph.specs.Rows.{Edge}
 use Rattle.floor.specs.FloorAnswer.{Joins, biConnected?, holds}
 use Rattle.floor.proofs.FloorLaws.{holds-yes, holds-no}
-use Rattle.floor.proofs.FloorRows.{edge-joins, joins-edge, biConnected-rows, filled-is, filled-rows}
+use Rattle.floor.proofs.FloorRows.{filled-joins, joins-filled, filled-biConnected}
 use Rattle.parity.specs.Colours.{TwoColours}
 use Rattle.parity.specs.Impossible.{Impossible}
 use Rattle.parity.specs.OneVacancy.{impossible?, judgement, vacancyAnswer}
@@ -47,23 +47,16 @@ behind o =
 pub order-refused : (o : List ℕ) (below r : Answer) (number place : ℕ) → below ≡ orderAnswer o → below ≡ refused number place
     → r ≡ passUp below (accepted (0 ∷ [])) → r ≡ vacancyAnswer o
 unfolding vacancyAnswer
-order-refused o below r number place is f e =
-    e
-    ∙ sym (passUp-refused below (accepted (0 ∷ [])) number place f)
-    ∙ passUp-refused below (behind o) number place f
-    ∙ ap (λ (b : Answer). passUp b (behind o)) is
+order-refused o below r number place = handed-up (accepted (0 ∷ [])) (behind o)
 
 -- a test that says no of what would hold if it said yes
 never : {A : Type 0} {r : Bool} → r ≡ false → (r ≡ true) ↔ A → A → ⊥
 never f t a = false≢true (sym f ∙ t .1 a)
 
-module _ (o : List ℕ) {n e m : ℕ} (a : accepted (n ∷ e ∷ m ∷ []) ≡ orderAnswer o) where
-  pub gave : OrderGave o n e m
-  gave = order-gave o n e m a
-
+module _ {o : List ℕ} {n e m : ℕ} (gave : OrderGave o n e m) where
   over : vacancyAnswer o ≡ behind o
   unfolding vacancyAnswer
-  over = passUp-accepted (orderAnswer o) (behind o) (n ∷ e ∷ m ∷ []) (sym a)
+  over = passUp-accepted (orderAnswer o) (behind o) (n ∷ e ∷ m ∷ []) (sym (gave-accepted gave))
 
   positions-are : n ≡ positionCount o
   unfolding floorOf
@@ -83,32 +76,26 @@ module _ (o : List ℕ) {n e m : ℕ} (a : accepted (n ∷ e ∷ m ∷ []) ≡ o
     vacancies : eqb (positionCount o - rackCount o) 1 ≡ true
     vacancies = let p = positions-are in let r = gave .racks-are in eq-eqb (positionCount o - rackCount o) 1 (omega arith)
 
-    stand : (A : Arrangement) (h : List ℕ) → h ≡ racksAt A → Sound (floorOf o .positions) A → length A ≡ rackCount o → Stands n A h
-    stand A h is sound count =
+    stand : (A : Arrangement) {h : List ℕ} → h ≡ racksAt A → Sound (floorOf o .positions) A → length A ≡ rackCount o → Stands n A h
+    stand A is sound count =
         let p = gave .positions-are in
         let r = gave .racks-are in
         let l = gave .placed-well .few-positions in
         record { few = omega arith; sound = rw p sound; one = omega arith; are = is }
 
-    pub starts-stand : (h : List ℕ) → h ≡ decodedStarts o → Stands n (startsOf o) h
-    starts-stand h is =
+    pub starts-stand : {h : List ℕ} → h ≡ decodedStarts o → Stands n (startsOf o) h
+    starts-stand is =
         let w = gave .placed-well in
-        stand (startsOf o) h (is ∙ decoded-starts o (gave .right)) (w .starts-sound) (w .starts-length)
+        stand (startsOf o) (is ∙ decoded-starts o (gave .right)) (w .starts-sound) (w .starts-length)
 
-    pub goals-stand : (h : List ℕ) → h ≡ decodedGoals o → Stands n (goalsOf o) h
-    goals-stand h is =
+    pub goals-stand : {h : List ℕ} → h ≡ decodedGoals o → Stands n (goalsOf o) h
+    goals-stand is =
         let w = gave .placed-well in
-        stand (goalsOf o) h (is ∙ decoded-goals o (gave .right)) (w .goals-sound) (w .goals-length)
+        stand (goalsOf o) (is ∙ decoded-goals o (gave .right)) (w .goals-sound) (w .goals-length)
 
-    module _ (g : List ℕ) (filled : g ≡ decodedRows o) where
-      rows-are : g ≡ rowsOf (floorOf o)
-      rows-are = filled-is o n e m gave g filled
-
-      pub rows-right : Rows n g
-      rows-right = filled-rows o n e m gave g filled
-
+    module _ {g : List ℕ} (filled : g ≡ decodedRows o) where
       same : BiConnected n (Edge g) ↔ BiConnected (floorOf o .positions) (Joins (floorOf o))
-      same = rw (gave .positions-are, rows-are) (biConnected-rows (floorOf o) (gave .placed-well .edges-below))
+      same = filled-biConnected gave filled
 
       pub apart : (r : Bool) → (r ≡ true) ↔ BiConnected n (Edge g) → r ≡ false → refused 21 0 ≡ vacancyAnswer o
       apart r t f = sym (over ∙ rw (vacancies, holds-no (biConnected? (floorOf o)) (λ b. never f t (same .1 b))) refl)
@@ -132,25 +119,25 @@ module _ (o : List ℕ) {n e m : ℕ} (a : accepted (n ∷ e ∷ m ∷ []) ≡ o
         to-rows : (c : ℕ → Bool) → TwoColours (floorOf o .positions) (Joins (floorOf o)) c → TwoColours n (Edge g) c
         to-rows c two u v lu lv j =
             two u v (rw (gave .positions-are) at lu) (rw (gave .positions-are) at lv)
-            (edge-joins (floorOf o) (gave .placed-well .edges-below) u v (rw rows-are at j))
+            (filled-joins gave filled u v j)
 
         from-rows : (c : ℕ → Bool) → TwoColours n (Edge g) c → TwoColours (floorOf o .positions) (Joins (floorOf o)) c
         from-rows c two u v lu lv j =
             two u v (rw (gave .positions-are) lu) (rw (gave .positions-are) lv)
-            (rw rows-are (joins-edge (floorOf o) (gave .placed-well .edges-below) u v j))
+            (joins-filled gave filled u v j)
 
-        pub colourless : (t : Bool) (light : ℕ) → ColouredBy n (Edge g) t light → t ≡ false → accepted (0 ∷ []) ≡ vacancyAnswer o
-        colourless t light by f =
+        pub colourless : {t : Bool} {light : ℕ} → ColouredBy n (Edge g) t light → t ≡ false → accepted (0 ∷ []) ≡ vacancyAnswer o
+        colourless by f =
             not-told (λ i. never f (by .decides) (record { colour = i .colour; joins-both = to-rows (i .colour) (i .joins-both) }))
 
-        module _ (t : Bool) (light : ℕ) (by : ColouredBy n (Edge g) t light) (y : t ≡ true) (h k : List ℕ) (hs : h ≡ decodedStarts o)
-            (ks : k ≡ decodedGoals o) (r : Bool) (on : ContraryOn n h k light r) where
+        module _ {t : Bool} {light : ℕ} (by : ColouredBy n (Edge g) t light) (y : t ≡ true) {h k : List ℕ} (hs : h ≡ decodedStarts o)
+            (ks : k ≡ decodedGoals o) {r : Bool} (on : ContraryOn n h k light r) where
           decided : (r ≡ true) ↔ Hopeless
           decided =
               let S = startsOf o in
               let G = goalsOf o in
-              let s = starts-stand h hs in
-              let g′ = goals-stand k ks in
+              let s = starts-stand hs in
+              let g′ = goals-stand ks in
               let d = on .decides S G s g′ in
               let p : n ≡ floorOf o .positions = gave .positions-are in
               let by-colours =

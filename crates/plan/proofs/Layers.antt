@@ -5,7 +5,7 @@
 --     RecordGave, record-gave  what an accepted record tells
 --     plan-room         the moves have room in the plan's tail
 --     judgement-is      the judgement on tables is document 01's
---     order-turned-down, record-turned-down, answer-is   the checker's answer at each return
+--     answer-is         the checker's answer where both readers accept
 -- Assumes nothing.
 use Prim.Native.Nat.{ℕ, _-_, _*_, _^_, _≤_, _<_}
 use mathlib.Core.Path.{_≡_, refl, sym, _∙_}
@@ -13,7 +13,7 @@ use mathlib.Core.Bool.{Bool, true, false}
 use mathlib.Core.List.{List, [], _∷_}
 use native.Mathlib.Omega.{arith}
 use lib.ListN.{length, take, drop}
-use Rattle.answers.specs.Answer.{Answer, accepted, refused, refuse, passUp}
+use Rattle.answers.specs.Answer.{Answer, accepted, refuse, passUp}
 use Rattle.answers.proofs.AnswerLaws.{refuse-not, refuse-else}
 use Rattle.field.specs.Bits.{field}
 use Rattle.field.specs.Listed.{moveSize, listedMoves, ListedFit}
@@ -26,7 +26,7 @@ use Rattle.order.proofs.TailLaws.{tail-edges, tail-starts, tail-goals}
 use Rattle.motion.specs.Replay.{replayListed}
 use Rattle.motion.specs.Judgement.{judged}
 use Rattle.tables.specs.Accepted.{OrderGave}
-use Rattle.tables.proofs.Layers.{order-refused, record-refused, all-accepted}
+use Rattle.tables.proofs.Layers.{all-accepted}
 use Rattle.tables.proofs.MovesOnLaws.{matrixOf, tableOf, moves-judged}
 use Rattle.plan.specs.Plan.{named, moveCount, planListed, planUnits, wrongPlanLength, planPaddingSet, planAnswer}
 use Rattle.plan.specs.Readers.{recordAnswer, tableAnswer}
@@ -47,6 +47,7 @@ plan-is o p = chain (wrongPlanLength p) (planPaddingSet p)
     chain false false = refl
 
 pub record RecordGave (p : List ℕ) (k : ℕ) : Type 0 where
+  pub accepted-is : accepted (k ∷ []) ≡ recordAnswer p
   pub length-right : wrongPlanLength p ≡ false
   pub padding-clear : planPaddingSet p ≡ false
   pub fit : Fitting p (planUnits p)
@@ -63,6 +64,7 @@ record-gave p k a =
     let l : wrongPlanLength p ≡ false = refuse-not (wrongPlanLength p) 30 0 a₁ (k ∷ []) (sym a) in
     let count : k ≡ field p 0 22 = cc e₂ in
     record {
+      accepted-is = a;
       length-right = l;
       padding-clear = refuse-not (planPaddingSet p) 31 0 (accepted (field p 0 22 ∷ [])) (k ∷ []) e₁;
       fit = fitting p (planUnits p) l;
@@ -70,20 +72,21 @@ record-gave p k a =
       count-below = omega (arith, field-lt p 0 22);
     }
 
-module _ (o : List ℕ) (n e m : ℕ) (gave : OrderGave o n e m) (p : List ℕ) (k : ℕ) (record-is : RecordGave p k) where
-  pub plan-room : (e : Bool) → e ≡ named p → 6 * (moveSize e * k) ≤ 8 * length (take (length p - 3) (drop 3 p))
+module _ {p : List ℕ} {k : ℕ} (record-is : RecordGave p k) where
+  pub plan-room : {e : Bool} → e ≡ named p → 6 * (moveSize e * k) ≤ 8 * length (take (length p - 3) (drop 3 p))
   unfolding planUnits
-  plan-room e is = rw (is, record-is .count-is) (tail-units p (planUnits p) (record-is .fit))
+  plan-room is = rw (is, record-is .count-is) (tail-units p (planUnits p) (record-is .fit))
 
   moves-are : (e : Bool) → e ≡ named p → listedMoves e (take (length p - 3) (drop 3 p)) 0 k ≡ planListed p
   unfolding planListed
   moves-are e is = rw (rest-is 3 p, ← listed-drop e p 3 0 k, record-is .count-is, is) refl
 
-  -- the order and the plan behind their heads
-  abbrev rest : List ℕ → List ℕ
-  rest l = take (length l - 3) (drop 3 l)
+-- the order and the plan behind their heads
+abbrev rest : List ℕ → List ℕ
+rest l = take (length l - 3) (drop 3 l)
 
-  module _ (named-is : Bool) (edition : named-is ≡ named p) where
+module _ {o : List ℕ} {n e m : ℕ} (gave : OrderGave o n e m) {p : List ℕ} {k : ℕ} (record-is : RecordGave p k) where
+  module _ {named-is : Bool} (edition : named-is ≡ named p) where
     pub judgement-is : tableAnswer (rest o) e m (rest p) named-is k ≡ judgement o p
     unfolding tableAnswer
     judgement-is =
@@ -92,24 +95,10 @@ module _ (o : List ℕ) (n e m : ℕ) (gave : OrderGave o n e m) (p : List ℕ) 
         let starts = tail-starts o e m (gave .edges-are) (gave .racks-are) in
         let goals = tail-goals o e m (gave .edges-are) (gave .racks-are) in
         let fits : ListedFit (named p) (planListed p) = unfold planListed in listed-fit (named p) p 24 (moveCount p) in
-        rw (edges, starts, goals, moves-are named-is edition, record-is .count-is)
+        rw (edges, starts, goals, moves-are record-is named-is edition, record-is .count-is)
         (unfold matrixOf tableOf in
         moves-judged (floorOf o) (w .few-positions) (w .edges-below) (w .edges-right) (startsOf o) (w .starts-sound)
         fits 33 (goalsOf o) (moveCount p ∷ []) (w .goals-length ∙ sym (w .starts-length)))
 
-    pub answer-is : accepted (n ∷ e ∷ m ∷ []) ≡ orderAnswer o → accepted (k ∷ []) ≡ recordAnswer p
-        → tableAnswer (rest o) e m (rest p) named-is k ≡ planAnswer o p
-    answer-is a b =
-        judgement-is
-        ∙ all-accepted (planAnswer o p) (orderAnswer o) (recordAnswer p) (judgement o p) (plan-is o p) (n ∷ e ∷ m ∷ []) a (k ∷ []) b
-
--- a refusal below is the answer above
-pub order-turned-down : (o p : List ℕ) (below r : Answer) (number place : ℕ) → below ≡ orderAnswer o → below ≡ refused number place
-    → r ≡ passUp below (accepted (0 ∷ [])) → r ≡ planAnswer o p
-order-turned-down o p below r =
-    order-refused (planAnswer o p) (orderAnswer o) (recordAnswer p) (judgement o p) (plan-is o p) below r (accepted (0 ∷ []))
-
-pub record-turned-down : (o p counted : List ℕ) (head : Answer) (number place : ℕ) → accepted counted ≡ orderAnswer o
-    → head ≡ recordAnswer p → head ≡ refused number place → head ≡ planAnswer o p
-record-turned-down o p counted head number place a =
-    record-refused (planAnswer o p) (orderAnswer o) (recordAnswer p) (judgement o p) (plan-is o p) counted a head number place
+    pub answer-is : tableAnswer (rest o) e m (rest p) named-is k ≡ planAnswer o p
+    answer-is = judgement-is ∙ all-accepted o (recordAnswer p) (judgement o p) (plan-is o p) gave (record-is .accepted-is)

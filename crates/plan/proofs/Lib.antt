@@ -2,7 +2,6 @@ pub mod Listing
 pub mod Record
 pub mod MoveTests
 pub mod Turns
-pub mod Judging
 pub mod Layers
 pub mod Examples
 pub mod Limits

@@ -1,10 +1,10 @@
 -- From an accepted order that can be planned to the moves of its plan.
 --
---     start-holds, goal-holds    the tables that the order's starts and goals fill
+--     start-placed, goal-placed  the tables that the order's starts and goals fill
 --     off-ring, on-ring          the number of edges tells which kind of floor it is
 --     ring-tables, ring-order    on a ring, what it is decoded to, and the order of its racks
 --     room-racks                 off rings, two vacancies at least
---     rows-right, broken         the rows of its floor, and off rings that they have a breakdown
+--     broken                     off rings the rows of its floor have a breakdown
 --     none-needed                where the two tables agree there is nothing to move
 --     planned                    what the trip from the one to the other writes is a plan
 -- Assumes nothing.
@@ -13,60 +13,43 @@ use mathlib.Core.Path.{_≡_, refl, sym, ap, subst, _∙_}
 use mathlib.Core.List.{List, []}
 use mathlib.Core.Logic.{_≢_, ⊎-elim}
 use native.Mathlib.Omega.{arith}
-use lib.Dec.{T}
 use lib.ListN.{length}
 use Rattle.field.specs.Listed.{movesOf}
 use Rattle.field.proofs.ListedLaws.{length-movesOf}
-use Rattle.order.specs.Floor.{Floor, joined}
+use Rattle.order.specs.Floor.{Floor}
 use Rattle.order.specs.Order.{positionCount, rackCount, floorOf, startsOf, goalsOf}
-use Rattle.order.specs.Tables.{racksAt, decodedRows, decodedStarts, decodedGoals}
-use Rattle.order.proofs.TablesLaws.{decoded-starts, decoded-goals}
+use Rattle.order.specs.Tables.{decodedRows, decodedStarts, decodedGoals}
 use Rattle.motion.specs.Replay.{ended, replayMoves, replayFrom, listed}
 use Rattle.motion.specs.Sound.{Sound}
 use Rattle.tables.proofs.TablesLaws.{Holds}
-use Rattle.tables.proofs.TableLaws.{placed-holds}
 use Rattle.tables.specs.Accepted.{OrderGave}
-use Rattle.graph.specs.Rows.{Edge, Rows}
 use Rattle.breakdown.specs.Answer.{Answer}
+use Rattle.graph.specs.Rows.{row}
 use Rattle.shunting.specs.declared.State.{State}
 use Rattle.shunting.specs.Went.{Same}
 use Rattle.shunting.proofs.WentLaws.{same-refl}
-use Rattle.shunting.specs.Journey.{row, Packed, Trip}
+use Rattle.shunting.specs.Journey.{Packed, Trip}
 use Rattle.shunting.proofs.JourneyLaws.{packed-nothing, trip-packed, went-written}
 use Rattle.solving.specs.Placed.{Placed, Filled}
 use Rattle.solving.proofs.Planned.{trip-planned}
 use Rattle.floor.specs.FloorAnswer.{SameRound}
 use Rattle.floor.specs.RingTables.{RingTables}
-use Rattle.floor.proofs.FloorRows.{edge-joins, filled-is, filled-rows}
+use Rattle.floor.proofs.FloorRows.{filled-is, filled-onFloor}
 use Rattle.floor.specs.Plannable.{OffRing, OnRing, Plannable}
 use Rattle.floor.proofs.FloorLaws.{onRing-rows, offRing-rows}
 use Rattle.floor.proofs.Layers.{edges-length}
 use Rattle.planner.proofs.OrderTables.{held-by, held-placed, held-agree, tables-alike}
 use Rattle.planner.specs.Moves.{Moves}
 
-module _ (o : List ℕ) (n e m : ℕ) (gave : OrderGave o n e m) where
-  pub start-holds : (h : List ℕ) → h ≡ decodedStarts o → Holds (startsOf o) h
-  unfolding racksAt
-  start-holds h is =
-      let w = gave .placed-well in
-      subst (Holds (startsOf o)) (sym (is ∙ decoded-starts o (gave .right)))
-      (placed-holds (floorOf o .positions) (startsOf o) (w .few-positions) (w .starts-sound))
-
-  pub goal-holds : (h : List ℕ) → h ≡ decodedGoals o → Holds (goalsOf o) h
-  unfolding racksAt
-  goal-holds h is =
-      let w = gave .placed-well in
-      subst (Holds (goalsOf o)) (sym (is ∙ decoded-goals o (gave .right)))
-      (placed-holds (floorOf o .positions) (goalsOf o) (w .few-positions) (w .goals-sound))
-
-  pub start-placed : (h : List ℕ) → Holds (startsOf o) h → Placed n m (row h)
-  start-placed h holds =
+module _ {o : List ℕ} {n e m : ℕ} (gave : OrderGave o n e m) where
+  pub start-placed : {h : List ℕ} → Holds (startsOf o) h → Placed n m (row h)
+  start-placed holds =
       let w = gave .placed-well in
       held-placed holds n m (subst (λ (k : ℕ). Sound k (startsOf o)) (sym (gave .positions-are)) (w .starts-sound))
       (w .starts-length ∙ sym (gave .racks-are))
 
-  pub goal-placed : (h : List ℕ) → Holds (goalsOf o) h → Placed n m (row h)
-  goal-placed h holds =
+  pub goal-placed : {h : List ℕ} → Holds (goalsOf o) h → Placed n m (row h)
+  goal-placed holds =
       let w = gave .placed-well in
       held-placed holds n m (subst (λ (k : ℕ). Sound k (goalsOf o)) (sym (gave .positions-are)) (w .goals-sound))
       (w .goals-length ∙ sym (gave .racks-are))
@@ -85,8 +68,8 @@ module _ (o : List ℕ) (n e m : ℕ) (gave : OrderGave o n e m) where
         (λ k. k)
         (plannable .kind)
 
-    pub ring-tables : e ≡ n → (g h k : List ℕ) → g ≡ decodedRows o → h ≡ decodedStarts o → k ≡ decodedGoals o → RingTables o n m g h k
-    ring-tables s g h k rows starts goals =
+    pub ring-tables : e ≡ n → {g h k : List ℕ} → g ≡ decodedRows o → h ≡ decodedStarts o → k ≡ decodedGoals o → RingTables o n m g h k
+    ring-tables s rows starts goals =
         let ring = on-ring s in
         let v = ring .vacancy in
         let a = gave .positions-are ∙ positions-is in
@@ -94,7 +77,7 @@ module _ (o : List ℕ) (n e m : ℕ) (gave : OrderGave o n e m) where
         record {
           edges = e;
           gave = gave;
-          rings = rw (gave .positions-are, filled-is o n e m gave g rows) (onRing-rows o (plannable .right) ring);
+          rings = rw (gave .positions-are, filled-is gave rows) (onRing-rows o (plannable .right) ring);
           less = omega arith;
           rows-are = rows;
           starts-are = starts;
@@ -114,39 +97,27 @@ module _ (o : List ℕ) (n e m : ℕ) (gave : OrderGave o n e m) where
         positions-is : floorOf o .positions ≡ positionCount o
         positions-is = unfold floorOf in refl
 
-    module _ (g : List ℕ) (filled : g ≡ decodedRows o) where
-      pub rows-right : Rows n g
-      rows-right = filled-rows o n e m gave g filled
-
-      pub broken : e ≢ n → (r c : ℕ) (a s l t : List ℕ) → Answer n g r c a s l t → 0 < r
-      broken d r c a s l t answer =
+    module _ {g : List ℕ} (filled : g ≡ decodedRows o) where
+      pub broken : e ≢ n → {r c : ℕ} {a s l t : List ℕ} → Answer n g r c a s l t → 0 < r
+      broken d answer =
           answer .exactly .1
-          (rw (gave .positions-are, filled-is o n e m gave g filled) (offRing-rows o plannable (off-ring d)))
-
-      joins : (a b : ℕ) → Edge g a b → (a < floorOf o .positions) × (b < floorOf o .positions) × T (joined (floorOf o) a b)
-      joins a b edge =
-          let l = rows-right .inside a b edge in
-          let p = gave .positions-are in (
-            subst (λ (k : ℕ). a < k) p (l .0),
-            subst (λ (k : ℕ). b < k) p (l .1),
-            edge-joins (floorOf o) (gave .placed-well .edges-below) a b
-                (subst (λ (x : List ℕ). Edge x a b) (filled-is o n e m gave g filled) edge),
-          )
+          (rw (gave .positions-are, filled-is gave filled) (offRing-rows o plannable (off-ring d)))
 
       -- the racks `start`, with those of the order real and nothing written yet
       abbrev begun : List ℕ → State
       begun start = record { racks = start; real = m; written = 0; logged = 0 }
 
-      pub planned : (h k start goal t : List ℕ) {t′ : List ℕ} {s : State} → Holds (startsOf o) h → Holds (goalsOf o) k
+      pub planned : {h k : List ℕ} (start goal t : List ℕ) {t′ : List ℕ} {s : State} → Holds (startsOf o) h → Holds (goalsOf o) k
           → (((p : ℕ) → p < 64 → row h p ≡ row k p) → ⊥)
           → Filled m (row h) (row start) → Filled m (row k) (row goal) → 18 * (n * (n * n)) ≤ length t
           → {c : ℕ} → c ≤ 8 * (n * (n * n)) → Trip g c (begun start) t s t′ → Same (row (s .racks)) (row goal)
           → Moves o n t t′ (s .written)
-      planned h k start goal t {t′} a b differ fa fb room most trip ends =
+      planned {h} {k} start goal t {t′} a b differ fa fb room most trip ends =
           let well = gave .placed-well in
           let made =
-          trip-planned (floorOf o) joins n (begun start) (startsOf o) (goalsOf o) (row h) (row k) (row start) (row goal)
-          (well .starts-length ∙ sym (well .goals-length)) (held-by a) (held-by b) (start-placed h a) (goal-placed k b) fa fb trip
+          trip-planned (floorOf o) (filled-onFloor gave filled) n (begun start) (startsOf o) (goalsOf o) (row h) (row k) (row start)
+          (row goal)
+          (well .starts-length ∙ sym (well .goals-length)) (held-by a) (held-by b) (start-placed a) (goal-placed b) fa fb trip
           (same-refl (row start)) ends in
           let long = length-movesOf (trip .written) in
           let x = went-written (trip .went) in
@@ -166,9 +137,10 @@ module _ (o : List ℕ) (n e m : ℕ) (gave : OrderGave o n e m) where
           same-tables : startsOf o ≡ goalsOf o → (p : ℕ) → p < 64 → row h p ≡ row k p
           same-tables e p l = held-agree (subst (λ (A : List ℕ). Holds A h) e a) b p
 
-  pub none-needed : (h k t : List ℕ) → Holds (startsOf o) h → Holds (goalsOf o) k → ((p : ℕ) → p < 64 → row h p ≡ row k p) → Moves o n t t 0
+  pub none-needed : {h k : List ℕ} (t : List ℕ) → Holds (startsOf o) h → Holds (goalsOf o) k → ((p : ℕ) → p < 64 → row h p ≡ row k p)
+      → Moves o n t t 0
   unfolding listed
-  none-needed h k t a b same =
+  none-needed t a b same =
       let well = gave .placed-well in
       let alike =
       tables-alike (floorOf o .positions) (rackCount o) (well .starts-sound) a b (well .starts-length) (well .goals-length) same in

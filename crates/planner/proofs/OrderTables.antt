@@ -16,7 +16,7 @@ use Rattle.motion.specs.Arrangement.{Arrangement}
 use Rattle.motion.proofs.ArrangementLaws.{occupied-rack, vacant-racks, occupied-or-vacant}
 use Rattle.motion.specs.Sound.{Sound}
 use Rattle.tables.proofs.TablesLaws.{Holds}
-use Rattle.shunting.specs.Journey.{row}
+use Rattle.graph.specs.Rows.{row}
 use Rattle.solving.specs.Placed.{Placed}
 use Rattle.solving.proofs.Held.{HeldBy, held-one, held-same}
 

@@ -14,13 +14,13 @@ use native.Mathlib.Decide.{ℕ-discrete, decLt}
 use native.Mathlib.Nat.{mul-le-mul-right, one-mul}
 use native.Mathlib.Omega.{arith}
 use lib.ListN.{length}
-use Rattle.graph.specs.Rows.{Edge, Rows}
+use Rattle.graph.specs.Rows.{row, Edge, Rows}
 use Rattle.ring.specs.Circle.{Circle}
 use Rattle.ring.proofs.CircleLaws.{circle-every}
 use Rattle.shunting.specs.declared.State.{State}
 use Rattle.shunting.specs.Went.{Same, Went}
 use Rattle.shunting.specs.Went.Went.{stay, real, stand-in}
-use Rattle.shunting.specs.Journey.{row, Space, Trip}
+use Rattle.shunting.specs.Journey.{Space, Trip}
 use Rattle.circling.specs.Needs.{roundMoves}
 use Rattle.solving.specs.Placed.{Placed, Filled}
 

@@ -21,9 +21,8 @@ use Rattle.motion.proofs.Lawful.{replayMoves-ended}
 use Rattle.motion.specs.Sound.{Sound}
 use Rattle.tables.specs.Accepted.{WellPlaced}
 use Rattle.tables.proofs.AcceptedLaws.{well-placed}
-use Rattle.graph.specs.Rows.{Edge}
+use Rattle.graph.specs.Rows.{row, Edge}
 use Rattle.ring.specs.Circle.{roundOf, edgeIn}
-use Rattle.ring.specs.Standing.{row}
 use Rattle.ring.proofs.CircleLaws.{circle-every}
 use Rattle.shunting.proofs.WentLaws.{went-to}
 use Rattle.solving.specs.Placed.{Placed}
@@ -31,7 +30,9 @@ use Rattle.solving.proofs.Held.{went-replayed}
 use Rattle.floor.specs.FloorAnswer.{roundPlace, SameRound}
 use Rattle.floor.specs.RoundDecision.{sameOrder?}
 use Rattle.floor.specs.RingTables.{RingTables}
-use Rattle.floor.proofs.FloorRows.{filled-is, edge-joins}
+use Rattle.tables.specs.Accepted.{OrderGave}
+use Rattle.tables.proofs.AcceptedLaws.{order-gave}
+use Rattle.floor.proofs.FloorRows.{filled-onFloor}
 use Rattle.floor.proofs.Layers.{ring-other, ring-plain, rings, ring-tables}
 use Rattle.floor.proofs.RoundTables.{rows, starts-hold, goals-hold, starts-on, goals-on}
 use Rattle.planner.specs.Rings.{OnRingFloor, TurnedDown}
@@ -47,8 +48,8 @@ module _ (o : List ℕ) (f : OnRingFloor o) where
   abbrev m : ℕ
   m = rackCount o
 
-  told : accepted (n ∷ edgeCount o ∷ m ∷ []) ≡ orderAnswer o
-  told = unfold counts in sym (accepted-is o (f .right))
+  gave : OrderGave o n (edgeCount o) m
+  gave = order-gave o n (edgeCount o) m (unfold counts in sym (accepted-is o (f .right)))
 
   abbrev g : List ℕ
   g = decodedRows o
@@ -63,7 +64,7 @@ module _ (o : List ℕ) (f : OnRingFloor o) where
   less = let v = f .vacancy in omega arith
 
   t : RingTables o n m g h k
-  t = ring-tables o n (edgeCount o) m told g refl (rings o n (edgeCount o) m told g refl .1 (f .ring)) less h k refl refl
+  t = ring-tables gave refl (rings gave refl .1 (f .ring)) less refl refl
 
   well : WellPlaced o
   well = well-placed o (f .right)
@@ -74,37 +75,28 @@ module _ (o : List ℕ) (f : OnRingFloor o) where
   abbrev way : List ℕ
   way = roundOf n (edgeIn g)
 
-  joins : (a b : ℕ) → Edge g a b → (a < floorOf o .positions) × (b < floorOf o .positions) × T (joined (floorOf o) a b)
-  joins a b edge =
-      let l = rows o n m g h k t .inside a b edge in
-      let p = t .gave .positions-are in (
-        subst (λ (x : ℕ). a < x) p (l .0),
-        subst (λ (x : ℕ). b < x) p (l .1),
-        edge-joins (floorOf o) (well .edges-below) a b
-            (subst (λ (x : List ℕ). Edge x a b) (filled-is o n (t .edges) m (t .gave) g refl) edge),
-      )
-
   sound-at : {A : List ℕ} → Sound (floorOf o .positions) A → Sound n A
   sound-at {A} s = subst (λ (x : ℕ). Sound x A) (sym (t .gave .positions-are)) s
 
   starts-placed : Placed n m (row h)
-  starts-placed = held-placed (starts-hold o n m g h k t) n m (sound-at (well .starts-sound)) (well .starts-length)
+  starts-placed = held-placed (starts-hold t) n m (sound-at (well .starts-sound)) (well .starts-length)
 
   goals-placed : Placed n m (row k)
-  goals-placed = held-placed (goals-hold o n m g h k t) n m (sound-at (well .goals-sound)) (well .goals-length)
+  goals-placed = held-placed (goals-hold t) n m (sound-at (well .goals-sound)) (well .goals-length)
 
   pub ring-planned : SameRound (floorOf o) m (startsOf o) (goalsOf o)
       → (ms : List (ℕ × ℕ)) × (replayMoves (floorOf o) (startsOf o) ms ≡ ended (goalsOf o))
   ring-planned same =
-      let c = circle o n m g h k t in
-      let r = reached three (rows o n m g h k t .small) less c (rows o n m g h k t .symmetric) (starts-on o n m g h k t way c (λ i l. refl))
-      (goals-on o n m g h k t way c (λ i l. refl)) (stand-of o n m g h k t (well .starts-sound) (well .starts-length)
-      (starts-hold o n m g h k t))
-      (stand-of o n m g h k t (well .goals-sound) (well .goals-length) (goals-hold o n m g h k t)) (places-round o n m g h k t (startsOf o)
+      let c = circle t in
+      let r = reached three (rows t .small) less c (rows t .symmetric) (starts-on t way c (λ i l. refl))
+      (goals-on t way c (λ i l. refl)) (stand-of t (well .starts-sound) (well .starts-length)
+      (starts-hold t))
+      (stand-of t (well .goals-sound) (well .goals-length) (goals-hold t)) (places-round t (startsOf o)
       (goalsOf o) same) in (
         r .moves,
-        went-replayed (floorOf o) joins (startsOf o) (goalsOf o) (goals-placed .one) (well .starts-length ∙ sym (well .goals-length))
-            (held-by (starts-hold o n m g h k t)) (held-by (goals-hold o n m g h k t)) (went-to (λ p. everywhere r p) (r .went)),
+        went-replayed (floorOf o) (filled-onFloor (t .gave) (t .rows-are)) (startsOf o) (goalsOf o) (goals-placed .one)
+            (well .starts-length ∙ sym (well .goals-length))
+            (held-by (starts-hold t)) (held-by (goals-hold t)) (went-to (λ p. everywhere r p) (r .went)),
       )
     where
       off : (f : ℕ → ℕ) → Placed n m f → (p : ℕ) → (p < n → ⊥) → f p ≡ 0
@@ -114,10 +106,10 @@ module _ (o : List ℕ) (f : OnRingFloor o) where
       everywhere r p =
           by-cases (decLt p n)
           (λ l.
-          let e = circle-every three (circle o n m g h k t) p l in
+          let e = circle-every three (circle t) p l in
           ap (r .end) (sym (e .2)) ∙ r .there (e .0) (e .1) ∙ ap (row k) (e .2))
           (λ out.
-          went-outside n p (rows o n m g h k t .inside) (omega arith) (r .went) ∙ off (row h) starts-placed p out ∙ sym (off
+          went-outside n p (rows t .inside) (omega arith) (r .went) ∙ off (row h) starts-placed p out ∙ sym (off
           (row k) goals-placed p out))
 
   clash : {v : List ℕ} {x p : ℕ} → accepted v ≡ refused x p → ⊥
@@ -127,10 +119,10 @@ module _ (o : List ℕ) (f : OnRingFloor o) where
   ring-turned-down = (
     λ down ms e.
         let leads = replayMoves-ended (floorOf o) (startsOf o) ms (goalsOf o) .0 e in
-        let same = moves-kept o n m g h k t (well .starts-sound) (well .starts-length) leads in
-        clash (ring-plain o n (edgeCount o) m told (f .ring) less same ∙ down),
+        let same = moves-kept t (well .starts-sound) (well .starts-length) leads in
+        clash (ring-plain gave (f .ring) less same ∙ down),
     λ none.
         by-cases (sameOrder? m (roundPlace (floorOf o) (startsOf o)) (roundPlace (floorOf o) (goalsOf o)))
         (λ same. absurd (let p = ring-planned same in none (p .0) (p .1)))
-        (λ other. sym (ring-other o n (edgeCount o) m told (f .ring) less other)),
+        (λ other. sym (ring-other gave (f .ring) less other)),
   )

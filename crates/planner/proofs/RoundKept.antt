@@ -26,16 +26,16 @@ use Rattle.motion.proofs.Lawful.{Leads}
 use Rattle.motion.proofs.Lawful.Lawful.{still, _then_}
 use Rattle.motion.proofs.SoundLaws.{move-sound}
 use Rattle.tables.proofs.TablesLaws.{Holds}
-use Rattle.graph.specs.Rows.{Edge}
+use Rattle.graph.specs.Rows.{row, Edge}
 use Rattle.ring.specs.Circle.{Circle, next, roundOf, edgeIn, placeIn}
 use Rattle.ring.specs.Order.{InTurn, Rack, SameOrder}
-use Rattle.ring.specs.Standing.{row, StandAt}
+use Rattle.ring.specs.Standing.{StandAt}
 use Rattle.ring.proofs.CircleLaws.{Degree, next-is, circle-every, circle-neighbours}
 use Rattle.ring.proofs.OrderLaws.{turn-on, turn-off}
 use Rattle.ring.proofs.RoundLaws.{ring-degree, edge-test, round-circle, round-place}
 use Rattle.floor.specs.FloorAnswer.{roundPlace, SameRound}
 use Rattle.floor.specs.RingTables.{RingTables}
-use Rattle.floor.proofs.FloorRows.{joins-edge, filled-is}
+use Rattle.floor.proofs.FloorRows.{joins-filled}
 use Rattle.floor.proofs.RoundTables.{rows, round-is, held-there, order-along}
 
 pub turn-moved : (n i j y z : ℕ) → i < n → j < n → y < n → z < n → (j ≡ next n i) ⊎ (i ≡ next n j) → y ≢ j → z ≢ j → InTurn i y z
@@ -104,7 +104,7 @@ module _ (n i j : ℕ) (li : i < n) (lj : j < n) (near : (j ≡ next n i) ⊎ (i
       gz)
       gy
 
-module _ (o : List ℕ) (n m : ℕ) (g h k : List ℕ) (t : RingTables o n m g h k) where
+module _ {o : List ℕ} {n m : ℕ} {g h k : List ℕ} (t : RingTables o n m g h k) where
   abbrev F : Floor
   F = floorOf o
 
@@ -112,10 +112,10 @@ module _ (o : List ℕ) (n m : ℕ) (g h k : List ℕ) (t : RingTables o n m g h
   way = roundOf n (edgeIn g)
 
   floor : Degree n (Edge g)
-  floor = ring-degree (rows o n m g h k t) (t .rings)
+  floor = ring-degree (rows t) (t .rings)
 
   pub circle : Circle n (Edge g) (λ i. getD way i 0)
-  circle = round-circle floor (edgeIn g) (edge-test (rows o n m g h k t) (t .rings))
+  circle = round-circle floor (edgeIn g) (edge-test (rows t) (t .rings))
 
   abbrev place : ℕ → ℕ
   place p = placeIn way p
@@ -123,12 +123,12 @@ module _ (o : List ℕ) (n m : ℕ) (g h k : List ℕ) (t : RingTables o n m g h
   place-of : (p : ℕ) → p < n → (place p < n) × (getD way (place p) 0 ≡ p)
   place-of p l =
       let c = circle-every (floor .three) circle p l in
-      let e = round-place floor (edgeIn g) (edge-test (rows o n m g h k t) (t .rings)) p l (c .0) (c .1) (c .2) in
+      let e = round-place floor (edgeIn g) (edge-test (rows t) (t .rings)) p l (c .0) (c .1) (c .2) in
       (subst (λ (x : ℕ). x < n) (sym e) (c .1), ap (λ (x : ℕ). getD way x 0) e ∙ c .2)
 
   place-is : (A : Arrangement) (r : ℕ) → roundPlace F A r ≡ place (stands A r)
   unfolding roundPlace
-  place-is A r = ap (λ (l : List ℕ). placeIn l (stands A r)) (sym (round-is o n m g h k t))
+  place-is A r = ap (λ (l : List ℕ). placeIn l (stands A r)) (sym (round-is t))
 
   -- where the racks of an arrangement stand on the circle
   pub places-of : Arrangement → ℕ → ℕ
@@ -176,8 +176,7 @@ module _ (o : List ℕ) (n m : ℕ) (g h k : List ℕ) (t : RingTables o n m g h
 
     edge : Edge g a b
     edge =
-        subst (λ (x : List ℕ). Edge x a b) (sym (filled-is o n (t .edges) m (t .gave) g (t .rows-are)))
-        (joins-edge F (t .gave .placed-well .edges-below) a b (onFloor-parts F (a, b) .0 (legal-parts F A (a, b) .0 legal .0) .2))
+        joins-filled (t .gave) (t .rows-are) a b (onFloor-parts F (a, b) .0 (legal-parts F A (a, b) .0 legal .0) .2)
 
     near : (place b ≡ next n (place a)) ⊎ (place a ≡ next n (place b))
     near =

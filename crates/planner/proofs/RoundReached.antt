@@ -20,7 +20,8 @@ use lib.Seq.{getD-set-same, getD-set-other}
 use Rattle.graph.specs.Walk.{Symmetric}
 use Rattle.ring.specs.Circle.{Circle, next}
 use Rattle.ring.specs.Order.{Rack, SameOrder}
-use Rattle.ring.specs.Standing.{row, OnCircle, StandAt}
+use Rattle.graph.specs.Rows.{row}
+use Rattle.ring.specs.Standing.{OnCircle, StandAt}
 use Rattle.ring.proofs.CircleLaws.{next-below, circle-next, circle-one}
 use Rattle.shunting.specs.Turned.{Passed}
 use Rattle.shunting.specs.Went.{Move, Went}

@@ -20,7 +20,8 @@ use Rattle.order.specs.Tables.{decodedRows, decodedStarts, decodedGoals}
 use Rattle.motion.specs.Replay.{ended, replayMoves, listed}
 use Rattle.tables.specs.Accepted.{OrderGave}
 use Rattle.floor.specs.Plannable.{Plannable}
-use Rattle.shunting.specs.Journey.{row, Packed}
+use Rattle.graph.specs.Rows.{row}
+use Rattle.shunting.specs.Journey.{Packed}
 
 -- "If each start is its goal, the plan has no moves." The buffer that 23 asks for, 18 × n × n × n + 3 bytes, holds 8 × n × n × n moves.
 pub record Solves (o : List ℕ) (n : ℕ) (ms : List (ℕ × ℕ)) : Type 0 where

@@ -11,7 +11,7 @@ ghost use Prim.Native.Nat.{ℕ, _*_, _≤_, _<_};
 ghost use lib.ListN.{length};
 ghost use Rattle.answers.specs.Answer.{accepted, PassedUp};
 ghost use Rattle.floor.specs.Verdict.{answerOf as floorAnswerOf};
-ghost use Rattle.shunting.specs.Journey.{row};
+ghost use Rattle.graph.specs.Rows.{row};
 ghost use Rattle.planner.specs.Moves.{Differ, SomeTables, MovesMade};
 ghost use Rattle.planner.specs.Planner.{PlanMade, answerOf};
 

@@ -9,7 +9,8 @@ use mathlib.Core.List.{List, [], _∷_}
 use mathlib.Core.Logic.{_≢_, ⊎-elim}
 use native.Mathlib.Omega.{arith}
 use Rattle.ring.specs.Order.{Rack, Places, SameOrder}
-use Rattle.ring.specs.Standing.{row, OnCircle, Standing}
+use Rattle.graph.specs.Rows.{row}
+use Rattle.ring.specs.Standing.{OnCircle, Standing}
 use Rattle.ring.proofs.OrderLaws.{rack-of}
 use Rattle.ring.proofs.StandingLaws.{standing-of}
 

@@ -20,9 +20,9 @@ use Rattle.sets.specs.Sets.{Has}
 use Rattle.sets.proofs.SetLaws.{has-positive}
 use Rattle.graph.specs.Connected.{Ring}
 use Rattle.graph.specs.EdgeCount.{edgeCount}
-use Rattle.graph.specs.Rows.{Edge, Rows}
+use Rattle.graph.specs.Rows.{row, Edge, Rows}
 use Rattle.ring.specs.Circle.{Circle, roundOf, edgeIn, onward}
-use Rattle.ring.specs.Standing.{row, OnCircle, Standing, StandAt}
+use Rattle.ring.specs.Standing.{OnCircle, Standing, StandAt}
 use Rattle.ring.specs.Order.{Rack}
 use Rattle.ring.proofs.CircleLaws.{Degree, circle-same}
 use Rattle.ring.proofs.RoundLaws.{ring-degree, edge-test, onward-is, onward-good, round-first, round-then, round-circle}

@@ -1,19 +1,13 @@
 -- Racks on a circle, as a table of the rack at each position has them.
 --
---     row h                   the table, or the circle, as a function
 --     OnCircle n m at h       round the circle's n places stand just the racks 1 to m, each at one place
 --     Standing n at h         there stand racks below 64, no two of them the same: all that finding their places needs
 --     StandAt n m at h p      rack r stands at place p r
 -- Assumes nothing.
 use Prim.Native.Nat.{ℕ, _≤_, _<_}
 use mathlib.Core.Path.{_≡_}
-use mathlib.Core.List.{List}
 use mathlib.Core.Logic.{_≢_}
-use lib.ListN.{getD}
 use Rattle.ring.specs.Order.{Rack, Places}
-
-abbrev pub row : List ℕ → ℕ → ℕ
-row h i = getD h i 0
 
 pub record OnCircle (n m : ℕ) (at h : ℕ → ℕ) : Type 0 where
   pub rack : (i : ℕ) → i < n → h (at i) ≢ 0 → Rack m (h (at i))

@@ -7,10 +7,10 @@ ghost use Prim.Native.Nat.{ℕ, _≤_, _<_};
 ghost use lib.ListN.{getD};
 ghost use Rattle.graph.specs.Connected.{Ring};
 ghost use Rattle.graph.specs.EdgeCount.{edgeCount};
-ghost use Rattle.graph.specs.Rows.{Edge, Rows};
+ghost use Rattle.graph.specs.Rows.{row, Edge, Rows};
 ghost use Rattle.ring.specs.Circle.{Circle, roundOf, edgeIn, next as nextOf};
 ghost use Rattle.ring.specs.Order.{Rack, Places, SameOrder, Keeps, ahead as aheadOf, distance as distanceOf};
-ghost use Rattle.ring.specs.Standing.{Standing, row};
+ghost use Rattle.ring.specs.Standing.{Standing};
 
 // The positions of a ring in their order round it: from 0 to the lowest position joined to it, and on, never straight back.
 pub fn circle(rows: &[u64; 64], n: usize) -> [u8; 64]

@@ -1,11 +1,6 @@
 pub mod Writing
-pub mod Leaving
-pub mod Passing
-pub mod StretchLaws
-pub mod Stretching
 pub mod Windowing
 pub mod Making
-pub mod FillingLaws
 pub mod Made
 pub mod MakerCases
 pub mod MakerLaws

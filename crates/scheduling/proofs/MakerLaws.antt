@@ -47,7 +47,7 @@ use Rattle.timetable.proofs.ReadingLaws.{total-moves}
 use Rattle.timetable.proofs.TimetableRecord.{Steps, no-steps, one-step, Packable, count-record, stepsOf-record, record-well-packed}
 use Rattle.scheduling.specs.Making.{timed, greatest, madeSteps}
 use Rattle.scheduling.proofs.Made.{Made, made}
-use Rattle.scheduling.specs.Rows.{stepsBytes}
+use Rattle.passing.specs.Rows.{stepsBytes}
 use Rattle.scheduling.proofs.RecordBytes.{record-bytes}
 use Rattle.scheduling.specs.Maker.{madeOf, makerAnswer, bufferAfter, Timetabled}
 

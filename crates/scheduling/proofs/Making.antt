@@ -27,9 +27,9 @@ use Rattle.plan.proofs.Accepted.{PlanGave, gave, count-is, count-below, tail-mo
 use Rattle.plan.proofs.PlanRecord.{moves-counted}
 use Rattle.timetable.specs.Timetable.{timetableRecord}
 use Rattle.scheduling.specs.Making.{timed, greatest}
-use Rattle.scheduling.specs.Rows.{stepsBytes}
-use Rattle.scheduling.specs.Filling.{latest}
-use Rattle.scheduling.proofs.FillingLaws.{latest-few}
+use Rattle.passing.specs.Rows.{stepsBytes}
+use Rattle.passing.specs.Filling.{latest}
+use Rattle.passing.proofs.FillingLaws.{latest-few}
 use Rattle.scheduling.specs.Windows.{allSteps}
 use Rattle.scheduling.proofs.TabledSteps.{latest-rule, allSteps-made}
 use Rattle.scheduling.proofs.RecordBytes.{record-bytes}

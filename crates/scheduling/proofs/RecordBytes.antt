@@ -21,7 +21,7 @@ use Rattle.field.proofs.PackingLaws.{pack-is}
 use Rattle.timetable.specs.Timetable.{stepBits, stepLength, timetableRecord}
 use Rattle.timetable.proofs.StepRecord.{stepRecord, joined, stepBits-are, length-stepBits}
 use Rattle.timetable.proofs.TimetableRecord.{Steps, no-steps, one-step, Packable, record-parts}
-use Rattle.scheduling.specs.Rows.{stepBytes, stepsBytes}
+use Rattle.passing.specs.Rows.{stepBytes, stepsBytes}
 
 module _ (ms : List (ℕ × ℕ)) (few : length ms ≤ 255) (below : BelowPairs 64 ms) where
   pack-bytes : Bytes (pack ms)

@@ -5,10 +5,10 @@
 --     below?                     a number is at most another, or above it
 --     disjoint-is                words without a common bit are sets without a common position
 --     back-by, back-none         down to the begin of a block or a group without the positions, or of a word without marks
---     forget-by                  a block or a group that begins where the search stands does without them
+--     begins-at, forget-by       a block or a group that begins where the search stands does without them
 --     clear-down                 one move further down
 --     looked-after               the sets cover what is kept when both have forgotten
---     found-at, found-none       what the search finds
+--     found-at, found-later, found-none      what the search finds
 --     move-is, listed-is         a move as it is read
 --     rack-fits                  a rack that is read fits its field
 --     room-fewer, bytes-fewer, few-moves    room for some moves is room for fewer, and they are at most as many as the bits
@@ -20,6 +20,7 @@ use mathlib.Core.Bool.{Bool, true, false, not}
 use mathlib.Core.List.{List}
 use mathlib.Core.Logic.{_↔_, _⊎_, inl, inr, ⊎-elim, _≢_}
 use mathlib.Core.Path.{_≡_, refl, sym, ap, ap₂, _∙_}
+use native.Mathlib.Nat.{div-add-mod'}
 use native.Mathlib.Omega.{arith}
 use lib.Bits.{bitAnd}
 use borrow.Author.Tests.{not-true, not-false, eqb-true, eq-eqb}
@@ -188,6 +189,12 @@ module _ (f : ℕ → ℕ × ℕ × ℕ) (marks : List ℕ) (e : ℕ) where
             (λ (q : h ≢ at - 1). clear .none h p (omega arith) k t b) (equal? h (at - 1));
       }
 
+-- the first of the moves that share a set
+pub begins-at : (at size i : ℕ) → at % size ≡ 0 → i / size ≡ at / size → at ≤ i
+begins-at at size i whole same =
+    let mine : at / size * size + i % size ≡ i = rw same at (div-add-mod' i size) in
+    omega (arith, mine, whole, div-add-mod' at size)
+
 pub forget-by : (e at size : ℕ) (l : List ℕ) (w : ℕ) → at / size < length l → ((i : ℕ) → i / size ≡ at / size → at ≤ i)
     → ((p : ℕ) → Has w p ↔ (Has (getD l (at / size) 0) p × (Has e p → ⊥))) → (f : ℕ → ℕ × ℕ × ℕ) (marks : List ℕ) → Covers f marks size l
     → ClearFrom f marks e at → Covers f marks size (set l (at / size) w)
@@ -210,6 +217,9 @@ module _ (f : ℕ → ℕ × ℕ × ℕ) (marks : List ℕ) (e : ℕ) where
 
   pub found-at : (from at : ℕ) → at ≤ from → ClearFrom f marks e at → Touching f marks e (at - 1) → Found f marks e from at
   found-at from at low c t = record { below = low; clear = c; touching = λ some. t }
+
+  pub found-later : {from to at : ℕ} → from ≤ to → Found f marks e from at → Found f marks e to at
+  found-later l t = record { below = omega (arith, l, t .below); clear = t .clear; touching = t .touching }
 
   pub found-none : (from at : ℕ) → at ≡ 0 → ClearFrom f marks e at → Found f marks e from 0
   found-none from at z c =

@@ -13,6 +13,7 @@
 --     room-less          tables with room for some moves have room for fewer
 --     both               a table with two entries set
 --     ends-are, from-clear, from-low    the positions of a move, and where the search for them begins
+--     going-looked, going-at    the sets of blocks and groups may be others that cover what is kept; another name of the index
 --     going-off          a move that cancels
 --     going-on           a move that is kept
 -- Assumes nothing.
@@ -36,7 +37,7 @@ use Rattle.shortening.proofs.LookingLaws.{below?}
 use Rattle.shortening.specs.Stack.{moveOf, Apart, Partner, top, under, Taken, off-top, from-under, cancelled, kept, begun}
 use Rattle.shortening.specs.Stack.{next}
 use Rattle.shortening.specs.Looking.{Kept, Touches, stackOf, Covers, ClearFrom, Found, Looked, NoneKept, Room}
-use Rattle.shortening.specs.Looking.{Marks, Unmarks, TakesIn, Since, linkOf, Going}
+use Rattle.shortening.specs.Looking.{Marks, Unmarks, TakesIn, Since, Bounded, Ends, linkOf, Going}
 
 -- stacks
 
@@ -189,13 +190,29 @@ going-first f marks blocks groups n =
             by-blocks = record { has = λ i p k. absurd (n .none i k) };
             by-groups = record { has = λ i p k. absurd (n .none i k) };
           };
-      later = λ i l k. n .none i k;
       places = (length-replicate {A = ℕ} 64 0, length-replicate {A = ℕ} 512 0, length-replicate {A = ℕ} 512 0);
-      bounded = λ p. rw (zeros-at 64 p) (since-self f marks p 0);
+      bounded = record { later = λ i l k. n .none i k; since = λ p. rw (zeros-at 64 p) (since-self f marks p 0) };
       left = λ h k. absurd (n .none h k);
       entered = λ h k. absurd (n .none h k);
       passes = unfold stackOf in begun;
     }
+
+pub going-looked : {f : ℕ → ℕ × ℕ × ℕ} {j : ℕ} {marks blocks groups blocks′ groups′ bounds lefts enters : List ℕ}
+    → Looked f marks blocks′ groups′ → Going f j marks blocks groups bounds lefts enters
+    → Going f j marks blocks′ groups′ bounds lefts enters
+going-looked l g =
+    record {
+      looked = l;
+      places = g .places;
+      bounded = g .bounded;
+      left = g .left;
+      entered = g .entered;
+      passes = g .passes;
+    }
+
+pub going-at : {f : ℕ → ℕ × ℕ × ℕ} {i j : ℕ} {marks blocks groups bounds lefts enters : List ℕ} → i ≡ j
+    → Going f i marks blocks groups bounds lefts enters → Going f j marks blocks groups bounds lefts enters
+going-at e g = rw (← e) g
 
 pub none-kept : (n : ℕ) → NoneKept (replicate n 0)
 none-kept n = record { none = λ i k. has-none (i % 64) (rw (zeros-at n (i / 64)) at k) }
@@ -234,9 +251,6 @@ room-for a b c x y z =
     }
 
 -- two positions as a set
-pub record Ends (a b e : ℕ) : Type 0 where
-  pub has : (p : ℕ) → Has e p ↔ ((p ≡ a) ⊎ (p ≡ b))
-
 pub ends-are : (a b o e : ℕ) → ((p : ℕ) → Has o p ↔ (p ≡ a)) → ((p : ℕ) → Has e p ↔ (Has o p ⊎ (p ≡ b))) → Ends a b e
 ends-are a b o e one two =
     record {
@@ -290,8 +304,7 @@ module _ (a b e : ℕ) (ends : Ends a b e) where
         getD-set-other (set l a x) b p y 0 (λ q. n (ends .has p .1 (inr q)))
         ∙ getD-set-other l a p x 0 (λ q. n (ends .has p .1 (inl q)))
 
-  module _ (f : ℕ → ℕ × ℕ × ℕ) (j : ℕ) (marks blocks groups bounds lefts enters : List ℕ)
-      (g : Going f j marks blocks groups bounds lefts enters) where
+  module _ (f : ℕ → ℕ × ℕ × ℕ) (j : ℕ) (marks bounds : List ℕ) (g : Bounded f j marks bounds) where
     kept-before : (h : ℕ) → Kept marks h → h < j
     kept-before h k = let n : (j ≤ h → ⊥) = λ l. g .later h l k in omega arith
 
@@ -301,159 +314,159 @@ module _ (a b e : ℕ) (ends : Ends a b e) where
           none =
               λ h p l k t has.
               let below = kept-before h k in
-              ⊎-elim (λ (q : p ≡ a). g .bounded a .none h (omega (arith, is)) below k (rw (← q) t))
-              (λ (q : p ≡ b). g .bounded b .none h (omega (arith, is)) below k (rw (← q) t)) (ends .has p .0 has);
+              ⊎-elim (λ (q : p ≡ a). g .since a .none h (omega (arith, is)) below k (rw (← q) t))
+              (λ (q : p ≡ b). g .since b .none h (omega (arith, is)) below k (rw (← q) t)) (ends .has p .0 has);
         }
 
     pub from-low : (r : ℕ) → r ≡ max (getD bounds a 0) (getD bounds b 0) → r ≤ j
-    from-low r is = omega (arith, is, g .bounded a .low, g .bounded b .low)
+    from-low r is = omega (arith, is, g .since a .low, g .since b .low)
 
-    module _ (moves : moveOf (f j) ≡ (a, b)) (r at : ℕ) (low : r ≤ j) (found : Found f marks e r at) (small : (a < 64) × (b < 64)) where
-      above : (h : ℕ) → at ≤ h → Kept marks h → Apart (moveOf (f h)) (a, b)
-      above h l k = apart-from (moveOf (f h)) (λ p t has. found .clear .none h p l k t has)
+  module _ (f : ℕ → ℕ × ℕ × ℕ) (j : ℕ) (marks blocks groups bounds lefts enters : List ℕ)
+      (g : Going f j marks blocks groups bounds lefts enters) (moves : moveOf (f j) ≡ (a, b)) (at : ℕ) (found : Found f marks e j at)
+      (small : (a < 64) × (b < 64)) where
+    above : (h : ℕ) → at ≤ h → Kept marks h → Apart (moveOf (f h)) (a, b)
+    above h l k = apart-from (moveOf (f h)) (λ p t has. found .clear .none h p l k t has)
 
-      module _ (blocks′ groups′ : List ℕ) (looked : Looked f marks blocks′ groups′) where
-        module _ (some : 0 < at) (turned : moveOf (f (at - 1)) ≡ (b, a)) (marks′ : List ℕ) (less : Unmarks marks (at - 1) marks′) where
-          gone : Kept marks (at - 1)
-          gone = found .touching some .kept
+    -- the two positions have new bounds, and those of the others stay
+    next-bounded : (marks′ : List ℕ) (x y : ℕ) → ((h : ℕ) → j + 1 ≤ h → Kept marks′ h → ⊥) → Since f marks′ a x (j + 1)
+        → Since f marks′ b y (j + 1) → ((p : ℕ) → (Has e p → ⊥) → Since f marks′ p (getD bounds p 0) (j + 1))
+        → Bounded f (j + 1) marks′ (both small bounds (g .places .0) x y)
+    next-bounded marks′ x y later first second others =
+        record {
+          later = later;
+          since =
+              λ p.
+              ⊎-elim (λ (h : Has e p). both-at small bounds (g .places .0) x y (λ q i. Since f marks′ q i (j + 1)) first second p h)
+              (λ (n : Has e p → ⊥). rw (both-other small bounds (g .places .0) x y p n) (others p n)) (in? p);
+        }
 
-          -- below the move that is taken off, its own links count
-          passed : (p i : ℕ) → Has e p → Since f marks p i (at - 1) → Since f marks′ p i (j + 1)
-          passed p i has known =
+    module _ (some : 0 < at) (turned : moveOf (f (at - 1)) ≡ (b, a)) (marks′ : List ℕ) (less : Unmarks marks (at - 1) marks′) where
+      gone : Kept marks (at - 1)
+      gone = found .touching some .kept
+
+      -- below the move that is taken off, its own links count
+      passed : (p i : ℕ) → Has e p → Since f marks p i (at - 1) → Since f marks′ p i (j + 1)
+      passed p i has known =
+          record {
+            low = omega (arith, known .low, found .below);
+            none =
+                λ h u v k t.
+                let w = less h .0 k in
+                ⊎-elim (λ (q : at ≤ h). found .clear .none h p q (w .0) t has)
+                (λ (q : h < at). known .none h u (omega (arith, w .1)) (w .0) t) (below? at h);
+          }
+
+      first : Since f marks′ a (linkOf enters j (at - 1)) (j + 1)
+      first = passed a _ (ends .has a .1 (inl refl)) (rw turned at (g .entered (at - 1) gone))
+
+      second : Since f marks′ b (linkOf lefts j (at - 1)) (j + 1)
+      second = passed b _ (ends .has b .1 (inr refl)) (rw turned at (g .left (at - 1) gone))
+
+      abbrev bounds′ : List ℕ
+      bounds′ = both small bounds (g .places .0) (linkOf enters j (at - 1)) (linkOf lefts j (at - 1))
+
+      pub going-off : Going f (j + 1) marks′ blocks groups bounds′ lefts enters
+      going-off =
+          let l : at - 1 < j = omega (arith, found .below) in
+          let none-here : (Kept marks′ j → ⊥) = λ k. g .bounded .later j (le-refl j) (less j .0 k .0) in
+          let taken : Taken (stackOf f marks j) (moveOf (f j)) (stackOf f marks′ j) =
+          rw moves (taken-off f marks marks′ (a, b) (at - 1) gone turned less j l (λ h u v k. above h (omega arith) k)) in
+          let fewer : (h : ℕ) → Kept marks′ h → Kept marks h = λ h k. less h .0 k .0 in
+          let before : (h : ℕ) → Kept marks′ h → h < j = λ h k. kept-before f j marks bounds (g .bounded) h (fewer h k) in
+          record {
+            looked =
+                record {
+                  by-blocks = record { has = λ h p k t. g .looked .by-blocks .has h p (fewer h k) t };
+                  by-groups = record { has = λ h p k t. g .looked .by-groups .has h p (fewer h k) t };
+                };
+            places = (both-places small bounds (g .places .0) _ _, g .places .1, g .places .2);
+            bounded =
+                next-bounded marks′ _ _ (λ h u k. g .bounded .later h (omega arith) (fewer h k)) first second
+                (λ p n. since-next f marks′ p j none-here (since-fewer f (λ h l k. fewer h k) (g .bounded .since p)));
+            left = λ h k. link-next f marks′ lefts j h _ (before h k) (since-fewer f (λ i l m. fewer i m) (g .left h (fewer h k)));
+            entered =
+                λ h k. link-next f marks′ enters j h _ (before h k) (since-fewer f (λ i l m. fewer i m) (g .entered h (fewer h k)));
+            passes = rw (add-one j, stack-skipped f marks′ j none-here) (next (g .passes) (cancelled taken));
+          }
+
+    module _ (not : (0 < at) × (moveOf (f (at - 1)) ≡ (b, a)) → ⊥) (marks′ blocks′ groups′ : List ℕ) (more : Marks marks j marks′) where
+      -- of the marks only that of the next move is new
+      old : (h : ℕ) → Kept marks′ h → h ≢ j → Kept marks h
+      old h k n = ⊎-elim (λ x. x) (λ q. absurd (n q)) (more h .0 k)
+
+      alone : Partner (stackOf f marks j) (moveOf (f j)) → ⊥
+      alone =
+          rw moves
+          (no-partner f marks (a, b) at j (omega (arith, found .below)) (λ h u v k. above h u k)
+          (λ some.
+          let t = found .touching some in
+          (t .kept, (λ d. not-apart (moveOf (f (at - 1))) (t .place) (t .touches) (t .has) d), (λ q. not (some, q)))))
+
+      before : (h : ℕ) → h < j → Kept marks′ h → Kept marks h
+      before h l k = old h k (λ q. omega arith)
+
+      -- what is known of the positions of the move that is kept: its links
+      known : (p : ℕ) → Has e p → Since f marks′ p (min (getD bounds p 0) at) j
+      known p has =
+          record {
+            low = omega (arith, g .bounded .since p .low);
+            none =
+                λ h u v k t.
+                ⊎-elim (λ (q : at ≤ h). found .clear .none h p q (before h v k) t has)
+                (λ (q : h < at). g .bounded .since p .none h (omega (arith, u)) v (before h v k) t) (below? at h);
+          }
+
+      -- the links of one more move: its own is new, and those of the latest others stay
+      linked : (which : ℕ × ℕ → ℕ) (links : List ℕ) → length links ≡ 512 → (p : ℕ) → Has e p → which (a, b) ≡ p
+          → ((h : ℕ) → Kept marks h → Since f marks (which (moveOf (f h))) (linkOf links j h) h) → (h : ℕ) → Kept marks′ h
+          → Since f marks′ (which (moveOf (f h))) (linkOf (set links (j % 512) (min (getD bounds p 0) at)) (j + 1) h) h
+      linked which links many p has is is-linked h k =
+          ⊎-elim
+          (λ (q : h ≡ j).
+          let place : which (moveOf (f h)) ≡ p = ap (λ (i : ℕ). which (moveOf (f i))) q ∙ ap which moves ∙ is in
+          rw (place, q) (link-new f marks′ links j p _ many (known p has)))
+          (λ (q : h ≢ j).
+          let b = kept-before f j marks bounds (g .bounded) h (old h k q) in
+          link-stays f marks′ links j h (which (moveOf (f h))) _ b
+          (since-fewer f (λ i l m. before i (omega arith) m) (is-linked h (old h k q))))
+          (equal? h j)
+
+      pub going-on : TakesIn blocks (j / 256) a b blocks′ → TakesIn groups (j / 16384) a b groups′
+          → Going f (j + 1) marks′ blocks′ groups′ (both small bounds (g .places .0) (j + 1) (j + 1))
+          (set lefts (j % 512) (min (getD bounds a 0) at)) (set enters (j % 512) (min (getD bounds b 0) at))
+      going-on by-blocks by-groups =
+          let same : stackOf f marks′ j ≡ stackOf f marks j =
+          stack-same f marks′ marks j (λ h u. (λ k. before h u k, λ k. more h .1 (inl k))) in
+          record {
+            looked =
+                record {
+                  by-blocks = covers-more f marks marks′ a b j 256 blocks blocks′ moves more by-blocks (g .looked .by-blocks);
+                  by-groups = covers-more f marks marks′ a b j 16384 groups groups′ moves more by-groups (g .looked .by-groups);
+                };
+            places = (
+              both-places small bounds (g .places .0) (j + 1) (j + 1),
+              rw (length-set lefts (j % 512) (min (getD bounds a 0) at)) (g .places .1),
+              rw (length-set enters (j % 512) (min (getD bounds b 0) at)) (g .places .2),
+            );
+            bounded =
+                next-bounded marks′ (j + 1) (j + 1) (λ h u k. g .bounded .later h (omega arith) (old h k (λ q. omega arith)))
+                (since-self f marks′ a (j + 1)) (since-self f marks′ b (j + 1)) bounded-other;
+            left = linked (λ m. m .0) lefts (g .places .1) a (ends .has a .1 (inl refl)) refl (g .left);
+            entered = linked (λ m. m .1) enters (g .places .2) b (ends .has b .1 (inr refl)) refl (g .entered);
+            passes = rw (add-one j, stack-kept f marks′ j (more j .1 (inr refl)), same) (next (g .passes) (kept alone));
+          }
+        where
+          -- a position of which the move that is kept does not speak
+          bounded-other : (p : ℕ) → (Has e p → ⊥) → Since f marks′ p (getD bounds p 0) (j + 1)
+          bounded-other p n =
               record {
-                low = omega (arith, known .low, found .below);
+                low = omega (arith, g .bounded .since p .low);
                 none =
                     λ h u v k t.
-                    let w = less h .0 k in
-                    ⊎-elim (λ (q : at ≤ h). found .clear .none h p q (w .0) t has)
-                    (λ (q : h < at). known .none h u (omega (arith, w .1)) (w .0) t) (below? at h);
-              }
-
-          first : Since f marks′ a (linkOf enters j (at - 1)) (j + 1)
-          first = passed a _ (ends .has a .1 (inl refl)) (rw turned at (g .entered (at - 1) gone))
-
-          second : Since f marks′ b (linkOf lefts j (at - 1)) (j + 1)
-          second = passed b _ (ends .has b .1 (inr refl)) (rw turned at (g .left (at - 1) gone))
-
-          abbrev bounds′ : List ℕ
-          bounds′ = both small bounds (g .places .0) (linkOf enters j (at - 1)) (linkOf lefts j (at - 1))
-
-          pub going-off : Going f (j + 1) marks′ blocks′ groups′ bounds′ lefts enters
-          going-off =
-              let l : at - 1 < j = omega (arith, found .below) in
-              let none-here : (Kept marks′ j → ⊥) = λ k. g .later j (le-refl j) (less j .0 k .0) in
-              let taken : Taken (stackOf f marks j) (moveOf (f j)) (stackOf f marks′ j) =
-              rw moves (taken-off f marks marks′ (a, b) (at - 1) gone turned less j l (λ h u v k. above h (omega arith) k)) in
-              let fewer : (h : ℕ) → Kept marks′ h → Kept marks h = λ h k. less h .0 k .0 in
-              let before : (h : ℕ) → Kept marks′ h → h < j = λ h k. kept-before h (fewer h k) in
-              record {
-                looked =
-                    record {
-                      by-blocks = record { has = λ h p k t. looked .by-blocks .has h p (fewer h k) t };
-                      by-groups = record { has = λ h p k t. looked .by-groups .has h p (fewer h k) t };
-                    };
-                later = λ h u k. g .later h (omega arith) (fewer h k);
-                places = (both-places small bounds (g .places .0) _ _, g .places .1, g .places .2);
-                bounded =
-                    λ p.
                     ⊎-elim
-                    (λ (y : Has e p).
-                    both-at small bounds (g .places .0) _ _ (λ q i. Since f marks′ q i (j + 1)) first second p y)
-                    (λ (n : Has e p → ⊥).
-                    rw (both-other small bounds (g .places .0) (linkOf enters j (at - 1)) (linkOf lefts j (at - 1)) p n)
-                    (since-next f marks′ p j none-here (since-fewer f (λ h l k. fewer h k) (g .bounded p))))
-                    (in? p);
-                left = λ h k. link-next f marks′ lefts j h _ (before h k) (since-fewer f (λ i l m. fewer i m) (g .left h (fewer h k)));
-                entered =
-                    λ h k. link-next f marks′ enters j h _ (before h k) (since-fewer f (λ i l m. fewer i m) (g .entered h (fewer h k)));
-                passes = rw (add-one j, stack-skipped f marks′ j none-here) (next (g .passes) (cancelled taken));
+                    (λ (q : h ≡ j).
+                    let c : Touches (a, b) p = rw (q, moves) at t in
+                    n (ends .has p .1 (⊎-elim (λ z. inl (sym z)) (λ z. inr (sym z)) c)))
+                    (λ (q : h ≢ j). g .bounded .since p .none h u (omega arith) (old h k q) t)
+                    (equal? h j);
               }
-
-        module _ (not : (0 < at) × (moveOf (f (at - 1)) ≡ (b, a)) → ⊥) (marks′ blocks″ groups″ : List ℕ) (more : Marks marks j marks′) where
-          -- of the marks only that of the next move is new
-          old : (h : ℕ) → Kept marks′ h → h ≢ j → Kept marks h
-          old h k n = ⊎-elim (λ x. x) (λ q. absurd (n q)) (more h .0 k)
-
-          alone : Partner (stackOf f marks j) (moveOf (f j)) → ⊥
-          alone =
-              rw moves
-              (no-partner f marks (a, b) at j (omega (arith, found .below)) (λ h u v k. above h u k)
-              (λ some.
-              let t = found .touching some in
-              (t .kept, (λ d. not-apart (moveOf (f (at - 1))) (t .place) (t .touches) (t .has) d), (λ q. not (some, q)))))
-
-          before : (h : ℕ) → h < j → Kept marks′ h → Kept marks h
-          before h l k = old h k (λ q. omega arith)
-
-          -- what is known of the positions of the move that is kept: its links
-          known : (p : ℕ) → Has e p → Since f marks′ p (min (getD bounds p 0) at) j
-          known p has =
-              record {
-                low = omega (arith, g .bounded p .low);
-                none =
-                    λ h u v k t.
-                    ⊎-elim (λ (q : at ≤ h). found .clear .none h p q (before h v k) t has)
-                    (λ (q : h < at). g .bounded p .none h (omega (arith, u)) v (before h v k) t) (below? at h);
-              }
-
-          -- the links of one more move: its own is new, and those of the latest others stay
-          linked : (which : ℕ × ℕ → ℕ) (links : List ℕ) → length links ≡ 512 → (p : ℕ) → Has e p → which (a, b) ≡ p
-              → ((h : ℕ) → Kept marks h → Since f marks (which (moveOf (f h))) (linkOf links j h) h) → (h : ℕ) → Kept marks′ h
-              → Since f marks′ (which (moveOf (f h))) (linkOf (set links (j % 512) (min (getD bounds p 0) at)) (j + 1) h) h
-          linked which links many p has is is-linked h k =
-              ⊎-elim
-              (λ (q : h ≡ j).
-              let place : which (moveOf (f h)) ≡ p = ap (λ (i : ℕ). which (moveOf (f i))) q ∙ ap which moves ∙ is in
-              rw (place, q) (link-new f marks′ links j p _ many (known p has)))
-              (λ (q : h ≢ j).
-              let b = kept-before h (old h k q) in
-              link-stays f marks′ links j h (which (moveOf (f h))) _ b
-              (since-fewer f (λ i l m. before i (omega arith) m) (is-linked h (old h k q))))
-              (equal? h j)
-
-          pub going-on : TakesIn blocks′ (j / 256) a b blocks″ → TakesIn groups′ (j / 16384) a b groups″
-              → Going f (j + 1) marks′ blocks″ groups″ (both small bounds (g .places .0) (j + 1) (j + 1))
-              (set lefts (j % 512) (min (getD bounds a 0) at)) (set enters (j % 512) (min (getD bounds b 0) at))
-          going-on by-blocks by-groups =
-              let same : stackOf f marks′ j ≡ stackOf f marks j =
-              stack-same f marks′ marks j (λ h u. (λ k. before h u k, λ k. more h .1 (inl k))) in
-              record {
-                looked =
-                    record {
-                      by-blocks = covers-more f marks marks′ a b j 256 blocks′ blocks″ moves more by-blocks (looked .by-blocks);
-                      by-groups = covers-more f marks marks′ a b j 16384 groups′ groups″ moves more by-groups (looked .by-groups);
-                    };
-                later = λ h u k. g .later h (omega arith) (old h k (λ q. omega arith));
-                places = (
-                  both-places small bounds (g .places .0) (j + 1) (j + 1),
-                  rw (length-set lefts (j % 512) (min (getD bounds a 0) at)) (g .places .1),
-                  rw (length-set enters (j % 512) (min (getD bounds b 0) at)) (g .places .2),
-                );
-                bounded =
-                    λ p.
-                    ⊎-elim
-                    (λ (y : Has e p).
-                    both-at small bounds (g .places .0) (j + 1) (j + 1) (λ q i. Since f marks′ q i (j + 1)) (since-self f marks′ a (j + 1))
-                    (since-self f marks′ b (j + 1)) p y)
-                    (λ (n : Has e p → ⊥).
-                    rw (both-other small bounds (g .places .0) (j + 1) (j + 1) p n) (bounded-other p n))
-                    (in? p);
-                left = linked (λ m. m .0) lefts (g .places .1) a (ends .has a .1 (inl refl)) refl (g .left);
-                entered = linked (λ m. m .1) enters (g .places .2) b (ends .has b .1 (inr refl)) refl (g .entered);
-                passes = rw (add-one j, stack-kept f marks′ j (more j .1 (inr refl)), same) (next (g .passes) (kept alone));
-              }
-            where
-              -- a position of which the move that is kept does not speak
-              bounded-other : (p : ℕ) → (Has e p → ⊥) → Since f marks′ p (getD bounds p 0) (j + 1)
-              bounded-other p n =
-                  record {
-                    low = omega (arith, g .bounded p .low);
-                    none =
-                        λ h u v k t.
-                        ⊎-elim
-                        (λ (q : h ≡ j).
-                        let c : Touches (a, b) p = rw (q, moves) at t in
-                        n (ends .has p .1 (⊎-elim (λ z. inl (sym z)) (λ z. inr (sym z)) c)))
-                        (λ (q : h ≢ j). g .bounded p .none h u (omega arith) (old h k q) t)
-                        (equal? h j);
-                  }

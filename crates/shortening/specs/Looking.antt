@@ -21,6 +21,10 @@
 --     Marks marks i r, Unmarks marks i r      r are the marks with and without that of index i
 --     TakesIn l place a b r  r are the sets l with the positions a and b in the one at `place`
 --     Since f marks p i h    no kept move from index i on and before index h touches the position p; i is at most h
+--     Bounded f j marks bounds     after j moves: none to come is kept, and no kept move from a position's bound on touches it
+--     Ends a b e             the set e has the positions a and b
+--     Within j a b r c, Met f marks j a b r c    the move of index j goes from a to b; r is one more than the index of the latest kept
+--                            move that touches one of them, or 0; and c says whether the two cancel. Within: these are in range
 --     linkOf links j h       after j moves, the link of the move of index h; of one before the latest 512 it is h itself
 --     Going f j marks blocks groups bounds lefts enters    after j moves: the bounds, and the links for the position that a move leaves
 --                            and for the one that it enters
@@ -32,7 +36,7 @@
 --                            B, make b of it
 -- Assumes nothing.
 use Prim.Native.Nat.{ℕ, zero, suc, _+_, _-_, _*_, _/_, _%_, _≤_, _<_}
-use mathlib.Core.Bool.{Bool, cond}
+use mathlib.Core.Bool.{Bool, true, cond}
 use mathlib.Core.List.{List, [], _∷_}
 use mathlib.Core.Logic.{_↔_, _⊎_, _≢_}
 use mathlib.Core.Path.{_≡_}
@@ -115,15 +119,35 @@ pub record Since (f : ℕ → ℕ × ℕ × ℕ) (marks : List ℕ) (p i h : ℕ
   pub low : i ≤ h
   pub none : (x : ℕ) → i ≤ x → x < h → Kept marks x → Touches (moveOf (f x)) p → ⊥
 
+-- the moves that are taken and the bounds of the positions
+pub record Bounded (f : ℕ → ℕ × ℕ × ℕ) (j : ℕ) (marks bounds : List ℕ) : Type 0 where
+  -- no move that is still to come is marked
+  pub later : (i : ℕ) → j ≤ i → Kept marks i → ⊥
+  pub since : (p : ℕ) → Since f marks p (getD bounds p 0) j
+
+pub record Ends (a b e : ℕ) : Type 0 where
+  pub has : (p : ℕ) → Has e p ↔ ((p ≡ a) ⊎ (p ≡ b))
+
+pub record Within (j a b r : ℕ) (cancels : Bool) : Type 0 where
+  pub first-below : a < 64
+  pub second-below : b < 64
+  pub before : r ≤ j
+  pub some : cancels ≡ true → 0 < r
+
+pub record Met (f : ℕ → ℕ × ℕ × ℕ) (marks : List ℕ) (j a b r : ℕ) (cancels : Bool) : Type 0 where
+  pub is : moveOf (f j) ≡ (a, b)
+  pub ends : ℕ
+  pub both : Ends a b ends
+  pub found : Found f marks ends j r
+  pub undone : (cancels ≡ true) ↔ ((0 < r) × (moveOf (f (r - 1)) ≡ (b, a)))
+
 unfoldable pub linkOf : List ℕ → ℕ → ℕ → ℕ
 linkOf links j h = cond (ltb 512 (j - h)) h (getD links (h % 512) 0)
 
 pub record Going (f : ℕ → ℕ × ℕ × ℕ) (j : ℕ) (marks blocks groups bounds lefts enters : List ℕ) : Type 0 where
   pub looked : Looked f marks blocks groups
-  -- no move that is still to come is marked
-  pub later : (i : ℕ) → j ≤ i → Kept marks i → ⊥
   pub places : (length bounds ≡ 64) × (length lefts ≡ 512) × (length enters ≡ 512)
-  pub bounded : (p : ℕ) → Since f marks p (getD bounds p 0) j
+  pub bounded : Bounded f j marks bounds
   pub left : (h : ℕ) → Kept marks h → Since f marks (moveOf (f h) .0) (linkOf lefts j h) h
   pub entered : (h : ℕ) → Kept marks h → Since f marks (moveOf (f h) .1) (linkOf enters j h) h
   pub passes : Passes f j (stackOf f marks j)

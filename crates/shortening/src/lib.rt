@@ -8,14 +8,15 @@ ghost use mathlib.Core.Bool.{true};
 ghost use mathlib.Core.List.{[], _∷_};
 ghost use mathlib.Core.Logic.{_↔_};
 ghost use Prim.Native.Nat.{ℕ, _+_, _-_, _*_, _/_, _%_, _^_, _≤_, _<_, max, min};
-ghost use lib.ListN.{length, set};
+ghost use lib.ListN.{length, getD, set};
 ghost use Rattle.answers.specs.Answer.{accepted, PassedUp};
 ghost use Rattle.field.specs.Listed.{moveSize};
 ghost use Rattle.plan.specs.Verdict.{answerOf as planAnswerOf};
 ghost use Rattle.sets.specs.Sets.{Has};
 ghost use Rattle.shortening.specs.Stack.{moveOf, Passes, laid};
 ghost use Rattle.shortening.specs.Looking.{listedOf, stackOf, ClearFrom, Touching, GoesBack, Forgets, Found, NoneKept};
-ghost use Rattle.shortening.specs.Looking.{Room, Looked, Marks, Unmarks, TakesIn, linkOf, Going, GoesAhead};
+ghost use Rattle.shortening.specs.Looking.{Room, Looked, Marks, Unmarks, TakesIn, linkOf, GoesAhead};
+ghost use Rattle.shortening.specs.Looking.{Bounded, Within, Met, Going};
 ghost use Rattle.shortening.specs.Looking.{Packed, WritesOne, Shortened};
 ghost use Rattle.shortening.specs.Shortener.{shortenerAnswer, bufferAfter, answerOf};
 
@@ -60,26 +61,16 @@ fn back(marks: &[u64], blocks: &[u64], groups: &[u64], at: usize, ends: u64) -> 
     at
 }
 
-// No kept move from the index `at` on touches a position of `ends`: the block that begins there does without them.
-fn forget_block(blocks: &mut [u64], at: usize, ends: u64)
-    requires { ⌜ at < 256 * length (now blocks) ⌝ }
-    ensures { λ _. ⌜ Forgets ends at 256 (now (blocks .entry)) (now (blocks .exit)) ⌝ }
+// No kept move from the index `at` on touches a position of `ends`: of the sets, one for each `size` moves, the one that begins there does
+// without them.
+fn forget(list: &mut [u64], size: usize, at: usize, ends: u64)
+    requires { ⌜ (0 < size) × (at / size < length (now list)) ⌝ }
+    ensures { λ _. ⌜ Forgets ends at size (now (list .entry)) (now (list .exit)) ⌝ }
 {
-    if at % 256 != 0 {
+    if at % size != 0 {
         return;
     }
-    blocks[at / 256] = sets::minus(blocks[at / 256], ends);
-}
-
-// And the group that begins there.
-fn forget_group(groups: &mut [u64], at: usize, ends: u64)
-    requires { ⌜ at < 16384 * length (now groups) ⌝ }
-    ensures { λ _. ⌜ Forgets ends at 16384 (now (groups .entry)) (now (groups .exit)) ⌝ }
-{
-    if at % 16384 != 0 {
-        return;
-    }
-    groups[at / 16384] = sets::minus(groups[at / 16384], ends);
+    list[at / size] = sets::minus(list[at / size], ends);
 }
 
 // The latest kept move that touches a position of `ends`, below the index `from`, where the search begins: its index plus 1, or 0.
@@ -104,8 +95,8 @@ fn look_back(
             return at;
         }
         at = back(marks, blocks, groups, at - 1, ends);
-        forget_block(blocks, at, ends);
-        forget_group(groups, at, ends);
+        forget(blocks, 256, at, ends);
+        forget(groups, 16384, at, ends);
     }
     0
 }
@@ -197,11 +188,113 @@ fn set_two(list: &mut [usize; 64], a: usize, b: usize, x: usize, y: usize)
     list[b] = y;
 }
 
-// Takes the move of index j: where it cancels with a kept one, that one is kept no longer; else the move is kept.
-fn take_move(
+// The move that the pass has come to: its index, the positions that it leaves and enters, one more than the index of the latest kept move
+// that touches one of them, or 0, and whether the two cancel.
+struct Next {
+    index: usize,
+    first: usize,
+    second: usize,
+    found: usize,
+    cancels: bool,
+}
+
+// Reads the move of index j and looks for the latest kept move that touches one of its positions.
+fn meet(
     tail: &[u8],
     named: bool,
     j: usize,
+    marks: &[u64],
+    blocks: &mut [u64],
+    groups: &mut [u64],
+    bounds: &[usize; 64],
+) -> Next
+    requires { ⌜ (6 * (moveSize named * (j + 1)) ≤ 8 * length (now tail)) × Room (j + 1) (now marks) (now blocks) (now groups) ⌝ }
+    requires { ⌜ Looked (listedOf named (now tail)) (now marks) (now blocks) (now groups)
+        × Bounded (listedOf named (now tail)) j (now marks) (now bounds) ⌝ }
+    ensures { λ r. ⌜ (r .index ≡ j) × Within (r .index) (r .first) (r .second) (r .found) (r .cancels) ⌝ }
+    ensures { λ r. ⌜ Met (listedOf named (now (tail .entry))) (now (marks .entry)) (r .index) (r .first) (r .second) (r .found)
+        (r .cancels) ⌝ }
+    ensures { λ _. ⌜ Looked (listedOf named (now (tail .entry))) (now (marks .entry)) (now (blocks .exit)) (now (groups .exit)) ⌝ }
+{
+    let step = field::move_at(tail, named, j);
+    let a = step.first;
+    let b = step.second;
+    let ends = sets::with(sets::only(a), b);
+    let from = later(bounds[a], bounds[b]);
+    let at = look_back(tail, named, marks, blocks, groups, from, ends);
+    Next {
+        index: j,
+        first: a,
+        second: b,
+        found: at,
+        cancels: undone(tail, named, at, a, b),
+    }
+}
+
+// Takes the kept move off that the next one cancels with: its links are the bounds of the two positions again.
+fn take_off(
+    next: Next,
+    marks: &mut [u64],
+    bounds: &mut [usize; 64],
+    lefts: &[usize; 512],
+    enters: &[usize; 512],
+)
+    requires { ⌜ Within (next .index) (next .first) (next .second) (next .found) (next .cancels) × (next .cancels ≡ true)
+        × (next .index ≤ 64 * length (now marks)) ⌝ }
+    ensures { λ _. ⌜ Unmarks (now (marks .entry)) (next .found - 1) (now (marks .exit)) ⌝ }
+    ensures { λ _. ⌜ now (bounds .exit) ≡
+        set (set (now (bounds .entry)) (next .first) (linkOf (now (enters .entry)) (next .index) (next .found - 1))) (next .second)
+        (linkOf (now (lefts .entry)) (next .index) (next .found - 1)) ⌝ }
+{
+    let gone = next.found - 1;
+    clear_mark(marks, gone);
+    set_two(
+        bounds,
+        next.first,
+        next.second,
+        link(enters, next.index, gone),
+        link(lefts, next.index, gone),
+    );
+}
+
+// Marks the next move as kept, and puts its positions into the sets of its block and its group.
+fn put_on(next: Next, marks: &mut [u64], blocks: &mut [u64], groups: &mut [u64])
+    requires { ⌜ Within (next .index) (next .first) (next .second) (next .found) (next .cancels)
+        × Room (next .index + 1) (now marks) (now blocks) (now groups) ⌝ }
+    ensures { λ _. ⌜ Marks (now (marks .entry)) (next .index) (now (marks .exit)) ⌝ }
+    ensures { λ _. ⌜ TakesIn (now (blocks .entry)) (next .index / 256) (next .first) (next .second) (now (blocks .exit))
+        × TakesIn (now (groups .entry)) (next .index / 16384) (next .first) (next .second) (now (groups .exit)) ⌝ }
+{
+    set_mark(marks, next.index);
+    take_in(blocks, next.index / 256, next.first, next.second);
+    take_in(groups, next.index / 16384, next.first, next.second);
+}
+
+// Links the next move to what is known of its positions, of which it is itself the latest now.
+fn put_links(
+    next: Next,
+    bounds: &mut [usize; 64],
+    lefts: &mut [usize; 512],
+    enters: &mut [usize; 512],
+)
+    requires { ⌜ (next .index < 2 ^ 22) × Within (next .index) (next .first) (next .second) (next .found) (next .cancels) ⌝ }
+    ensures { λ _. ⌜ now (bounds .exit) ≡
+        set (set (now (bounds .entry)) (next .first) (next .index + 1)) (next .second) (next .index + 1) ⌝ }
+    ensures { λ _. ⌜ (now (lefts .exit) ≡
+        set (now (lefts .entry)) (next .index % 512) (min (getD (now (bounds .entry)) (next .first) 0) (next .found)))
+        × (now (enters .exit) ≡
+        set (now (enters .entry)) (next .index % 512) (min (getD (now (bounds .entry)) (next .second) 0) (next .found))) ⌝ }
+{
+    let a = next.first;
+    let b = next.second;
+    set_link(lefts, next.index, sooner(bounds[a], next.found));
+    set_link(enters, next.index, sooner(bounds[b], next.found));
+    set_two(bounds, a, b, next.index + 1, next.index + 1);
+}
+
+// Takes a move: where it cancels with a kept one, that one is kept no longer; else the move is kept.
+fn take_move(
+    next: Next,
     marks: &mut [u64],
     blocks: &mut [u64],
     groups: &mut [u64],
@@ -209,30 +302,21 @@ fn take_move(
     lefts: &mut [usize; 512],
     enters: &mut [usize; 512],
 )
-    requires { ⌜ (6 * (moveSize named * (j + 1)) ≤ 8 * length (now tail)) × Room (j + 1) (now marks) (now blocks) (now groups) ⌝ }
-    requires { ⌜ Going (listedOf named (now tail)) j (now marks) (now blocks) (now groups) (now bounds) (now lefts) (now enters) ⌝ }
-    ensures { λ _. ⌜ Going (listedOf named (now (tail .entry))) (j + 1) (now (marks .exit)) (now (blocks .exit)) (now (groups .exit))
-        (now (bounds .exit)) (now (lefts .exit)) (now (enters .exit)) ⌝ }
+    requires { ⌜ (next .index < 2 ^ 22) × Within (next .index) (next .first) (next .second) (next .found) (next .cancels)
+        × Room (next .index + 1) (now marks) (now blocks) (now groups) ⌝ }
+    ensures { λ _. ⌜ ((f : ℕ → ℕ × ℕ × ℕ)
+        → Met f (now (marks .entry)) (next .index) (next .first) (next .second) (next .found) (next .cancels)
+        → Going f (next .index) (now (marks .entry)) (now (blocks .entry)) (now (groups .entry)) (now (bounds .entry))
+        (now (lefts .entry)) (now (enters .entry))
+        → Going f (next .index + 1) (now (marks .exit)) (now (blocks .exit)) (now (groups .exit)) (now (bounds .exit))
+        (now (lefts .exit)) (now (enters .exit))) ⌝ }
 {
-    let step = field::move_at(tail, named, j);
-    let a = step.first;
-    let b = step.second;
-    let ends = sets::with(sets::only(a), b);
-    let x = bounds[a];
-    let y = bounds[b];
-    let at = look_back(tail, named, marks, blocks, groups, later(x, y), ends);
-    if undone(tail, named, at, a, b) {
-        let gone = at - 1;
-        clear_mark(marks, gone);
-        set_two(bounds, a, b, link(enters, j, gone), link(lefts, j, gone));
+    if next.cancels {
+        take_off(next, marks, bounds, lefts, enters);
         return;
     }
-    set_mark(marks, j);
-    take_in(blocks, j / 256, a, b);
-    take_in(groups, j / 16384, a, b);
-    set_link(lefts, j, sooner(x, at));
-    set_link(enters, j, sooner(y, at));
-    set_two(bounds, a, b, j + 1, j + 1);
+    put_on(next, marks, blocks, groups);
+    put_links(next, bounds, lefts, enters);
 }
 
 // Marks the moves that are kept of the k moves of a plan's tail.
@@ -253,10 +337,9 @@ fn mark_kept(
     let mut enters = [0usize; 512];
     let mut j = 0;
     while j < k {
+        let next = meet(tail, named, j, marks, blocks, groups, &bounds);
         take_move(
-            tail,
-            named,
-            j,
+            next,
             marks,
             blocks,
             groups,

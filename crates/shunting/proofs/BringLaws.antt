@@ -25,11 +25,11 @@ use Rattle.sets.specs.Sets.{Has}
 use Rattle.graph.specs.Walk.{Walk}
 use Rattle.graph.proofs.WalkLaws.{walk-first, walk-last, walk-inside, path-walk}
 use Rattle.graph.specs.Connected.{Except, Robust}
-use Rattle.graph.specs.Rows.{Edge, Rows}
+use Rattle.graph.specs.Rows.{row, Edge, Rows}
 use Rattle.graph.specs.Nearest.{Nearest}
 use Rattle.graph.proofs.NearestLaws.{nearest-found, nearest-short}
 use Rattle.shunting.specs.declared.State.{State}
-use Rattle.shunting.specs.Journey.{row, Fits, Joins, Journey, JourneyOn}
+use Rattle.shunting.specs.Journey.{Fits, Joins, Journey, JourneyOn}
 use Rattle.shunting.proofs.JourneyLaws.{journey-none, journey-append, journey-more, fits-less, fits-then}
 use Rattle.shunting.specs.Turned.{Movable, Passed}
 use Rattle.shunting.specs.Distance.{Reaches, AtMost}

@@ -24,12 +24,12 @@ use Rattle.sets.specs.Sets.{Has}
 use Rattle.sets.proofs.SetLaws.{has-none}
 use Rattle.graph.specs.Walk.{Walk, Path}
 use Rattle.graph.proofs.WalkLaws.{walk-first, walk-inside, walk-reverse, path-walk}
-use Rattle.graph.specs.Rows.{Edge, Rows}
+use Rattle.graph.specs.Rows.{row, Edge, Rows}
 use Rattle.graph.specs.Nearest.{Nearest}
 use Rattle.graph.proofs.NearestLaws.{nearest-short, nearest-inner}
 use Rattle.shunting.specs.declared.State.{State}
 use Rattle.shunting.specs.declared.Clearing.{Clearing}
-use Rattle.shunting.specs.Journey.{row, Fits, Joins, Along, JourneyIn, JourneyOn, JourneyAlong}
+use Rattle.shunting.specs.Journey.{Fits, Joins, Along, JourneyIn, JourneyOn, JourneyAlong}
 use Rattle.shunting.proofs.JourneyLaws.{journey-in-none, journey-in-append, journey-in-more, journey-in-less, journey-in-one}
 use Rattle.shunting.proofs.JourneyLaws.{fits-less}
 use Rattle.shunting.specs.Turned.{Movable, Passed, Simple, Shiftable, Shifted}

@@ -30,7 +30,7 @@ use lib.ListN.{replicate, length-replicate}
 use Rattle.field.specs.Listed.{movesOf}
 use Rattle.sets.specs.Sets.{bit, Has}
 use Rattle.sets.proofs.SetLaws.{has-none, has-below}
-use Rattle.graph.specs.Rows.{Edge, Rows}
+use Rattle.graph.specs.Rows.{row, Edge, Rows}
 use Rattle.graph.proofs.Examples.{rows-tested}
 use Rattle.breakdown.specs.Part.{placeFrom}
 use Rattle.shunting.specs.Went.{Move, Went, Within, Back}
@@ -38,7 +38,7 @@ use Rattle.shunting.specs.Went.Went.{stay, real, stand-in}
 use Rattle.shunting.specs.Went.Back.{done}
 use Rattle.shunting.proofs.WentLaws.{same-refl}
 use Rattle.shunting.specs.declared.State.{State}
-use Rattle.shunting.specs.Journey.{row, onto, Fits, Space}
+use Rattle.shunting.specs.Journey.{onto, Fits, Space}
 use Rattle.shunting.specs.Journey.Trail.{start, entry}
 use Rattle.shunting.specs.Turned.{Simple, Round, Turnable, passMoves, turnMoves, turnWritten}
 use Rattle.shunting.specs.Undone.{carried, Entries, Undoing}

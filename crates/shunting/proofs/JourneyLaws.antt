@@ -48,12 +48,12 @@ use Rattle.field.proofs.ListedLaws.{put-behind-listed}
 use Rattle.field.proofs.WritingLaws.{written-none}
 use Rattle.sets.specs.Sets.{Has}
 use Rattle.sets.proofs.SetLaws.{has-only}
-use Rattle.graph.specs.Rows.{Edge}
+use Rattle.graph.specs.Rows.{row, Edge}
 use Rattle.shunting.specs.Went.{Move, Went, Within}
 use Rattle.shunting.specs.Went.Went.{stay, real, stand-in}
 use Rattle.shunting.proofs.WentLaws.{same-refl, went-append, within-less, within-append, went-one}
 use Rattle.shunting.specs.declared.State.{State}
-use Rattle.shunting.specs.Journey.{row, relogged, Packed, putMove, packedOn, noted, onto, Trail, Fits, Room, Space, made, Moved}
+use Rattle.shunting.specs.Journey.{relogged, Packed, putMove, packedOn, noted, onto, Trail, Fits, Room, Space, made, Moved}
 use Rattle.shunting.specs.Journey.{Trip, Journey, JourneyIn, JourneyBy, Joins, JourneyOn}
 use Rattle.shunting.specs.Turned.{Movable, Passed}
 use Rattle.shunting.specs.Journey.Trail.{start, entry}

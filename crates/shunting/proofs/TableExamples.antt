@@ -13,7 +13,7 @@ use mathlib.Core.Logic.{_≢_, _⊎_, inl, inr, ⊎-elim}
 use native.Mathlib.Omega.{arith}
 use lib.Dec.{lit<, lit≤}
 use lib.ListN.{replicate}
-use Rattle.shunting.specs.Journey.{row}
+use Rattle.graph.specs.Rows.{row}
 use Rattle.shunting.specs.Table.{Table}
 
 abbrev pub corners : ℕ → ℕ → List ℕ

@@ -35,12 +35,12 @@ use Rattle.field.specs.Listed.{movesOf}
 use Rattle.field.proofs.ListedLaws.{movesOf-append}
 use Rattle.sets.specs.Sets.{Has}
 use Rattle.sets.proofs.SetLaws.{has-first}
-use Rattle.graph.specs.Rows.{Edge}
+use Rattle.graph.specs.Rows.{row, Edge}
 use Rattle.breakdown.proofs.PlaceLaws.{place-at}
 use Rattle.shunting.specs.declared.State.{State}
 use Rattle.shunting.specs.Went.{Same, Move, Went}
 use Rattle.shunting.specs.Went.Went.{stay, real, stand-in}
-use Rattle.shunting.specs.Journey.{row, Fits, Journey, JourneyBy, Joins, JourneyOn}
+use Rattle.shunting.specs.Journey.{Fits, Journey, JourneyBy, Joins, JourneyOn}
 use Rattle.shunting.proofs.WentLaws.{move-just}
 use Rattle.shunting.proofs.JourneyLaws.{journey-by-none, journey-by-more, journey-by-append, journey-by-to, journey-by-went}
 use Rattle.shunting.proofs.JourneyLaws.{fits-then, fits-less}

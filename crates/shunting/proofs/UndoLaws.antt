@@ -16,10 +16,10 @@ use mathlib.Core.Logic.{_≢_, by-cases}
 use native.Mathlib.Decide.{ℕ-discrete}
 use native.Mathlib.Omega.{arith}
 use lib.ListN.{length}
-use Rattle.graph.specs.Rows.{Edge}
+use Rattle.graph.specs.Rows.{row, Edge}
 use Rattle.shunting.specs.Went.{Same, Move, Back}
 use Rattle.shunting.specs.declared.State.{State}
-use Rattle.shunting.specs.Journey.{row, Trail, Space, Moved, Trip}
+use Rattle.shunting.specs.Journey.{Trail, Space, Moved, Trip}
 use Rattle.shunting.specs.Journey.Trail.{start, entry}
 use Rattle.shunting.proofs.JourneyLaws.{trip-none, trip-append, trip-more, trip-written, real-named}
 use Rattle.shunting.proofs.JourneyLaws.{moved-passed, moved-trip}

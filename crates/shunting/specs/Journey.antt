@@ -2,7 +2,6 @@
 -- already, and every move in a log, from which it can be taken back. s is the state: the table and the counts; l and t are the log and the
 -- plan's bytes behind its head.
 --
---     row h                      the table as a function of the position
 --     relogged s j               the state s with j moves in its log
 --     stateOf h m c              the racks h, m of them real, and the counts c as one state; unlogged h m w    w moves written, and no log
 --     Packed old ws t            the bytes t are the moves ws in edition two, packed, and behind them what stood there before in `old`
@@ -31,18 +30,15 @@ use Prim.Native.Nat.{ℕ, _+_, _-_, _*_, _/_, _≤_, _<_}
 use mathlib.Core.Path.{_≡_}
 use mathlib.Core.Bool.{true}
 use mathlib.Core.List.{List, [], _∷_}
-use lib.ListN.{getD, length, set}
+use lib.ListN.{length, set}
 use Rattle.field.specs.Packing.{packPositions, putPositions}
 use Rattle.field.specs.Listed.{moveSize, units, allUnits}
 use Rattle.field.specs.Writing.{written}
 use Rattle.sets.specs.Sets.{Has}
-use Rattle.graph.specs.Rows.{Edge}
+use Rattle.graph.specs.Rows.{row, Edge}
 use Rattle.shunting.specs.Went.{Went, Within}
 use Rattle.shunting.specs.declared.State.{State}
 use Rattle.shunting.specs.declared.Tally.{Tally}
-
-abbrev pub row : List ℕ → ℕ → ℕ
-row h p = getD h p 0
 
 abbrev pub relogged : State → ℕ → State
 relogged s j = record { racks = s .racks; real = s .real; written = s .written; logged = j }

@@ -30,10 +30,10 @@ use mathlib.Core.List.{List, [], _∷_, _++_}
 use mathlib.Core.Logic.{_≢_}
 use lib.Dec.{ltb, leb}
 use Rattle.field.specs.Listed.{movesOf}
-use Rattle.graph.specs.Rows.{Edge}
+use Rattle.graph.specs.Rows.{row, Edge}
 use Rattle.breakdown.specs.Part.{placeOf}
 use Rattle.shunting.specs.Went.{Went}
-use Rattle.shunting.specs.Journey.{row, Along, JourneyBy}
+use Rattle.shunting.specs.Journey.{Along, JourneyBy}
 use Rattle.shunting.specs.declared.State.{State}
 
 pub record Enterable (a b : ℕ) (h : ℕ → ℕ) : Type 0 where

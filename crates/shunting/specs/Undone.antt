@@ -10,9 +10,9 @@ use Prim.Native.Nat.{ℕ, _-_, _≤_}
 use mathlib.Core.Bool.{cond}
 use mathlib.Core.List.{List}
 use lib.Dec.{eqb}
-use Rattle.graph.specs.Rows.{Edge}
+use Rattle.graph.specs.Rows.{row, Edge}
 use Rattle.shunting.specs.Went.{Same, Back}
-use Rattle.shunting.specs.Journey.{row, Trail, Trip}
+use Rattle.shunting.specs.Journey.{Trail, Trip}
 use Rattle.shunting.specs.declared.State.{State}
 
 abbrev pub carried : ℕ → ℕ → (ℕ → ℕ) → ℕ → ℕ

@@ -20,14 +20,14 @@ use lib.Dec.{lit<, lit≤}
 use lib.ListN.{getD, length, replicate, length-replicate}
 use Rattle.sets.specs.Sets.{bit}
 use Rattle.graph.specs.Connected.{BiConnected}
-use Rattle.graph.specs.Rows.{Edge, Rows}
+use Rattle.graph.specs.Rows.{row, Edge, Rows}
 use Rattle.graph.proofs.Examples.{floorF, floorF-rows}
 use Rattle.breakdown.specs.Answer.{BreaksDown}
 use Rattle.breakdown.proofs.Examples.{floorF-breakdown, floorF-biConnected}
 use Rattle.shunting.specs.Went.Went.{stay}
 use Rattle.shunting.proofs.WentLaws.{same-refl}
 use Rattle.shunting.specs.declared.State.{State}
-use Rattle.shunting.specs.Journey.{row, onto, Room, Space, made, Trip}
+use Rattle.shunting.specs.Journey.{onto, Room, Space, made, Trip}
 use Rattle.shunting.specs.Journey.Trail.{start as begun}
 use Rattle.shunting.proofs.JourneyLaws.{moved-trip, trip-append}
 use Rattle.shunting.specs.Turned.{Movable}

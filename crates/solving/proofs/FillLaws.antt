@@ -17,7 +17,7 @@ use lib.Seq.{getD-set-same, getD-set-other}
 use Rattle.sets.specs.Sets.{Has}
 use Rattle.sets.proofs.SetLaws.{has-or, has-only, has-none, has-or-not}
 use Rattle.sets.proofs.CountLaws.{ones-least, ones-most, ones-push, ones-pair, ones-third, ones-subset}
-use Rattle.shunting.specs.Journey.{row}
+use Rattle.graph.specs.Rows.{row}
 use Rattle.shunting.specs.Table.{Table}
 use Rattle.solving.specs.Placed.{Placed, Filled, fillFrom, withStandIns}
 

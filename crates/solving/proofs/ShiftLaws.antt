@@ -16,11 +16,11 @@ use Rattle.sets.specs.Sets.{Has}
 use Rattle.graph.specs.Walk.{Symmetric}
 use Rattle.graph.proofs.WalkLaws.{walk-inside}
 use Rattle.graph.specs.Connected.{BiConnected}
-use Rattle.graph.specs.Rows.{Edge, Rows}
+use Rattle.graph.specs.Rows.{row, Edge, Rows}
 use Rattle.shunting.specs.Went.{Went}
 use Rattle.shunting.specs.Went.Went.{stay, real, stand-in}
 use Rattle.shunting.specs.declared.State.{State}
-use Rattle.shunting.specs.Journey.{row, packedOn, Trip, Journey}
+use Rattle.shunting.specs.Journey.{packedOn, Trip, Journey}
 use Rattle.shunting.specs.Journey.Trail.{start}
 use Rattle.shunting.proofs.JourneyLaws.{journey-append}
 use Rattle.shunting.specs.Distance.{Reaches, AtMost}

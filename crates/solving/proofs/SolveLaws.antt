@@ -18,7 +18,7 @@ use native.Mathlib.Nat.{add-mul, mul-left-comm, mul-le-mul, mul-le-mul-left, mul
 use native.Mathlib.Omega.{arith}
 use lib.ListN.{length}
 use Rattle.graph.specs.Walk.{Symmetric}
-use Rattle.graph.specs.Rows.{Edge, Rows}
+use Rattle.graph.specs.Rows.{row, Edge, Rows}
 use Rattle.breakdown.specs.Answer.{BreaksDown}
 use Rattle.breakdown.specs.declared.Breakdown.{Breakdown}
 use Rattle.shunting.specs.declared.State.{State}
@@ -27,7 +27,7 @@ use Rattle.shunting.specs.Went.Back.{done}
 use Rattle.shunting.proofs.WentLaws.{same-refl}
 use Rattle.shunting.proofs.BackLaws.{back-went, back-from}
 use Rattle.shunting.specs.Undone.{Undoing}
-use Rattle.shunting.specs.Journey.{row, onto, Room, Space, Trip}
+use Rattle.shunting.specs.Journey.{onto, Room, Space, Trip}
 use Rattle.shunting.proofs.JourneyLaws.{trip-append, trip-more, trip-written, real-named}
 use Rattle.shunting.specs.Table.{Table}
 use Rattle.base_ring.specs.declared.Circle.{Circle}

@@ -11,9 +11,9 @@ use mathlib.Core.Path.{_≡_}
 use mathlib.Core.List.{List, []}
 use mathlib.Core.Logic.{_≢_}
 use lib.ListN.{length}
-use Rattle.graph.specs.Rows.{Edge}
+use Rattle.graph.specs.Rows.{row, Edge}
 use Rattle.shunting.specs.Went.{Went}
-use Rattle.shunting.specs.Journey.{row, onto, Trail}
+use Rattle.shunting.specs.Journey.{onto, Trail}
 use Rattle.shunting.specs.Table.{Table}
 use Rattle.shunting.specs.declared.State.{State}
 use Rattle.solving.specs.Moves.{shiftMoves}

@@ -2,10 +2,11 @@
 --
 --     places-sound       starts or goals that 14 passes stand at different positions below n
 --     WellPlaced o, well-placed   of a well-formed order: few positions, edges and racks of positions below 64, sound starts and goals
---     OrderGave o n e m, order-gave   what the order reader's acceptance with n, e and m tells
+--     OrderGave o n e m, order-gave, order-accepted   what the order reader's acceptance with n, e and m tells
+--     gave-accepted      and that it accepted
 -- Assumes nothing.
 use Prim.Native.Nat.{ℕ, _+_, _*_, _≤_}
-use mathlib.Core.Path.{_≡_, refl, sym, _∙_}
+use mathlib.Core.Path.{_≡_, refl, sym, ap, _∙_}
 use mathlib.Core.Bool.{false, _&&_}
 use mathlib.Core.List.{List, [], _∷_}
 use mathlib.Core.Logic.{⊎-elim, _≢_}
@@ -21,6 +22,10 @@ use Rattle.field.proofs.UnitLaws.{or-left, or-right, fitting}
 use Rattle.order.specs.Floor.{some}
 use Rattle.order.specs.Order.{positionCount, edgeCount, rackCount, floorOf, startsOf, goalsOf, orderOf, repeats, wrongPlaces}
 use Rattle.order.specs.Order.{wrongRacks, wrongLength, unitCount, counts, orderAnswer, WellFormed}
+use Rattle.order.specs.declared.Counts.{Counts}
+use Rattle.order.specs.declared.OrderVerdict.{OrderVerdict}
+use Rattle.order.specs.declared.OrderVerdict.the-variants.{Accepted}
+use Rattle.order.specs.Verdict.{answerOf}
 use Rattle.order.proofs.OrderLaws.{right-head, well-formed, accepted-is}
 use Rattle.order.proofs.TailLaws.{tail-room}
 use Rattle.motion.specs.Arrangement.{occupied, vacant}
@@ -124,3 +129,11 @@ order-gave o n e m a =
       head-there = fit .head-there;
       room = tail-room o e m es ms fit;
     }
+
+pub order-accepted : {o : List ℕ} {v : OrderVerdict} {c : Counts} → answerOf v ≡ orderAnswer o → v ≡ Accepted c
+    → OrderGave o (c .positions) (c .edges) (c .racks)
+order-accepted told up = order-gave _ _ _ _ (sym (ap answerOf up) ∙ told)
+
+pub gave-accepted : {o : List ℕ} {n e m : ℕ} → OrderGave o n e m → accepted (n ∷ e ∷ m ∷ []) ≡ orderAnswer o
+unfolding counts floorOf
+gave-accepted {o} g = rw (g .positions-are, g .edges-are, g .racks-are) (sym (accepted-is o (g .right)))

@@ -2,8 +2,8 @@
 --
 --     moves-first, moves-next, moves-none    of the moves of a step
 --     part-room, part-moves                  the moves of a step, read from its second byte on
---     cut-ends, cut-length, lines-next, stands-after, lines-none    of the steps of a timetable: the step that
---                                                                   begins at byte `at` is cut out
+--     Cut s i at n       step i + 1 of a timetable begins at byte `at` and has n bytes
+--     cut-ends, cut-length, lines-next, stands-after, lines-none    it is cut out, and its line comes next
 -- Assumes nothing.
 use Prim.Native.Nat.{ℕ, _+_, _-_, _*_, _≤_, _<_}
 use mathlib.Core.Path.{_≡_, refl, sym, ap, _∙_, subst}
@@ -41,25 +41,30 @@ module _ (p : List ℕ) (c : ℕ) (e : c ≡ getD p 0 0) where
   pub part-moves : movesText (pairs (take (length p - 1) (drop 1 p)) 0 c) ≡ movesText (stepMoves p)
   part-moves = ap movesText (ap (pairs (take (length p - 1) (drop 1 p)) 0) e ∙ sym (moves-tail p))
 
-module _ (s : List ℕ) (i at : ℕ) (stands : Stands s i at) (h : i < stepCount s) (n : ℕ) (e : n ≡ stepLength (getD s at 0)) where
+pub record Cut (s : List ℕ) (i at n : ℕ) : Type 0 where
+  pub stands : Stands s i at
+  pub there : i < stepCount s
+  pub size : n ≡ stepLength (getD s at 0)
+
+module _ {s : List ℕ} {i at n : ℕ} (cut : Cut s i at n) where
   pub cut-ends : at + n ≤ length s
-  cut-ends = omega (arith, e, stands-room s i at stands h .ends)
+  cut-ends = omega (arith, cut .size, stands-room s i at (cut .stands) (cut .there) .ends)
 
   cut-is : take (at + n - at) (drop at s) ≡ partAt s at
   cut-is =
-      let same : at + n - at ≡ stepLength (getD s at 0) = omega (arith, e) in
+      let same : at + n - at ≡ stepLength (getD s at 0) = omega (arith, cut .size) in
       ap (λ (k : ℕ). take k (drop at s)) same
 
   pub cut-length : length (take (at + n - at) (drop at s)) ≡ stepLength (getD (take (at + n - at) (drop at s)) 0 0)
-  cut-length = rw cut-is (length-partAt s at (stands-room s i at stands h) ∙ ap stepLength (sym (head-partAt s at)))
+  cut-length = rw cut-is (length-partAt s at (stands-room s i at (cut .stands) (cut .there)) ∙ ap stepLength (sym (head-partAt s at)))
 
   pub lines-next : stepLines (i + 1) (drop i (stepsOf s))
       ≡ stepLine (i + 1) (stepMoves (take (at + n - at) (drop at s))) ++ stepLines (i + 1 + 1) (drop (i + 1) (stepsOf s))
   unfolding stepLines
-  lines-next = rw (steps-next s i at stands h, cut-is) refl
+  lines-next = rw (steps-next s i at (cut .stands) (cut .there), cut-is) refl
 
   pub stands-after : Stands s (i + 1) (at + n)
-  stands-after = subst (Stands s (i + 1)) (ap (λ (k : ℕ). at + k) (sym e)) (stands-next s i at stands h)
+  stands-after = subst (Stands s (i + 1)) (ap (λ (k : ℕ). at + k) (sym (cut .size))) (stands-next s i at (cut .stands) (cut .there))
 
 pub lines-none : (s : List ℕ) (i : ℕ) → stepCount s ≤ i → stepLines (i + 1) (drop i (stepsOf s)) ≡ []
 unfolding stepLines

@@ -2,7 +2,6 @@ pub mod Passing
 pub mod Reading
 pub mod StepReader
 pub mod Turns
-pub mod Judging
 pub mod Layers
 pub mod HandedOut
 pub mod Inhabited

@@ -9,10 +9,12 @@ use std::collections::{BTreeMap, BTreeSet};
 use std::fs;
 use std::path::Path;
 
+const C_INTERFACE: &str = "crates/controller/src/lib.rt";
+
 /// The contracts that a C caller or a user of the programs relies on, and demand 3's: every definition that these files
 /// cite. Of the timetable program's crate and of the season program's it is the program's own contract.
 const CONTRACTS: [(&str, &[&str]); 6] = [
-    ("crates/controller/src/lib.rt", &[]),
+    (C_INTERFACE, &[]),
     ("crates/delivery/src/lib.rt", &[]),
     ("crates/order_program/src/lib.rt", &[]),
     ("crates/plan_program/src/lib.rt", &[]),
@@ -77,6 +79,16 @@ impl Believed {
             assert!(modules[file.as_str()].defines(name), "{file} does not define {name}");
         }
         Believed { files: close(&modules, wanted) }
+    }
+
+    /// What the contract of each function of the C interface rests on, taken by itself, and at the end all of them.
+    pub fn by_function(repository: &Path) -> Vec<(String, Believed)> {
+        let modules = read_modules(repository);
+        let functions = source::exported(&read(&repository.join(C_INTERFACE)));
+        let together = functions.iter().flat_map(|(_, named)| named.clone()).collect();
+        let together = ("all of them together".to_string(), together);
+        let rows = functions.into_iter().chain([together]);
+        rows.map(|(name, named)| (name, Believed { files: close(&modules, named) })).collect()
     }
 
     pub fn lines(&self) -> usize {

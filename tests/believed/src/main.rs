@@ -1,5 +1,5 @@
 //! Prints the definitions that a reader has to believe: those that the promises below cite, and those that these
-//! are made of, file by file with their lines.
+//! are made of, file by file with their lines; then how many lines each function of the C interface rests on.
 
 use believed::Believed;
 use std::path::Path;
@@ -13,4 +13,8 @@ fn main() {
         println!("{lines:>4} {file}: {}", names.join(", "));
     }
     println!("{:>4} lines of definitions, in {} files", believed.lines(), believed.files.len());
+    println!("of these, for one function of the C interface alone:");
+    for (name, believed) in Believed::by_function(&repository) {
+        println!("{:>4} {name}", believed.lines());
+    }
 }

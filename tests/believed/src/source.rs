@@ -114,6 +114,20 @@ pub fn cited(text: &str) -> Vec<(String, String)> {
     lines.flat_map(imports_of).map(|import| (import.file, import.name)).collect()
 }
 
+/// The functions that a source exports to C, each with the definitions that its own contract names.
+pub fn exported(text: &str) -> Vec<(String, Vec<(String, String)>)> {
+    let lines = text.lines().filter_map(|line| line.strip_prefix("ghost "));
+    let imports: Vec<Import> = lines.flat_map(imports_of).collect();
+    let function = |part: &str| {
+        let (name, _) = part.split_once('(').expect("a function has parameters");
+        let (contract, _) = part.split_once("\n{").expect("a function has a body");
+        let words: BTreeSet<String> = contract.lines().flat_map(words_of).collect();
+        let named = imports.iter().filter(|import| words.contains(&import.called));
+        (name.to_string(), named.map(|import| (import.file.clone(), import.name.clone())).collect())
+    };
+    text.split("pub extern \"C\" fn ").skip(1).map(function).collect()
+}
+
 /// `use Rattle.order.specs.Floor.{Floor, joined as joins}`, with `Rattle.order.specs` for a crate's own.
 fn imports_of(line: &str) -> Vec<Import> {
     let Some(path) = line.strip_prefix("use Rattle·") else { return Vec::new() };

@@ -37,3 +37,16 @@ fn the_table_names_just_the_files_with_such_definitions() {
         "not named: {missing:?}; named without need: {needless:?}"
     );
 }
+
+/// README.md: for one function of the C interface a reader never has to believe more than 300 lines.
+#[test]
+fn no_function_of_the_c_interface_rests_on_more_than_300_lines() {
+    let repository = Path::new(env!("CARGO_MANIFEST_DIR")).join("../..");
+    let functions = Believed::by_function(&repository);
+    let (together, alone) = functions.split_last().expect("there are functions");
+    assert_eq!(alone.len(), 19, "the header declares nineteen functions");
+    for (name, believed) in alone {
+        assert!(believed.lines() <= 300, "{name} rests on {} lines", believed.lines());
+        assert!(believed.lines() > 0 && believed.lines() <= together.1.lines());
+    }
+}

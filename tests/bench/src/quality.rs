@@ -15,6 +15,7 @@ use second::breakdown::shortest_path;
 use second::floor::all_positions;
 use second::order;
 use std::collections::HashSet;
+use std::thread;
 use std::time::Instant;
 
 /// Rows and columns of each grid, and how many random orders are planned on it for each count of vacancies.
@@ -178,9 +179,8 @@ const HEAD: &str = "
 floor  vacant  orders    in all |  moves  steps        time |  moves  steps |  moves  steps moves steps |  moves  steps moves steps";
 
 fn print_row(floor: &str, orders: &[Vec<u8>]) {
-    let start = Instant::now();
     let made = mean_length(orders, planned);
-    let time = shown(start.elapsed().as_secs_f64() / orders.len() as f64);
+    let time = shown(made.seconds);
     let (method, distances) = (mean_length(orders, by_method), mean_distances(orders));
     print!("{floor} {:>7} {distances:>9.1} | {made} {time:>11} | {method}", orders.len());
     for choice in [Choice::Nearest, Choice::First] {
@@ -197,10 +197,11 @@ fn vacancy_counts(n: usize) -> Vec<usize> {
     counts
 }
 
-/// The mean length of plans.
+/// The mean length of plans, and the seconds that one takes.
 struct Length {
     moves: f64,
     steps: f64,
+    seconds: f64,
 }
 
 impl std::fmt::Display for Length {
@@ -209,8 +210,27 @@ impl std::fmt::Display for Length {
     }
 }
 
-/// The mean length of the plans that are made for the orders. The checker has to accept them.
-fn mean_length(orders: &[Vec<u8>], plan: impl Fn(&[u8]) -> Vec<u8>) -> Length {
+/// The mean length of the plans that are made for the orders. The checker has to accept them. The orders are shared out
+/// among the cores; an order's seconds are those on its own core.
+fn mean_length(orders: &[Vec<u8>], plan: impl Fn(&[u8]) -> Vec<u8> + Sync) -> Length {
+    let cores = thread::available_parallelism().map_or(1, usize::from);
+    let shares = orders.chunks(orders.len().div_ceil(cores));
+    let plan = &plan;
+    let sums: Vec<(u32, u32, f64)> = thread::scope(|scope| {
+        let running: Vec<_> = shares.map(|share| scope.spawn(move || total_length(share, plan))).collect();
+        running.into_iter().map(|share| share.join().expect("every plan is accepted")).collect()
+    });
+    let mean = |sum: f64| sum / orders.len() as f64;
+    Length {
+        moves: mean(sums.iter().map(|sum| f64::from(sum.0)).sum()),
+        steps: mean(sums.iter().map(|sum| f64::from(sum.1)).sum()),
+        seconds: mean(sums.iter().map(|sum| sum.2).sum()),
+    }
+}
+
+/// The moves and the steps of the orders' plans, and the seconds that it took to plan, check and timetable them.
+fn total_length(orders: &[Vec<u8>], plan: impl Fn(&[u8]) -> Vec<u8>) -> (u32, u32, f64) {
+    let start = Instant::now();
     let (mut moves, mut steps) = (0, 0);
     for order in orders {
         let plan = plan(order);
@@ -219,8 +239,7 @@ fn mean_length(orders: &[Vec<u8>], plan: impl Fn(&[u8]) -> Vec<u8>) -> Length {
         moves += k;
         steps += second::making::make(order, &plan, &mut timetable).expect("the timetable is made");
     }
-    let mean = |sum| f64::from(sum) / orders.len() as f64;
-    Length { moves: mean(moves), steps: mean(steps) }
+    (moves, steps, start.elapsed().as_secs_f64())
 }
 
 /// Room for every plan of a floor with 64 positions.

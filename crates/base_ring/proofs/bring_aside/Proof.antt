@@ -5,7 +5,8 @@ use mathlib.Core.List.{List}
 use native.Mathlib.Omega.{arith}
 use borrow.Author.Needs.{needs}
 use Rattle.sets.specs.Sets.{Has}
-use Rattle.shunting.specs.Journey.{row, Journey}
+use Rattle.graph.specs.Rows.{row}
+use Rattle.shunting.specs.Journey.{Journey}
 use Rattle.shunting.specs.Cleared.{RoomToBring}
 use Rattle.shunting.proofs.BringLaws.{brought-few}
 use Rattle.shunting.specs.Table.{Table}

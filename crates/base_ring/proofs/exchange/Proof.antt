@@ -4,7 +4,8 @@ use Prim.Native.Nat.{ℕ, _+_, _≤_}
 use mathlib.Core.List.{List}
 use native.Mathlib.Omega.{arith}
 use borrow.Author.Needs.{needs}
-use Rattle.shunting.specs.Journey.{row, relogged, Fits}
+use Rattle.graph.specs.Rows.{row}
+use Rattle.shunting.specs.Journey.{relogged, Fits}
 use Rattle.shunting.specs.Table.{Table}
 use Rattle.shunting.proofs.JourneyLaws.{journey-append, fits-then}
 use Rattle.shunting.proofs.TableLaws.{table-went}

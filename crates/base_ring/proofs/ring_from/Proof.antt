@@ -8,7 +8,7 @@ use native.Mathlib.Omega.{arith}
 use lib.ListN.{replicate}
 use Rattle.breakdown.specs.Part.{placeOf}
 use Rattle.breakdown.proofs.PlaceLaws.{placeOf-in}
-use Rattle.shunting.specs.Journey.{row}
+use Rattle.graph.specs.Rows.{row}
 use Rattle.base_ring.specs.From.{round}
 use Rattle.base_ring.proofs.FromLaws.{laid-none, laid-next}
 use Rattle.base_ring.proofs.ring_from.Statement.{statement}

@@ -4,7 +4,7 @@ use Prim.Native.Nat.{ℕ, _+_, _-_, _<_}
 use mathlib.Core.Path.{_∙_}
 use native.Mathlib.Omega.{arith}
 use lib.ListN.{length-replicate}
-use Rattle.shunting.specs.Journey.{row}
+use Rattle.graph.specs.Rows.{row}
 use Rattle.shunting.proofs.JourneyLaws.{trip-append, space-room, space-then, space-less}
 use Rattle.base_ring.specs.Moves.{exchangeMoves}
 use Rattle.base_ring.proofs.SettleLaws.{Settling, settling-begin, settling-room, settling-next, settling-end}

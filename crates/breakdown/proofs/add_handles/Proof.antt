@@ -3,10 +3,10 @@
 -- Assumes nothing.
 use Prim.Native.Nat.{_-_, _<_}
 use native.Mathlib.Omega.{arith}
-use Rattle.graph.specs.Rows.{Edge}
+use Rattle.graph.specs.Rows.{row, Edge}
 use Rattle.breakdown.proofs.ExistLaws.{handle-exists}
 use Rattle.breakdown.proofs.BuildingLaws.{building-full, building-few, building-done}
-use Rattle.breakdown.specs.Building.{row, Building}
+use Rattle.breakdown.specs.Building.{Building}
 use Rattle.breakdown.proofs.add_handles.Statement.{statement}
 use Rattle.breakdown.proofs.add_handles.Tie as tie
 

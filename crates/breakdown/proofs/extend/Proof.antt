@@ -6,7 +6,8 @@ use mathlib.Core.Logic.{⊎-elim}
 use native.Mathlib.Omega.{arith}
 use Rattle.sets.specs.Sets.{Has}
 use Rattle.breakdown.proofs.BuildingLaws.{extended-none, extended-push, settled-room}
-use Rattle.breakdown.specs.Building.{row, Extended}
+use Rattle.graph.specs.Rows.{row}
+use Rattle.breakdown.specs.Building.{Extended}
 use Rattle.breakdown.proofs.extend.Statement.{statement}
 use Rattle.breakdown.proofs.extend.Tie as tie
 

@@ -4,7 +4,7 @@ use Prim.Native.Nat.{_-_, _≤_}
 use mathlib.Core.Path.{_≡_, refl}
 use mathlib.Core.Logic.{_⊎_, inl, inr, ⊎-elim}
 use native.Mathlib.Omega.{arith}
-use Rattle.breakdown.specs.Building.{row}
+use Rattle.graph.specs.Rows.{row}
 use Rattle.breakdown.specs.Part.{Part}
 use Rattle.breakdown.proofs.PartLaws.{part-none, part-next, part-all}
 use Rattle.breakdown.proofs.part.Statement.{statement}

@@ -4,7 +4,7 @@ use Prim.Native.Nat.{_-_, _<_}
 use mathlib.Core.Path.{_≡_, refl, sym, _∙_}
 use native.Mathlib.Omega.{arith}
 use borrow.Author.Needs.{needs}
-use Rattle.breakdown.specs.Building.{row}
+use Rattle.graph.specs.Rows.{row}
 use Rattle.breakdown.specs.Part.{placeOf}
 use Rattle.breakdown.proofs.PlaceLaws.{placeOf-here, placeOf-next, placeOf-end}
 use Rattle.breakdown.proofs.place_of.Statement.{statement}

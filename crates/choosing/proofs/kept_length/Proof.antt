@@ -27,5 +27,5 @@ pub kept-length-spec : {M : Type 1} → statement M
 kept-length-spec =
     tie.close
     (tie.spec
-    (λ c. search needs) (λ c κs. search needs) (λ c. search needs) mul-smaller mul-smaller-2 mul-smaller-3 add-smaller (λ c κs. search needs)
-    (λ c κs. search needs) (λ c. search needs))
+    (λ c. search needs) (λ c κs. search needs) (λ c. search needs) mul-smaller mul-smaller-2 mul-smaller-3 add-smaller
+    (λ c κs. search needs) (λ c κs. search needs) (λ c. search needs))

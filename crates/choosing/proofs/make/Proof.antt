@@ -13,18 +13,26 @@ use Rattle.planner.specs.declared.PlannerVerdict.{PlannerVerdict}
 use Rattle.planner.proofs.PlannerLaws.{moves-few}
 use Rattle.choosing.specs.Overwriting.{Overwritten}
 use Rattle.choosing.proofs.Choices.{kept-front, one-to-give}
-use borrow.Author.Needs.{needs}
 use Rattle.choosing.proofs.make.Statement.{statement}
 use Rattle.choosing.proofs.make.Tie as tie
 
 returns : tie.Need-returns
 returns c = c .before .before .make .ensures
 
+same-length : tie.Need-same-length
+same-length c = c .before .before .make .kept .1 .0
+
+slice-reshare-prefix-put-bytes : tie.Need-slice-reshare-prefix-put-bytes
+slice-reshare-prefix-put-bytes c = c .before .kept-length .ensures .0
+
 slice-aggregate-put-bytes : tie.Need-slice-aggregate-put-bytes
 slice-aggregate-put-bytes c =
     let sized = c .before .before in
     let entry = sized .before .before .before in
     omega (arith, length-take (sized .kept-length .result) (entry .args .buffer .now), sized .kept-length .ensures .0)
+
+slice-aggregate-put-bytes-2 : tie.Need-slice-aggregate-put-bytes-2
+slice-aggregate-put-bytes-2 c = sym (length-replicate {A = ℕ} 262144 0)
 
 put-bytes-requires : tie.Need-put-bytes-requires
 put-bytes-requires c κs =
@@ -59,10 +67,11 @@ module _ (known : tie.After-slice-known3) where
   abbrev B : List ℕ
   B = entry .args .buffer .now
 
+same-length-2 : tie.Need-same-length-2
+same-length-2 c = call (c .before .before) .make2 .kept .1 .0
+
 returns-2 : tie.Need-returns-2
-returns-2 c =
-    let t = c .before .before in
-    call t .make2 .ensures
+returns-2 c = call (c .before .before) .make2 .ensures
 
 -- it has planned k moves
 module _ (told : tie.After-known-told) where
@@ -89,13 +98,17 @@ add-length c = omega (arith, few c)
 add-length-2 : tie.Need-add-length-2
 add-length-2 c = omega (arith, few c)
 
+same-length-3 : tie.Need-same-length-3
+same-length-3 c = call (ready (c .before)) .make2 .kept .1 .0
+
 returns-3 : tie.Need-returns-3
-returns-3 c =
-    plan-made (c .before)
+returns-3 c = plan-made (c .before)
+
+same-length-4 : tie.Need-same-length-4
+same-length-4 c = call (ready (c .before .before)) .make2 .kept .1 .0
 
 returns-4 : tie.Need-returns-4
-returns-4 c =
-    plan-made (c .before .before)
+returns-4 c = plan-made (c .before .before)
 
 -- what was kept
 module _ (told : tie.After-known-told) where
@@ -183,6 +196,12 @@ take-better-requires c κs =
     let e = c .before .before .before .before .before in
     record { buffer = B (ready (planned e)); overwritten = over e }
 
+same-length-5 : tie.Need-same-length-5
+same-length-5 c =
+    let called = c .before .before in
+    let e = called .before .before .before .before .before .before in
+    called .take-better .kept .1 .1 .1 .1 .0 ∙ call (ready (planned e)) .make2 .kept .1 .0
+
 returns-5 : tie.Need-returns-5
 returns-5 c =
     let called = c .before .before in
@@ -193,8 +212,7 @@ pub make-spec : {M : Type 1} → statement M
 make-spec =
     tie.close
     (tie.spec
-    (λ c κs. search needs) (λ c κs. search needs) (λ c. search needs) returns (λ c. search needs) slice-aggregate-put-bytes
-    (λ c. search needs) put-bytes-requires (λ c κs. search needs) (λ c. search needs) (λ c. search needs) (λ c. search needs) returns-2
-    mul-length add-length add-length-2 (λ c. search needs) returns-3 (λ c. search needs) returns-4 (λ c κs. search needs)
-    array-share-prefix-kept slice-aggregate-take-better array-share-prefix-room slice-aggregate-take-better-2 take-better-requires
-    (λ c. search needs) returns-5)
+    (λ c κs. tt) (λ c κs. tt) same-length returns slice-reshare-prefix-put-bytes slice-aggregate-put-bytes slice-aggregate-put-bytes-2
+    put-bytes-requires (λ c κs. tt) (λ c. c .match .keys1) (λ c. c .match .keys2) same-length-2 returns-2 mul-length add-length add-length-2
+    same-length-3 returns-3 same-length-4 returns-4 (λ c κs. tt) array-share-prefix-kept slice-aggregate-take-better array-share-prefix-room
+    slice-aggregate-take-better-2 take-better-requires same-length-5 returns-5)

@@ -4,7 +4,7 @@ use mathlib.Core.Path.{_≡_, sym, ap, subst, _∙_}
 use mathlib.Core.Logic.{⊎-elim}
 use native.Mathlib.Nat.{mul-suc}
 use native.Mathlib.Omega.{arith}
-use Rattle.ring.specs.Standing.{row}
+use Rattle.graph.specs.Rows.{row}
 use Rattle.circling.specs.Needs.{Aimed}
 use Rattle.circling.proofs.NeedsLaws.{aimed-at}
 use Rattle.circling.proofs.aim.Statement.{statement}

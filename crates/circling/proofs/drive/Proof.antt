@@ -4,7 +4,7 @@ use mathlib.Core.Path.{_≡_, sym, ap, subst, _∙_}
 use native.Mathlib.Omega.{arith}
 use lib.ListN.{set}
 use Rattle.ring.specs.Circle.{next}
-use Rattle.ring.specs.Standing.{row}
+use Rattle.graph.specs.Rows.{row}
 use Rattle.ring.proofs.CircleLaws.{next-below}
 use Rattle.shunting.specs.Journey.{unlogged}
 use Rattle.shunting.proofs.JourneyLaws.{space-less}

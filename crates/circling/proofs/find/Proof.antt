@@ -4,7 +4,7 @@ use mathlib.Core.Path.{_≡_, refl, sym, ap, subst, _∙_}
 use mathlib.Core.Logic.{⊎-elim}
 use native.Mathlib.Omega.{arith}
 use borrow.Author.Needs.{needs}
-use Rattle.ring.specs.Standing.{row}
+use Rattle.graph.specs.Rows.{row}
 use Rattle.ring.proofs.CircleLaws.{next-below}
 use Rattle.circling.proofs.DriveLaws.{Tried, tried-none, tried-next}
 use Rattle.circling.proofs.find.Statement.{statement}

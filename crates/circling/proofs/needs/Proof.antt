@@ -5,7 +5,7 @@ use mathlib.Core.List.{List}
 use mathlib.Core.Logic.{⊎-elim}
 use lib.ListN.{set}
 use native.Mathlib.Omega.{arith}
-use Rattle.ring.specs.Standing.{row}
+use Rattle.graph.specs.Rows.{row}
 use Rattle.ring.proofs.OrderLaws.{rack-of}
 use Rattle.circling.specs.Needs.{reach}
 use Rattle.circling.proofs.NeedsLaws.{Needing, needing-first, needing-same, needing-next, needing-last}

@@ -3,7 +3,7 @@ use Prim.Native.Nat.{ℕ, _+_, _-_, _≤_, _<_}
 use mathlib.Core.Path.{_≡_, refl, _∙_}
 use native.Mathlib.Omega.{arith}
 use lib.ListN.{length, length-set, replicate, set}
-use Rattle.ring.specs.Standing.{row}
+use Rattle.graph.specs.Rows.{row}
 use Rattle.circling.specs.Lands.{mirror}
 use Rattle.circling.proofs.LandsLaws.{Mirrored, mirrored-first, mirrored-next}
 use Rattle.circling.proofs.reversed.Statement.{statement}

@@ -3,10 +3,10 @@ use Prim.Native.Nat.{ℕ, _+_, _-_, _*_, _≤_, _<_}
 use mathlib.Core.Path.{_≡_, sym, ap, subst, _∙_}
 use mathlib.Core.List.{List}
 use native.Mathlib.Omega.{arith}
-use Rattle.graph.specs.Rows.{Edge, Rows}
+use Rattle.graph.specs.Rows.{row, Edge, Rows}
 use Rattle.ring.specs.Circle.{Circle}
 use Rattle.ring.specs.Order.{SameOrder}
-use Rattle.ring.specs.Standing.{row, StandAt}
+use Rattle.ring.specs.Standing.{StandAt}
 use Rattle.ring.proofs.CircleLaws.{circle-same}
 use Rattle.ring.proofs.StandingLaws.{standing-of, stand-at}
 use Rattle.shunting.proofs.JourneyLaws.{trip-more, trip-append, trip-anew, trip-logged, space-less, space-then, space-relogged}

@@ -1,11 +1,9 @@
 -- `controller::called_read` meets its contract: a picture read, with the role that the number names. Assumes nothing.
-use mathlib.Core.Path.{ap, _∙_, subst}
-use Rattle.answers.specs.Answer.{Answer}
+use mathlib.Core.Path.{ap, _∙_}
 use Rattle.live.specs.Roles.{reading}
 use Rattle.live.specs.Calls.{callAnswer, byAnswer}
 use Rattle.live.specs.declared.Role.{Role}
-use Rattle.controller.specs.Packed.{oneCount}
-use Rattle.controller.specs.Unpacked.{floorStepsOf, Tells}
+use Rattle.controller.proofs.LiveCalls.{call-told}
 use borrow.Author.Needs.{needs}
 use Rattle.controller.proofs.called_read.Statement.{statement}
 use Rattle.controller.proofs.called_read.Tie as tie
@@ -17,9 +15,7 @@ returns c =
     let a = named .before .before .before .args in
     let is = named .role-of .ensures in
     let made = shown .read .ensures in (
-      subst (λ (x : Answer). Tells oneCount floorStepsOf x (c .live-number .result))
-          (made .0 ∙ ap (λ (r : Role). callAnswer reading r (a .floor) (a .order .now) (a .timetable .now)) is)
-          (c .live-number .ensures),
+      call-told reading _ _ _ is (made .0) (c .live-number .ensures),
       made .1
           ∙ ap (λ (r : Role). byAnswer (callAnswer reading r (a .floor) (a .order .now) (a .timetable .now)) (a .floor .racks)
           (a .racks .now)) is,

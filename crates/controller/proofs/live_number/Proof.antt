@@ -3,17 +3,18 @@ use mathlib.Core.Path.{sym, ap, _∙_, subst}
 use native.Mathlib.Omega.{arith}
 use Rattle.answers.proofs.AnswerLaws.{numberOf-some, numberOf-le}
 use Rattle.live.specs.Calls.{answerOf}
-use Rattle.controller.specs.Packed.{packed, oneCount}
-use Rattle.controller.proofs.AnswerSizes.{Sized, accepts, refuses, WordCount, word-count}
-use Rattle.controller.proofs.PackedLaws.{tells, floor-steps-pack}
+use Rattle.packing.specs.Packed.{packed, oneCount}
+use Rattle.packing.proofs.Sized.{Sized, accepts, refuses, WordCount, word-count}
+use Rattle.packing.proofs.PackedLaws.{tells, floor-steps-pack}
 use borrow.Author.Needs.{needs}
 use Rattle.controller.proofs.live_number.Statement.{statement}
 use Rattle.controller.proofs.live_number.Tie as tie
 
 returns : tie.Need-returns
 returns c =
-    let is = sym (ap answerOf (c .before .verdict .given .1)) in
-    tells floor-steps-pack (subst (Sized WordCount) is (accepts (word-count (omega arith)))) (ap (packed oneCount) is)
+    let is = sym (ap answerOf (c .before .before .verdict .given .1)) in
+    tells floor-steps-pack (subst (Sized WordCount) is (accepts (word-count (omega arith))))
+    (c .one-count .ensures ∙ ap (packed oneCount) is)
 
 returns-2 : tie.Need-returns-2
 returns-2 c =
@@ -28,4 +29,4 @@ pub live-number-spec : {M : Type 1} → statement M
 live-number-spec =
     tie.close
     (tie.spec
-    (λ c. search needs) (λ c. search needs) (λ c. search needs) (λ c. search needs) (λ c κs. search needs) returns returns-2)
+    (λ c. search needs) (λ c. search needs) (λ c κs. search needs) (λ c. search needs) (λ c κs. search needs) returns returns-2)

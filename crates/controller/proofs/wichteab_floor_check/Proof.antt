@@ -1,9 +1,9 @@
 -- `controller::wichteab_floor_check` meets its contract: the verdict's answer, packed. Assumes nothing.
 use mathlib.Core.Path.{ap, sym, _∙_}
 use Rattle.floor.specs.Verdict.{answerOf}
-use Rattle.controller.specs.Packed.{packed, nothing}
+use Rattle.packing.specs.Packed.{packed, nothing}
 use Rattle.controller.proofs.AnswerSizes.{floor-sized}
-use Rattle.controller.proofs.PackedLaws.{tells, nothing-packs}
+use Rattle.packing.proofs.PackedLaws.{tells, nothing-packs}
 use borrow.Author.Needs.{needs}
 use Rattle.controller.proofs.wichteab_floor_check.Statement.{statement}
 use Rattle.controller.proofs.wichteab_floor_check.Tie as tie

@@ -47,8 +47,8 @@ use denote.Exit.{yes}
 use Rattle.live.specs.Roles.{reading, roleOf}
 use Rattle.live.specs.Calls.{callAnswer, byAnswer}
 use Rattle.live.specs.declared.Floor.{Floor}
-use Rattle.controller.specs.Packed.{oneCount}
-use Rattle.controller.specs.Unpacked.{floorStepsOf, Tells}
+use Rattle.packing.specs.Packed.{oneCount}
+use Rattle.packing.specs.Unpacked.{floorStepsOf, Tells}
 use Rattle.live.proofs.Floor as T
 use Rattle.live.proofs.Floor.Laws as T′
 use Rattle.controller.proofs.called_read as g

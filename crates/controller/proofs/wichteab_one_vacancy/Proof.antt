@@ -2,9 +2,9 @@
 -- nothing.
 use mathlib.Core.Path.{ap, sym, _∙_}
 use Rattle.parity.specs.Verdict.{answerOf}
-use Rattle.controller.specs.Packed.{packed, oneCount}
+use Rattle.packing.specs.Packed.{packed, oneCount}
 use Rattle.controller.proofs.AnswerSizes.{vacancy-sized}
-use Rattle.controller.proofs.PackedLaws.{tells, plan-moves-pack}
+use Rattle.packing.proofs.PackedLaws.{tells, plan-moves-pack}
 use borrow.Author.Needs.{needs}
 use Rattle.controller.proofs.wichteab_one_vacancy.Statement.{statement}
 use Rattle.controller.proofs.wichteab_one_vacancy.Tie as tie
@@ -28,4 +28,6 @@ returns-3 c =
 pub wichteab-one-vacancy-spec : {M : Type 1} → statement M
 wichteab-one-vacancy-spec =
     tie.close
-    (tie.spec (λ c κs. search needs) (λ c. search needs) (λ c. search needs) (λ c. search needs) (λ c κs. search needs) returns returns-2 returns-3)
+    (tie.spec
+    (λ c κs. search needs) (λ c. search needs) (λ c. search needs) (λ c. search needs) (λ c κs. search needs) returns returns-2
+    returns-3)

@@ -2,9 +2,9 @@
 use mathlib.Core.Path.{ap, sym, _∙_}
 use Rattle.order.specs.Order.{orderAnswer}
 use Rattle.order.specs.Verdict.{answerOf}
-use Rattle.controller.specs.Packed.{packed, nothing}
+use Rattle.packing.specs.Packed.{packed, nothing}
 use Rattle.controller.proofs.AnswerSizes.{order-sized}
-use Rattle.controller.proofs.PackedLaws.{tells, nothing-packs, uncounted-sized, uncounted-same}
+use Rattle.packing.proofs.PackedLaws.{tells, nothing-packs, uncounted-sized, uncounted-same}
 use borrow.Author.Needs.{needs}
 use Rattle.controller.proofs.wichteab_order_check.Statement.{statement}
 use Rattle.controller.proofs.wichteab_order_check.Tie as tie

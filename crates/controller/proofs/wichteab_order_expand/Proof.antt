@@ -1,31 +1,24 @@
 -- `controller::wichteab_order_expand` meets its contract: the verdict's answer, packed, and the buffer as it is left. Assumes nothing.
 use mathlib.Core.Path.{ap, sym, _∙_}
-use native.Mathlib.Omega.{arith}
-use lib.ListN.{length}
 use Rattle.models.specs.Expansion.{answerOf}
-use Rattle.models.proofs.ExpansionLaws.{accepted-length}
-use Rattle.controller.specs.Packed.{packed, oneCount}
+use Rattle.packing.specs.Packed.{packed, oneCount}
 use Rattle.controller.proofs.AnswerSizes.{expand-sized}
-use Rattle.controller.proofs.PackedLaws.{tells, record-length-packs}
+use Rattle.packing.proofs.PackedLaws.{room-of, tells, record-length-packs}
 use borrow.Author.Needs.{needs}
 use Rattle.controller.proofs.wichteab_order_expand.Statement.{statement}
 use Rattle.controller.proofs.wichteab_order_expand.Tie as tie
 
-mul-result : tie.Need-mul-result
-mul-result c =
-    let found = c .before in
-    let call = found .before .before .before .before in
-    let a = call .before .before .before .before .args in
-    let is = ap answerOf (sym (found .length .given .1)) ∙ call .expand .ensures .0 in
-    let small = accepted-length (a .short .now) (length (a .buffer .now)) (found .length .given .0 .0) is in
-    record { fits = omega arith }
+one-count-requires : tie.Need-one-count-requires
+one-count-requires c κs =
+    let call = c .before .before .before .before .before in
+    room-of record-length-packs (expand-sized _ _) (ap answerOf (sym (c .before .length .given .1)) ∙ call .expand .ensures .0)
 
 returns : tie.Need-returns
 returns c =
-    let found = c .before in
+    let found = c .before .before in
     let made = found .before .before .before .before .expand .ensures in
     let is = ap answerOf (sym (found .length .given .1)) ∙ made .0 in
-    (tells record-length-packs (expand-sized _ _) (ap (packed oneCount) is), made .1)
+    (tells record-length-packs (expand-sized _ _) (c .one-count .ensures ∙ ap (packed oneCount) is), made .1)
 
 returns-2 : tie.Need-returns-2
 returns-2 c =
@@ -38,5 +31,5 @@ pub wichteab-order-expand-spec : {M : Type 1} → statement M
 wichteab-order-expand-spec =
     tie.close
     (tie.spec
-    (λ c κs. search needs) (λ c. search needs) mul-result (λ c. search needs) (λ c κs. search needs) (λ c. search needs) returns
+    (λ c κs. search needs) (λ c. search needs) one-count-requires (λ c. search needs) (λ c κs. search needs) (λ c. search needs) returns
     (λ c. search needs) returns-2)

@@ -1,29 +1,23 @@
 -- `controller::wichteab_plan_check` meets its contract: the verdict's answer, packed; a plan's moves are fewer than
 -- 2 ^ 22. Assumes nothing.
 use mathlib.Core.Path.{ap, sym, _∙_}
-use native.Mathlib.Omega.{arith}
 use Rattle.plan.specs.Verdict.{answerOf}
-use Rattle.plan.proofs.SizeLaws.{moves-small}
-use Rattle.controller.specs.Packed.{packed, oneCount}
+use Rattle.packing.specs.Packed.{packed, oneCount}
 use Rattle.controller.proofs.AnswerSizes.{plan-sized}
-use Rattle.controller.proofs.PackedLaws.{tells, plan-moves-pack}
+use Rattle.packing.proofs.PackedLaws.{room-of, tells, plan-moves-pack}
 use borrow.Author.Needs.{needs}
 use Rattle.controller.proofs.wichteab_plan_check.Statement.{statement}
 use Rattle.controller.proofs.wichteab_plan_check.Tie as tie
 
-mul-result : tie.Need-mul-result
-mul-result c =
-    let check = c .before .before .before in let entry = check .before .before .before in
-    omega (
-      arith,
-      moves-small (entry .args .order .now) (entry .args .plan .now) (c .before .moves .given .0 .0)
-          (ap answerOf (sym (c .before .moves .given .1)) ∙ check .check .ensures),
-    )
+one-count-requires : tie.Need-one-count-requires
+one-count-requires c κs =
+    room-of plan-moves-pack (plan-sized _ _) (ap answerOf (sym (c .before .moves .given .1)) ∙ c .before .before .before .check .ensures)
 
 returns : tie.Need-returns
 returns c =
+    let moves = c .before .before in
     tells plan-moves-pack (plan-sized _ _)
-    (ap (packed oneCount) (ap answerOf (sym (c .before .moves .given .1)) ∙ c .before .before .before .check .ensures))
+    (c .one-count .ensures ∙ ap (packed oneCount) (ap answerOf (sym (moves .moves .given .1)) ∙ moves .before .before .check .ensures))
 
 returns-2 : tie.Need-returns-2
 returns-2 c =
@@ -33,4 +27,6 @@ returns-2 c =
 
 pub wichteab-plan-check-spec : {M : Type 1} → statement M
 wichteab-plan-check-spec =
-    tie.close (tie.spec (λ c κs. search needs) (λ c. search needs) mul-result (λ c. search needs) (λ c κs. search needs) returns returns-2)
+    tie.close
+    (tie.spec
+    (λ c κs. search needs) (λ c. search needs) one-count-requires (λ c. search needs) (λ c κs. search needs) returns returns-2)

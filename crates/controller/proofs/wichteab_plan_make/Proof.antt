@@ -3,12 +3,10 @@
 use Prim.Native.Nat.{ℕ}
 use mathlib.Core.Path.{_≡_, refl, subst}
 use mathlib.Core.List.{List}
-use native.Mathlib.Omega.{arith}
 use Rattle.planner.specs.declared.PlannerVerdict.{PlannerVerdict}
 use Rattle.planner.specs.Planner.{PlanMade, answerOf}
-use Rattle.planner.proofs.PlannerLaws.{moves-few}
 use Rattle.controller.proofs.AnswerSizes.{made-sized}
-use Rattle.controller.proofs.PackedLaws.{tells, plan-moves-pack}
+use Rattle.packing.proofs.PackedLaws.{room-of, tells, plan-moves-pack}
 use borrow.Author.Needs.{needs}
 use Rattle.controller.proofs.wichteab_plan_make.Statement.{statement}
 use Rattle.controller.proofs.wichteab_plan_make.Tie as tie
@@ -16,18 +14,16 @@ use Rattle.controller.proofs.wichteab_plan_make.Tie as tie
 made-as : {o B B′ : List ℕ} {v w : PlannerVerdict} → v ≡ w → PlanMade o B (answerOf v) B′ → PlanMade o B (answerOf w) B′
 made-as {o} {B} {B′} e h = subst (λ (v : PlannerVerdict). PlanMade o B (answerOf v) B′) e h
 
-mul-result : tie.Need-mul-result
-mul-result c =
-    let match = c .before .before in let make = match .before .before .before in
-    let made = made-as (c .before .moves .given .1) (make .make .ensures) in
-    let few = moves-few made in
-    omega arith
+one-count-requires : tie.Need-one-count-requires
+one-count-requires c κs =
+    let make = c .before .before .before .before .before in
+    room-of plan-moves-pack (made-sized (made-as (c .before .moves .given .1) (make .make .ensures))) refl
 
 returns : tie.Need-returns
 returns c =
-    let match = c .before .before in let make = match .before .before .before in
-    let made = made-as (c .before .moves .given .1) (make .make .ensures) in
-    (_, tells plan-moves-pack (made-sized made) refl, made)
+    let moves = c .before .before in let make = moves .before .before .before .before in
+    let made = made-as (moves .moves .given .1) (make .make .ensures) in
+    (_, tells plan-moves-pack (made-sized made) (c .one-count .ensures), made)
 
 returns-2 : tie.Need-returns-2
 returns-2 c =
@@ -39,5 +35,5 @@ pub wichteab-plan-make-spec : {M : Type 1} → statement M
 wichteab-plan-make-spec =
     tie.close
     (tie.spec
-    (λ c κs. search needs) (λ c. search needs) mul-result (λ c. search needs) (λ c κs. search needs) (λ c. search needs) returns
+    (λ c κs. search needs) (λ c. search needs) one-count-requires (λ c. search needs) (λ c κs. search needs) (λ c. search needs) returns
     (λ c. search needs) returns-2)

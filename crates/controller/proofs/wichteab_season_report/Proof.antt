@@ -2,10 +2,10 @@
 use mathlib.Core.Path.{ap, sym, _∙_}
 use Rattle.answers.specs.Answer.{Answer}
 use Rattle.season.specs.Season.{seasonAnswer, answerOf}
-use Rattle.controller.specs.Packed.{packed, nothing}
+use Rattle.packing.specs.Packed.{packed, nothing}
 use Rattle.controller.specs.Report.{reportAfter}
 use Rattle.controller.proofs.AnswerSizes.{season-sized}
-use Rattle.controller.proofs.PackedLaws.{tells, nothing-packs, uncounted-sized, uncounted-same}
+use Rattle.packing.proofs.PackedLaws.{tells, nothing-packs, uncounted-sized, uncounted-same}
 use borrow.Author.Needs.{needs}
 use Rattle.controller.proofs.wichteab_season_report.Statement.{statement}
 use Rattle.controller.proofs.wichteab_season_report.Tie as tie

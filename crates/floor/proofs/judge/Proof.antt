@@ -3,201 +3,157 @@
 use Prim.Native.Nat.{ℕ}
 use mathlib.Core.Bool.{true, false, false≢true}
 use mathlib.Core.Path.{_≡_, ap, sym, subst, _∙_}
-use mathlib.Core.List.{List, [], _∷_}
+use mathlib.Core.List.{List}
 use native.Mathlib.Omega.{arith}
 use borrow.Author.Tests.{not-true, not-false}
-use Rattle.answers.specs.Answer.{accepted}
-use Rattle.order.specs.Order.{floorOf, startsOf, goalsOf, orderAnswer}
+use Rattle.order.specs.Order.{floorOf, startsOf, goalsOf}
 use Rattle.order.specs.Verdict.{answerOf as orderAnswerOf}
 use Rattle.order.specs.declared.Counts.{Counts}
 use Rattle.tables.specs.Accepted.{OrderGave}
+use Rattle.tables.proofs.AcceptedLaws.{order-accepted}
 use Rattle.floor.specs.FloorAnswer.{SameRound}
-use Rattle.floor.proofs.Layers.{order-refused, order-handed, gave, handed, refused-too, crowded, ring-full, ring-other, ring-plain}
-use Rattle.floor.proofs.Layers.{RingFloor, rows-right, rows-counted, rings, ring-tables, apart, many-sided, plain}
+use Rattle.floor.specs.RingTables.{RingTables}
+use Rattle.floor.proofs.FloorRows.{filled-rows}
+use Rattle.floor.proofs.Layers.{order-refused, order-handed, handed, refused-too, crowded, ring-full, ring-other, ring-plain}
+use Rattle.floor.proofs.Layers.{RingFloor, rows-counted, rings, ring-tables, apart, many-sided, plain}
 use borrow.Author.Needs.{needs}
 use Rattle.floor.proofs.judge.Statement.{statement}
 use Rattle.floor.proofs.judge.Tie as tie
 
--- the order's bytes, the counts that the order reader gave, and that it accepted with them
-abbrev bytes : tie.After-known-told → List ℕ
-bytes k =
-    let called = k .before .before .before in
-    let lent = called .before .before .before in
-    lent .before .before .args .order .now
+abbrev bytes : tie.After-decode → List ℕ
+bytes c = c .before .before .before .before .before .args .order .now
 
-abbrev told : tie.After-known-told → Counts
-told k = k .before .below .given .0 .0
+-- the order reader accepted: the call, the counts that it gave, and what that tells
+module _ (c : tie.After-known-told) where
+  abbrev called : tie.After-decode
+  called = c .before .before .before
 
-accepted-by : (k : tie.After-known-told) → accepted (told k .positions ∷ told k .edges ∷ told k .racks ∷ []) ≡ orderAnswer (bytes k)
-accepted-by k =
-    let called = k .before .before .before in
-    ap orderAnswerOf (sym (k .before .below .given .1)) ∙ called .decode .ensures .0
+  abbrev told : Counts
+  told = c .before .below .given .0 .0
 
-read : (k : tie.After-known-told) → OrderGave (bytes k) (told k .positions) (told k .edges) (told k .racks)
-read k = gave (bytes k) (told k .positions) (told k .edges) (told k .racks) (accepted-by k)
+  gave : OrderGave (bytes called) (told .positions) (told .edges) (told .racks)
+  gave = order-accepted (called .decode .ensures .0) (c .before .below .given .1)
+
+-- by the search of the rows the floor is a ring, or it is none
+module _ (c : tie.After-is-ring) where
+  abbrev known : tie.After-known-told
+  known = c .before .before
+
+  is-a : c .is-ring .result ≡ true → RingFloor (bytes (called known))
+  is-a e = rings (gave known) (called known .decode .ensures .1 .0) .0 (c .is-ring .ensures .0 e)
+
+  is-none : c .is-ring .result ≡ false → RingFloor (bytes (called known)) → ⊥
+  is-none e r = false≢true (sym e ∙ c .is-ring .ensures .1 (rings (gave known) (called known .decode .ensures .1 .0) .1 r))
+
+-- a ring with a vacancy
+module _ (c : tie.Else2) where
+  abbrev on : tie.After-known-told
+  on = known (c .before .before)
+
+  tables : let d = called on .decode .last .1 in
+      RingTables (bytes (called on)) (told on .positions) (told on .racks) (d .0) (d .1 .0) (d .1 .1 .0)
+  tables =
+      let d = called on .decode .ensures .1 in
+      ring-tables (gave on) (d .0) (c .before .before .is-ring .ensures .0 (c .before .if1 .taken)) (c .if2 .left) (d .1 .0) (d .1 .1)
+
+-- no ring, and two vacancies
+module _ (c : tie.Else4) where
+  abbrev off : tie.After-known-told
+  off = known (c .before .before)
+
+  none : RingFloor (bytes (called off)) → ⊥
+  none = is-none (c .before .before) (c .before .if1 .left)
 
 returns : tie.Need-returns
 returns c =
     let called = c .before .before .before in
-    let lent = called .before .before .before in
-    let o = lent .before .before .args .order .now in
-    let read = called .decode .ensures in
     let down = ap orderAnswerOf (c .before .enum-told .given .1) in
-    let all = order-refused o _ _ _ _ (read .0) down (c .passed-up .ensures .0) in
-    (all, (order-handed o _ _ _ _ _ all (c .passed-up .ensures .0) (c .passed-up .ensures .1) down, read .1))
-
--- by the search of the rows the floor is a ring, or it is none
-abbrev Searched : Type 0
-Searched = tie.After-is-ring
-
-abbrev known : Searched → tie.After-known-told
-known v = v .before .before
-
-is-a : (v : Searched) → v .is-ring .result ≡ true → RingFloor (bytes (known v)) (told (known v) .positions) (told (known v) .edges) (told
-    (known v) .racks) (accepted-by (known v))
-is-a v e =
-    let k = known v in
-    let called = k .before .before .before in
-    rings (bytes k) (told k .positions) (told k .edges) (told k .racks) (accepted-by k) _ (called .decode .ensures .1 .0) .0
-    (v .is-ring .ensures .0 e)
-
-is-none : (v : Searched) → v .is-ring .result ≡ false → RingFloor (bytes (known v)) (told (known v) .positions) (told (known v) .edges)
-    (told (known v) .racks) (accepted-by (known v)) → ⊥
-is-none v e r =
-    let k = known v in
-    let called = k .before .before .before in
-    false≢true (sym e ∙ v .is-ring .ensures .1 (rings (bytes k) (told k .positions) (told k .edges) (told k .racks) (accepted-by k) _
-    (called .decode .ensures .1 .0) .1 r))
+    let all = order-refused (bytes called) _ _ _ _ (called .decode .ensures .0) down (c .passed-up .ensures .0) in
+    let none = order-handed (bytes called) _ _ _ _ _ all (c .passed-up .ensures .0) (c .passed-up .ensures .1) down in
+    (all, (none, called .decode .ensures .1))
 
 is-ring-requires : tie.Need-is-ring-requires
 is-ring-requires c κs =
-    let k = c .before in
-    let called = k .before .before .before in (
-      rows-right (bytes k) (told k .positions) (told k .edges) (told k .racks) (accepted-by k) _
-          (called .decode .ensures .1 .0),
-      rows-counted (bytes k) (told k .positions) (told k .edges) (told k .racks) (accepted-by k) _
-          (called .decode .ensures .1 .0),
-    )
+    let rows = called (c .before) .decode .ensures .1 .0 in
+    (filled-rows (gave (c .before)) rows, rows-counted (gave (c .before)) rows)
 
 returns-2 : tie.Need-returns-2
 returns-2 c =
     let v = c .before .before in
     let k = known v in
-    let called = k .before .before .before in
-    let down = ring-full (bytes k) (told k .positions) (told k .edges) (told k .racks) (accepted-by k) (is-a v (c .before .if1 .taken))
-    (c .if2 .taken) in
-    (down, (refused-too (bytes k) 20 0 down, called .decode .ensures .1))
+    let down = ring-full (gave k) (is-a v (c .before .if1 .taken)) (c .if2 .taken) in
+    (down, (refused-too (bytes (called k)) 20 0 down, called k .decode .ensures .1))
 
 same-round-requires : tie.Need-same-round-requires
-same-round-requires c κs =
-    let w = c .before .before .before in
-    let v = w .before .before in
-    let k = known v in
-    let d = k .before .before .before .decode .ensures .1 in (
-      bytes k,
-      ring-tables (bytes k) (told k .positions) (told k .edges) (told k .racks) (accepted-by k) _ (d .0) (v .is-ring .ensures .0
-          (w .before .if1 .taken)) (w .if2 .left) _ _ (d .1 .0) (d .1 .1),
-    )
+same-round-requires c κs = let w = c .before .before .before in (bytes (called (on w)), tables w)
 
 returns-3 : tie.Need-returns-3
 returns-3 c =
     let asked = c .before in
     let w = asked .before .before .before .before in
-    let v = w .before .before in
-    let k = known v in
-    let called = k .before .before .before in
-    let d = called .decode .ensures .1 in
-    let down = ring-other (bytes k) (told k .positions) (told k .edges) (told k .racks) (accepted-by k) (is-a v (w .before .if1 .taken))
-    (w .if2 .left)
-    (λ s. false≢true (sym (not-true _ (c .if3 .taken)) ∙ asked .same-round .ensures (bytes k) (ring-tables (bytes k) (told k .positions)
-    (told k .edges) (told k .racks) (accepted-by k) _ (d .0) (v .is-ring .ensures .0 (w .before .if1 .taken)) (w .if2 .left) _ _
-    (d .1 .0) (d .1 .1)) .1
-    (subst (λ (m : ℕ). SameRound (floorOf (bytes k)) m (startsOf (bytes k)) (goalsOf (bytes k))) (sym (read k .racks-are)) s))) in
-    (down, (refused-too (bytes k) 24 0 down, called .decode .ensures .1))
+    let k = on w in
+    let o = bytes (called k) in
+    let down = ring-other (gave k) (is-a (w .before .before) (w .before .if1 .taken)) (w .if2 .left)
+    (λ s. false≢true (sym (not-true _ (c .if3 .taken)) ∙ asked .same-round .ensures o (tables w) .1
+    (subst (λ (m : ℕ). SameRound (floorOf o) m (startsOf o) (goalsOf o)) (sym (gave k .racks-are)) s))) in
+    (down, (refused-too o 24 0 down, called k .decode .ensures .1))
 
 returns-4 : tie.Need-returns-4
 returns-4 c =
     let asked = c .before in
     let w = asked .before .before .before .before in
-    let v = w .before .before in
-    let k = known v in
-    let called = k .before .before .before in
-    let d = called .decode .ensures .1 in
-    let up = ring-plain (bytes k) (told k .positions) (told k .edges) (told k .racks) (accepted-by k) (is-a v (w .before .if1 .taken))
-    (w .if2 .left)
-    (subst (λ (m : ℕ). SameRound (floorOf (bytes k)) m (startsOf (bytes k)) (goalsOf (bytes k))) (read k .racks-are)
-    (asked .same-round .ensures (bytes k) (ring-tables (bytes k) (told k .positions) (told k .edges) (told k .racks) (accepted-by k) _
-    (d .0) (v .is-ring .ensures .0 (w .before .if1 .taken)) (w .if2 .left) _ _ (d .1 .0) (d .1 .1)) .0 (not-false _ (c .if3 .left)))) in
-    (up, (handed (bytes k) (told k .positions) (told k .edges) (told k .racks) (accepted-by k) up, called .decode .ensures .1))
+    let k = on w in
+    let o = bytes (called k) in
+    let up = ring-plain (gave k) (is-a (w .before .before) (w .before .if1 .taken)) (w .if2 .left)
+    (subst (λ (m : ℕ). SameRound (floorOf o) m (startsOf o) (goalsOf o)) (gave k .racks-are)
+    (asked .same-round .ensures o (tables w) .0 (not-false _ (c .if3 .left)))) in
+    (up, (handed (gave k) up, called k .decode .ensures .1))
 
 add-if4 : tie.Need-add-if4
-add-if4 c = omega (arith, read (known (c .before)))
+add-if4 c = omega (arith, gave (known (c .before)))
 
 returns-5 : tie.Need-returns-5
 returns-5 c =
     let v = c .before .before in
     let k = known v in
-    let called = k .before .before .before in
-    let down = crowded (bytes k) (told k .positions) (told k .edges) (told k .racks) (accepted-by k) (is-none v (c .before .if1 .left))
-    (omega arith) in
-    (down, (refused-too (bytes k) 20 0 down, called .decode .ensures .1))
+    let down = crowded (gave k) (is-none v (c .before .if1 .left)) (omega arith) in
+    (down, (refused-too (bytes (called k)) 20 0 down, called k .decode .ensures .1))
 
 is-biconnected-requires : tie.Need-is-biconnected-requires
-is-biconnected-requires c κs =
-    let k = known (c .before .before .before) in
-    let called = k .before .before .before in
-    rows-right (bytes k) (told k .positions) (told k .edges) (told k .racks) (accepted-by k) _ (called .decode .ensures .1 .0)
+is-biconnected-requires c κs = let k = off (c .before) in filled-rows (gave k) (called k .decode .ensures .1 .0)
 
 returns-6 : tie.Need-returns-6
 returns-6 c =
     let searched = c .before in
     let w = searched .before .before in
-    let v = w .before .before in
-    let k = known v in
-    let called = k .before .before .before in
-    let t = searched .is-biconnected in
-    let down = apart (bytes k) (told k .positions) (told k .edges) (told k .racks) (accepted-by k) _ (called .decode .ensures .1 .0)
-    (is-none v (w .before .if1 .left)) (w .if4 .left)
-    (t .result) (t .ensures) (not-true _ (c .if5 .taken)) in
-    (down, (refused-too (bytes k) 21 0 down, called .decode .ensures .1))
+    let k = off w in
+    let d = called k .decode .ensures .1 in
+    let down = apart (gave k) (d .0) (none w) (w .if4 .left) _ (searched .is-biconnected .ensures) (not-true _ (c .if5 .taken)) in
+    (down, (refused-too (bytes (called k)) 21 0 down, d))
 
 is-four-sided-requires : tie.Need-is-four-sided-requires
 is-four-sided-requires c κs =
-    let k = known (c .before .before .before .before .before .before) in
-    let called = k .before .before .before in
-    rows-right (bytes k) (told k .positions) (told k .edges) (told k .racks) (accepted-by k) _ (called .decode .ensures .1 .0)
+    let k = off (c .before .before .before .before) in
+    filled-rows (gave k) (called k .decode .ensures .1 .0)
 
 returns-7 : tie.Need-returns-7
 returns-7 c =
-    let counted = c .before in
-    let passed = counted .before .before in
-    let searched = passed .before in
-    let w = searched .before .before in
-    let v = w .before .before in
-    let k = known v in
-    let called = k .before .before .before in
-    let t = searched .is-biconnected in
-    let u = counted .is-four-sided in
-    let down = many-sided (bytes k) (told k .positions) (told k .edges) (told k .racks) (accepted-by k) _ (called .decode .ensures .1 .0)
-    (is-none v (w .before .if1 .left)) (w .if4 .left)
-    (t .result) (t .ensures) (not-false _ (passed .if5 .left)) (u .result) (u .ensures) (not-true _ (c .if6 .taken)) in
-    (down, (refused-too (bytes k) 26 0 down, called .decode .ensures .1))
+    let passed = c .before .before .before in
+    let w = passed .before .before .before in
+    let k = off w in
+    let d = called k .decode .ensures .1 in
+    let down = many-sided (gave k) (d .0) (none w) (w .if4 .left) _ (passed .before .is-biconnected .ensures)
+    (not-false _ (passed .if5 .left)) _ (c .before .is-four-sided .ensures) (not-true _ (c .if6 .taken)) in
+    (down, (refused-too (bytes (called k)) 26 0 down, d))
 
 returns-8 : tie.Need-returns-8
 returns-8 c =
-    let counted = c .before in
-    let passed = counted .before .before in
-    let searched = passed .before in
-    let w = searched .before .before in
-    let v = w .before .before in
-    let k = known v in
-    let called = k .before .before .before in
-    let t = searched .is-biconnected in
-    let u = counted .is-four-sided in
-    let up = plain (bytes k) (told k .positions) (told k .edges) (told k .racks) (accepted-by k) _ (called .decode .ensures .1 .0)
-    (is-none v (w .before .if1 .left)) (w .if4 .left)
-    (t .result) (t .ensures) (not-false _ (passed .if5 .left)) (u .result) (u .ensures) (not-false _ (c .if6 .left)) in
-    (up, (handed (bytes k) (told k .positions) (told k .edges) (told k .racks) (accepted-by k) up, called .decode .ensures .1))
+    let passed = c .before .before .before in
+    let w = passed .before .before .before in
+    let k = off w in
+    let up = plain (gave k) (called k .decode .ensures .1 .0) (none w) (w .if4 .left) _ (passed .before .is-biconnected .ensures)
+    (not-false _ (passed .if5 .left)) _ (c .before .is-four-sided .ensures) (not-false _ (c .if6 .left)) in
+    (up, (handed (gave k) up, called k .decode .ensures .1))
 
 pub judge-spec : {M : Type 1} → statement M
 judge-spec =

@@ -2,7 +2,8 @@
 use Prim.Native.Nat.{_<_}
 use mathlib.Core.Logic.{_↔_}
 use native.Mathlib.Omega.{arith}
-use Rattle.ring.specs.Standing.{row, StandAt}
+use Rattle.graph.specs.Rows.{row}
+use Rattle.ring.specs.Standing.{StandAt}
 use Rattle.ring.proofs.StandingLaws.{standing-of, stand-at}
 use Rattle.graph.proofs.Decision.{says-same}
 use Rattle.floor.proofs.RoundTables.{rows, starts-on, goals-on, ring-says}
@@ -22,8 +23,7 @@ from-at : (q : Placed)
 from-at q =
     let v = made q in
     let e = v .before in
-    stand-at (starts-on (e .pre .0) (e .args .n) (e .args .m) (e .args .rows .now) (e .args .starts .now) (e .args .goals .now) (e .pre .1)
-    (v .circle .result) (v .circle .ensures .0) (v .circle .ensures .1))
+    stand-at (starts-on (e .pre .1) (v .circle .result) (v .circle .ensures .0) (v .circle .ensures .1))
     (row (q .before .before .places .result)) (q .before .before .places .ensures .0)
 
 to-at : (q : Placed)
@@ -32,53 +32,36 @@ to-at : (q : Placed)
 to-at q =
     let v = made q in
     let e = v .before in
-    stand-at (goals-on (e .pre .0) (e .args .n) (e .args .m) (e .args .rows .now) (e .args .starts .now) (e .args .goals .now) (e .pre .1)
-    (v .circle .result) (v .circle .ensures .0) (v .circle .ensures .1))
+    stand-at (goals-on (e .pre .1) (v .circle .result) (v .circle .ensures .0) (v .circle .ensures .1))
     (row (q .places2 .result)) (q .places2 .ensures .0)
 
 circle-requires : tie.Need-circle-requires
-circle-requires c κs = let e = c in (
-  rows (e .pre .0) (e .args .n) (e .args .m) (e .args .rows .now) (e .args .starts .now)
-      (e .args .goals .now) (e .pre .1),
-  e .pre .1 .rings,
-)
+circle-requires c κs = (rows (c .pre .1), c .pre .1 .rings)
 
 places-requires : tie.Need-places-requires
 places-requires c κs =
     let v = c .before in
     let e = v .before in
-    let few = rows (e .pre .0) (e .args .n) (e .args .m) (e .args .rows .now) (e .args .starts .now) (e .args .goals .now)
-    (e .pre .1) .small in
+    let few = rows (e .pre .1) .small in
     let less = e .pre .1 .less in
-    standing-of (starts-on (e .pre .0) (e .args .n) (e .args .m) (e .args .rows .now) (e .args .starts .now) (e .args .goals .now)
-    (e .pre .1) (v .circle .result) (v .circle .ensures .0) (v .circle .ensures .1)) (omega arith) (rows (e .pre .0) (e .args .n)
-    (e .args .m) (e .args .rows .now) (e .args .starts .now) (e .args .goals .now) (e .pre .1) .small) (omega arith)
-    (v .circle .ensures .0 .inside)
+    standing-of (starts-on (e .pre .1) (v .circle .result) (v .circle .ensures .0) (v .circle .ensures .1)) (omega arith) few
+    (omega arith) (v .circle .ensures .0 .inside)
 
 places-requires-2 : tie.Need-places-requires-2
 places-requires-2 c κs =
     let v = c .before .before .before in
     let e = v .before in
-    let few = rows (e .pre .0) (e .args .n) (e .args .m) (e .args .rows .now) (e .args .starts .now) (e .args .goals .now)
-    (e .pre .1) .small in
+    let few = rows (e .pre .1) .small in
     let less = e .pre .1 .less in
-    standing-of (goals-on (e .pre .0) (e .args .n) (e .args .m) (e .args .rows .now) (e .args .starts .now) (e .args .goals .now)
-    (e .pre .1) (v .circle .result) (v .circle .ensures .0) (v .circle .ensures .1)) (omega arith) (rows (e .pre .0) (e .args .n)
-    (e .args .m) (e .args .rows .now) (e .args .starts .now) (e .args .goals .now) (e .pre .1) .small) (omega arith)
-    (v .circle .ensures .0 .inside)
+    standing-of (goals-on (e .pre .1) (v .circle .result) (v .circle .ensures .0) (v .circle .ensures .1)) (omega arith) few
+    (omega arith) (v .circle .ensures .0 .inside)
 
 same-order-requires : tie.Need-same-order-requires
 same-order-requires c κs =
     let q = c .before .before in
     let v = made q in
-    let e = v .before in (
-      (
-        rows (e .pre .0) (e .args .n) (e .args .m) (e .args .rows .now) (e .args .starts .now) (e .args .goals .now)
-            (e .pre .1) .small,
-        e .pre .1 .less,
-      ),
-      (from-at q .places, to-at q .places),
-    )
+    let e = v .before in
+    ((rows (e .pre .1) .small, e .pre .1 .less), (from-at q .places, to-at q .places))
 
 returns : tie.Need-returns
 returns c =
@@ -86,9 +69,8 @@ returns c =
     let v = made q in
     let e = v .before in
     λ o t.
-    let says = ring-says o (e .args .n) (e .args .m) (e .args .rows .now) (e .args .starts .now) (e .args .goals .now) t (v .circle .result)
-    (v .circle .ensures .0) (v .circle .ensures .1) (row (q .before .before .places .result)) (row (q .places2 .result)) (from-at q)
-    (to-at q) in
+    let says = ring-says t (v .circle .result) (v .circle .ensures .0) (v .circle .ensures .1)
+    (row (q .before .before .places .result)) (row (q .places2 .result)) (from-at q) (to-at q) in
     says-same (says .0) (says .1) (c .same-order .ensures)
 
 pub same-round-spec : {M : Type 1} → statement M

@@ -8,8 +8,9 @@ use mathlib.Core.Logic.{_↔_, _≢_}
 use native.Mathlib.Omega.{arith}
 use Rattle.sets.specs.Sets.{Has}
 use Rattle.breakdown.specs.Part.{Places}
+use Rattle.graph.specs.Rows.{row}
 use Rattle.shunting.specs.declared.State.{State}
-use Rattle.shunting.specs.Journey.{row, onto, Journey, JourneyIn}
+use Rattle.shunting.specs.Journey.{onto, Journey, JourneyIn}
 use Rattle.shunting.specs.Undone.{carried, Undoing}
 use Rattle.shunting.proofs.JourneyLaws.{trip-append, trip-more, trip-anew, journey-append, fits-then, fits-anew, fits-space}
 use Rattle.shunting.proofs.JourneyLaws.{journey-in-none, journey-in-append, journey-in-more, journey-in-less, journey-in-one}

@@ -4,7 +4,7 @@ use Prim.Native.Nat.{_+_, _-_, _≤_}
 use mathlib.Core.Path.{_≡_, _∙_}
 use native.Mathlib.Omega.{arith}
 use lib.ListN.{length, length-set}
-use Rattle.shunting.specs.Journey.{row}
+use Rattle.graph.specs.Rows.{row}
 use Rattle.handles.specs.Lane.{Copied}
 use Rattle.handles.proofs.StageLaws.{copied-none, copied-next, copied-all}
 use Rattle.handles.proofs.copy_places.Statement.{statement}

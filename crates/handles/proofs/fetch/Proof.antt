@@ -5,7 +5,7 @@ use mathlib.Core.Path.{_≡_, refl, _∙_}
 use native.Mathlib.Omega.{arith}
 use Rattle.breakdown.specs.Breakdown.{Between}
 use Rattle.breakdown.proofs.PlaceLaws.{place-at}
-use Rattle.shunting.specs.Journey.{row}
+use Rattle.graph.specs.Rows.{row}
 use Rattle.shunting.specs.Cleared.{Vacancy}
 use Rattle.shunting.proofs.JourneyLaws.{trip-none, trip-more, trip-append, room-less, room-then}
 use Rattle.shunting.proofs.TableLaws.{table-went}

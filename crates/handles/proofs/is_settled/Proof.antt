@@ -3,7 +3,7 @@
 use Prim.Native.Nat.{ℕ, _-_, _≤_, _<_}
 use native.Mathlib.Omega.{arith}
 use Rattle.graph.proofs.Decision.{says-yes, says-no}
-use Rattle.shunting.specs.Journey.{row}
+use Rattle.graph.specs.Rows.{row}
 use Rattle.handles.specs.Lane.{Agreed}
 use Rattle.handles.proofs.StageLaws.{agreed-next}
 use Rattle.handles.proofs.is_settled.Statement.{statement}

@@ -6,7 +6,7 @@ use mathlib.Core.Logic.{_↔_, inl}
 use native.Mathlib.Omega.{arith}
 use lib.Bits.{bitOr}
 use Rattle.sets.specs.Sets.{Has}
-use Rattle.shunting.specs.Journey.{row}
+use Rattle.graph.specs.Rows.{row}
 use Rattle.shunting.proofs.JourneyLaws.{trip-append, trip-anew, fits-anew, fits-then}
 use Rattle.shunting.proofs.TableLaws.{table-went}
 use Rattle.shunting.specs.Distance.{AtMost}

@@ -6,7 +6,8 @@ use mathlib.Core.List.{List}
 use mathlib.Core.Logic.{_≢_}
 use native.Mathlib.Omega.{arith}
 use Rattle.sets.specs.Sets.{Has}
-use Rattle.shunting.specs.Journey.{row, relogged, Fits}
+use Rattle.graph.specs.Rows.{row}
+use Rattle.shunting.specs.Journey.{relogged, Fits}
 use Rattle.shunting.specs.Cleared.{Bringable, RoomToBring}
 use Rattle.shunting.proofs.ClearLaws.{clear-room, clear-few}
 use Rattle.shunting.proofs.BringLaws.{brought-few}

@@ -3,7 +3,7 @@
 use Prim.Native.Nat.{_-_}
 use mathlib.Core.Path.{refl}
 use native.Mathlib.Omega.{arith}
-use Rattle.shunting.specs.Journey.{row}
+use Rattle.graph.specs.Rows.{row}
 use Rattle.shunting.proofs.JourneyLaws.{trip-none, trip-more}
 use Rattle.handles.specs.Moves.{laneMoves}
 use Rattle.handles.proofs.StageLaws.{handle-places}

@@ -4,9 +4,8 @@ use Prim.Native.Nat.{ℕ, _+_, _-_, _≤_, _<_}
 use mathlib.Core.Path.{_≡_}
 use native.Mathlib.Omega.{arith}
 use lib.ListN.{length-replicate}
-use Rattle.graph.specs.Rows.{Edge}
+use Rattle.graph.specs.Rows.{row, Edge}
 use Rattle.breakdown.specs.declared.Breakdown.{Breakdown as Parts}
-use Rattle.shunting.specs.Journey.{row}
 use Rattle.shunting.proofs.JourneyLaws.{space-room}
 use Rattle.handles.specs.Lane.{HandleOn}
 use Rattle.handles.proofs.CycleLaws.{left-below, right-below}

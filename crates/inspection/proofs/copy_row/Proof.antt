@@ -2,7 +2,7 @@
 use Prim.Native.Nat.{_+_, _-_, _≤_}
 use native.Mathlib.Omega.{arith}
 use lib.ListN.{length}
-use Rattle.breakdown.specs.Building.{row}
+use Rattle.graph.specs.Rows.{row}
 use Rattle.inspection.specs.Inspection.{upTo, Copied}
 use Rattle.inspection.proofs.CopyLaws.{copied-none, copied-more, copied-all}
 use Rattle.inspection.proofs.copy_row.Statement.{statement}

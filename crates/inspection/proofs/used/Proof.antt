@@ -1,6 +1,6 @@
 -- `inspection::used` meets its contract. Assumes nothing.
 use borrow.Author.Needs.{needs}
-use Rattle.breakdown.specs.Building.{row}
+use Rattle.graph.specs.Rows.{row}
 use Rattle.inspection.proofs.CopyLaws.{upTo-used, upTo-rest}
 use Rattle.inspection.proofs.used.Statement.{statement}
 use Rattle.inspection.proofs.used.Tie as tie

@@ -1,5 +1,5 @@
 -- `live::list_origins` meets its contract. The loop's invariant: the moves of the row for the positions passed are listed. Assumes nothing.
-use Prim.Native.Nat.{_≤_, _-_}
+use Prim.Native.Nat.{_-_}
 use mathlib.Core.Path.{refl}
 use mathlib.Core.Logic.{⊎-elim}
 use native.Mathlib.Omega.{arith}

@@ -1,6 +1,6 @@
 -- `live::open` meets its contract: what every call begins with, and each rack at its start. Assumes nothing.
 use Prim.Native.Nat.{ℕ}
-use mathlib.Core.Path.{_≡_, ap, sym, _∙_}
+use mathlib.Core.Path.{_≡_, ap, _∙_}
 use mathlib.Core.Bool.{Bool}
 use mathlib.Core.List.{List}
 use native.Mathlib.Omega.{arith}
@@ -11,7 +11,7 @@ use Rattle.live.specs.Picture.{Picture}
 use Rattle.live.specs.Roles.{opening}
 use Rattle.live.specs.Calls.{allowed, answerOf}
 use Rattle.live.specs.Judging.{gateAnswer}
-use Rattle.live.proofs.Gate.{Admitted, gate-told, refused-below}
+use Rattle.live.proofs.Gate.{Admitted, let-in, turned-away, after}
 use Rattle.live.proofs.Lending.{order-head, order-gives}
 use Rattle.live.proofs.Driving.{opening-allowed, opened}
 use borrow.Author.Needs.{needs}
@@ -43,11 +43,9 @@ module _ (gate : tie.After-admit) where
 
 returns : tie.Need-returns
 returns c =
-    let gate = c .before .before in
-    let a = entry gate .args in
-    let is = ap answerOf (c .enum-told2 .given .1) in
-    let told = refused-below opening (a .role) (P gate) (o gate) (t gate) _ _ (sym is ∙ answered gate) in
-    (is ∙ told .0, told .1)
+    let told = c .before in
+    let gate = told .before .before in
+    after (c .leave .ensures) (turned-away opening _ _ _ _ _ (answered gate) _ _ (told .enum-told2 .given .1))
 
 -- what the gate's acceptance tells
 module _ (told : tie.After-enum-told) where
@@ -55,7 +53,7 @@ module _ (told : tie.After-enum-told) where
   gate = told .before .before
 
   is-in : Admitted (allowed opening (entry gate .args .role) (P gate)) (o gate) (t gate) (told .enum-told .given .0 .0)
-  is-in = gate-told _ (o gate) (t gate) _ (sym (ap answerOf (told .enum-told .given .1)) ∙ answered gate)
+  is-in = let-in opening (entry gate .args .role) (P gate) (o gate) (t gate) _ (answered gate) _ (told .enum-told .given .1)
 
   is-right : WellFormed (o gate)
   is-right = accepted-leads (o gate) (t gate) (is-in .counts) .0 (is-in .is-accepted) .order-right
@@ -100,5 +98,5 @@ pub open-spec : {M : Type 1} → statement M
 open-spec =
     tie.close
     (tie.spec
-    (λ c κs. search needs) (λ c κs. search needs) (λ c. search needs) (λ c. search needs) returns counts-of-requires sub-place-racks
-    part-place-racks-start (λ c. search needs) mul-place-racks place-racks-requires cast-t9 returns-2)
+    (λ c κs. search needs) (λ c κs. search needs) (λ c. search needs) (λ c. search needs) (λ c κs. search needs) returns
+    counts-of-requires sub-place-racks part-place-racks-start (λ c. search needs) mul-place-racks place-racks-requires cast-t9 returns-2)

@@ -5,7 +5,6 @@ use mathlib.Core.List.{List}
 use native.Mathlib.Omega.{arith}
 use lib.ListN.{replicate, length-replicate}
 use Rattle.tables.proofs.TableLaws.{zeros-at}
-use Rattle.trains.specs.StepOn.{entries}
 use Rattle.trains.proofs.Moves.{entries-below}
 use Rattle.live.specs.Judging.{OriginsLow, rowMoves}
 use Rattle.live.proofs.Turning.{origins-low, row-turned}

@@ -3,8 +3,6 @@ use native.Mathlib.Omega.{arith}
 use Rattle.models.proofs.GridLaws.{known-range, size-is}
 use Rattle.models.proofs.size_of.Statement.{statement}
 use Rattle.models.proofs.size_of.Tie as tie
-use Rattle.models.proofs.size_of.Reads as reads
-use Rattle.models.proofs.size_of.Lts as lts
 
 -- src/lib.rt:39:20
 sub-t3 : tie.Need-sub-t3

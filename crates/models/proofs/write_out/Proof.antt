@@ -1,135 +1,84 @@
--- `models::write_out` meets its contract. Assumes nothing.
+-- `models::write_out` meets its contract. Its stages are named once, with what is known there. Assumes nothing.
+use Prim.Native.Nat.{_≤_}
 use native.Mathlib.Omega.{arith}
+use lib.ListN.{length}
 use Rattle.models.proofs.ExpansionLaws.{short-fits, length-expanded}
-use Rattle.models.proofs.JudgeLaws.{ShortHead}
-use Rattle.models.proofs.WrittenOut.{out-known, out-racks, out-room, out-counts, out-written}
+use Rattle.models.proofs.JudgeLaws.{read-head}
+use Rattle.models.proofs.WrittenOut.{Begun, out-known, out-racks, out-room, out-counts, out-written}
 use borrow.Author.Needs.{needs}
 use Rattle.models.proofs.write_out.Statement.{statement}
 use Rattle.models.proofs.write_out.Tie as tie
 
+head-there : (c : tie.Start) → 2 ≤ length (c .args .short .now)
+head-there c = short-fits (c .args .short .now) (c .pre .0 .0) .head-there
+
+-- the model is read
+abbrev entry : tie.After-wide → tie.Start
+entry c = c .before .before .before .before
+
+-- the byte with m is read
+abbrev model : tie.After-wide2 → tie.After-wide
+model c = c .before .before
+
+abbrev start : tie.After-size-of → tie.Start
+start c = entry (model (c .before))
+
+begun : (c : tie.After-wide2)
+    → Begun (entry (model c) .args .short .now) (entry (model c) .args .order .now) (model c .wide .result) (c .wide2 .result)
+begun c =
+    let asked = entry (model c) .pre in
+    record {
+      right = asked .0 .0;
+      known = asked .0 .1;
+      enough = asked .1;
+      head = read-head (model c .wide .ensures) (c .wide2 .ensures);
+    }
+
+-- the tail is written
+abbrev size : tie.After-put-tail → tie.After-size-of
+size c = c .before .before .before
+
 shared-slice-read-wide : tie.Need-shared-slice-read-wide
-shared-slice-read-wide c = let start = c .before .before .before in
-    let l = short-fits (start .args .short .now) (start .pre .0 .0) .head-there in
-    omega arith
+shared-slice-read-wide c = let l = head-there (c .before .before .before) in omega arith
 
 shared-slice-read-wide-2 : tie.Need-shared-slice-read-wide-2
-shared-slice-read-wide-2 c = let first = c .before in
-    let start = first .before .before .before .before in
-    let l = short-fits (start .args .short .now) (start .pre .0 .0) .head-there in
-    omega arith
+shared-slice-read-wide-2 c = let l = head-there (entry (c .before)) in omega arith
 
 size-of-requires : tie.Need-size-of-requires
-size-of-requires c κs = let second = c in
-    let first = second .before .before in
-    let start = first .before .before .before .before in
-    let s = start .args .short .now in
-    let x = first .wide .result in
-    let b = second .wide2 .result in
-    let h : ShortHead s x b = record {
-      model-byte = first .wide .ensures .0;
-      model-small = first .wide .ensures .1;
-      racks-byte = second .wide2 .ensures .0;
-      racks-small = second .wide2 .ensures .1;
-    } in
-    out-known s (start .args .order .now) (start .pre .0 .0) (start .pre .0 .1) (start .pre .1) x b h
+size-of-requires c κs = out-known (begun c)
 
 sub-put-tail : tie.Need-sub-put-tail
-sub-put-tail c = let first = c .before .before .before in
-    let start = first .before .before .before .before in
-    let l = length-expanded (start .args .short .now) in
-    omega arith
+sub-put-tail c = let l = length-expanded (start c .args .short .now) in omega arith
 
 part-put-tail-start : tie.Need-part-put-tail-start
-part-put-tail-start c = let first = c .before .before .before in
-    let start = first .before .before .before .before in
-    let l = length-expanded (start .args .short .now) in
-    omega arith
+part-put-tail-start c = let l = length-expanded (start c .args .short .now) in omega arith
 
 sub-put-tail-2 : tie.Need-sub-put-tail-2
-sub-put-tail-2 c = let first = c .before .before .before .before in
-    let start = first .before .before .before .before in
-    let l = short-fits (start .args .short .now) (start .pre .0 .0) .head-there in
-    omega arith
+sub-put-tail-2 c = let l = head-there (start (c .before)) in omega arith
 
 part-put-tail-start-2 : tie.Need-part-put-tail-start-2
-part-put-tail-start-2 c = let first = c .before .before .before .before in
-    let start = first .before .before .before .before in
-    let l = short-fits (start .args .short .now) (start .pre .0 .0) .head-there in
-    omega arith
+part-put-tail-start-2 c = let l = head-there (start (c .before)) in omega arith
 
 put-tail-requires : tie.Need-put-tail-requires
-put-tail-requires c κs = let size = c .before .before in
-    let second = size .before in
-    let first = second .before .before in
-    let start = first .before .before .before .before in
-    let s = start .args .short .now in
-    let x = first .wide .result in
-    let b = second .wide2 .result in
-    let h : ShortHead s x b = record {
-      model-byte = first .wide .ensures .0;
-      model-small = first .wide .ensures .1;
-      racks-byte = second .wide2 .ensures .0;
-      racks-small = second .wide2 .ensures .1;
-    } in
-    let rows = size .size-of .result .rows in
-    let columns = size .size-of .result .columns in
-    let rows-right = size .size-of .ensures in (
-      (
-        rows-right .some-column,
-        rows-right .few-columns,
-        rows-right .few,
-        out-racks s (start .args .order .now) (start .pre .0 .0)
-            (start .pre .0 .1) (start .pre .1) x b h
-            rows columns rows-right,
-      ),
-      out-room s (start .args .order .now) (start .pre .0 .0) (start .pre .0 .1) (start .pre .1) x b h
-          rows columns rows-right,
-    )
+put-tail-requires c κs =
+    let sized = c .before .before in
+    let right = sized .size-of .ensures in
+    let o = begun (sized .before) in
+    ((right .some-column, right .few-columns, right .few, out-racks o right), out-room o right)
 
 put-head-requires : tie.Need-put-head-requires
-put-head-requires c κs = let made = c .before .before .before in
-    let size = made .before .before .before in
-    let second = size .before in
-    let first = second .before .before in
-    let start = first .before .before .before .before in
-    let s = start .args .short .now in
-    let x = first .wide .result in
-    let b = second .wide2 .result in
-    let h : ShortHead s x b = record {
-      model-byte = first .wide .ensures .0;
-      model-small = first .wide .ensures .1;
-      racks-byte = second .wide2 .ensures .0;
-      racks-small = second .wide2 .ensures .1;
-    } in
-    let rows = size .size-of .result .rows in
-    let columns = size .size-of .result .columns in
-    let l = length-expanded s in (
-      omega arith,
-      out-counts s (start .args .order .now) (start .pre .0 .0) (start .pre .0 .1) (start .pre .1) x b h
-          rows columns (size .size-of .ensures) (made .put-tail .last .0) (made .put-tail .result) (made .put-tail .ensures),
-    )
+put-head-requires c κs =
+    let made = c .before .before .before in
+    let sized = size made in
+    let l = length-expanded (start sized .args .short .now) in
+    (omega arith, out-counts (begun (sized .before)) (sized .size-of .ensures) _ (made .put-tail .ensures))
 
 returns : tie.Need-returns
-returns c = let headed = c .before .before in
+returns c =
+    let headed = c .before .before in
     let made = headed .before .before .before .before in
-    let size = made .before .before .before in
-    let second = size .before in
-    let first = second .before .before in
-    let start = first .before .before .before .before in
-    let s = start .args .short .now in
-    let x = first .wide .result in
-    let b = second .wide2 .result in
-    let h : ShortHead s x b = record {
-      model-byte = first .wide .ensures .0;
-      model-small = first .wide .ensures .1;
-      racks-byte = second .wide2 .ensures .0;
-      racks-small = second .wide2 .ensures .1;
-    } in
-    let rows = size .size-of .result .rows in
-    let columns = size .size-of .result .columns in
-    out-written s (start .args .order .now) (start .pre .0 .0) (start .pre .0 .1) (start .pre .1) x b h
-    rows columns (size .size-of .ensures) (made .put-tail .last .0) (made .put-tail .result) (made .put-tail .ensures)
-    (headed .put-head .last .0) (headed .put-head .ensures)
+    let sized = size made in
+    out-written (begun (sized .before)) (sized .size-of .ensures) _ (made .put-tail .ensures) (headed .put-head .ensures)
 
 pub write-out-spec : {M : Type 1} → statement M
 write-out-spec =

@@ -1,65 +1,49 @@
 -- `order::read` meets its contract: a refusal of the edge reader is passed up, and `Layers` has the answers above its acceptance.
 -- Assumes nothing.
-use Prim.Native.Nat.{ℕ}
-use mathlib.Core.Path.{_≡_, ap, sym, _∙_}
-use mathlib.Core.List.{List, [], _∷_}
 use native.Mathlib.Omega.{arith}
 use borrow.Author.Tests.{not-true, not-false}
-use Rattle.answers.specs.Answer.{accepted}
-use Rattle.answers.proofs.AnswerLaws.{passUp-refused}
 use Rattle.order.specs.declared.Counts.{Counts}
-use Rattle.order.specs.Readers.{edgesAnswer}
-use Rattle.order.specs.Verdict.{answerOf}
-use Rattle.order.proofs.Layers.{HeadGave, edges-gave, tail-there, tail-room, order-is, racks-wrong, racks-right}
+use Rattle.order.proofs.Layers.{EdgesGave, edges-gave, edges-down, tail-there, tail-room, racks-wrong, racks-right}
 use borrow.Author.Needs.{needs}
 use Rattle.order.proofs.read.Statement.{statement}
 use Rattle.order.proofs.read.Tie as tie
 
--- the order's bytes, the counts that the edge reader gave, and that it accepted with them
-abbrev bytes : tie.After-known-told → List ℕ
-bytes k = let called = k .before .before .before in called .before .before .args .order .now
+-- the edge reader accepted with these counts
+module _ (c : tie.After-known-told) where
+  abbrev called : tie.After-read-edges
+  called = c .before .before .before
 
-abbrev told : tie.After-known-told → Counts
-told k = k .before .edges .given .0 .0
+  abbrev counts : Counts
+  counts = c .before .edges .given .0 .0
 
-accepted-by : (k : tie.After-known-told) → accepted (told k .positions ∷ told k .edges ∷ told k .racks ∷ []) ≡ edgesAnswer (bytes k)
-accepted-by k = let called = k .before .before .before in ap answerOf (sym (k .before .edges .given .1)) ∙ called .read-edges .ensures
-
-gave : (k : tie.After-known-told) → HeadGave (bytes k) (told k .positions) (told k .edges) (told k .racks)
-gave k = edges-gave (bytes k) (told k .positions) (told k .edges) (told k .racks) (accepted-by k)
+  gave : EdgesGave (called .before .before .args .order .now) (counts .positions) (counts .edges) (counts .racks)
+  gave = edges-gave (called .read-edges .ensures) (c .before .edges .given .1)
 
 returns : tie.Need-returns
 returns c =
     let called = c .before .before in
-    let s = called .before .before .args .order .now in
-    let read = called .read-edges .ensures in
-    read ∙ passUp-refused _ _ _ _ (sym read ∙ ap answerOf (c .enum-told .given .1)) ∙ sym (order-is s)
+    edges-down (called .before .before .args .order .now) (called .read-edges .ensures) (c .enum-told .given .1)
 
 sub-racks-sound : tie.Need-sub-racks-sound
-sub-racks-sound c = tail-there (bytes c) (told c .positions) (told c .edges) (told c .racks) (gave c)
+sub-racks-sound c = tail-there (gave c .head)
 
 part-racks-sound-start : tie.Need-part-racks-sound-start
-part-racks-sound-start c = tail-there (bytes c) (told c .positions) (told c .edges) (told c .racks) (gave c)
+part-racks-sound-start c = tail-there (gave c .head)
 
 racks-sound-requires : tie.Need-racks-sound-requires
 racks-sound-requires c κs =
-    let k = c .before .before .before in
-    let g = gave k in
-    (omega arith, (omega arith, tail-room (bytes k) (told k .positions) (told k .edges) (told k .racks) g))
+    let g = gave (c .before .before .before) .head in
+    (omega arith, (omega arith, tail-room g))
 
 returns-2 : tie.Need-returns-2
 returns-2 c =
     let judged = c .before in
-    let k = (judged .before .before .before) .before in
-    racks-wrong (bytes k) (told k .positions) (told k .edges) (told k .racks) (accepted-by k) (judged .racks-sound .result) _ _
-    (judged .racks-sound .ensures) (not-true _ (c .if1 .taken))
+    racks-wrong (gave (judged .before .before .before .before)) (judged .racks-sound .ensures) (not-true _ (c .if1 .taken))
 
 returns-3 : tie.Need-returns-3
 returns-3 c =
     let judged = c .before in
-    let k = (judged .before .before .before) .before in
-    racks-right (bytes k) (told k .positions) (told k .edges) (told k .racks) (accepted-by k) (judged .racks-sound .result) _ _
-    (judged .racks-sound .ensures) (not-false _ (c .if1 .left))
+    racks-right (gave (judged .before .before .before .before)) (judged .racks-sound .ensures) (not-false _ (c .if1 .left))
 
 pub read-spec : {M : Type 1} → statement M
 read-spec =

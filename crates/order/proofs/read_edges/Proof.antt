@@ -2,69 +2,44 @@
 -- Assumes nothing.
 use native.Mathlib.Omega.{arith}
 use borrow.Author.Tests.{not-true, not-false}
-use mathlib.Core.Path.{ap, sym, _∙_}
-use Rattle.answers.proofs.AnswerLaws.{passUp-refused}
+use Rattle.order.specs.declared.Counts.{Counts}
 use Rattle.order.specs.Readers.{edgesAnswer}
-use Rattle.order.specs.Verdict.{answerOf}
-use Rattle.order.proofs.Layers.{head-gave, tail-there, tail-room, edges-wrong, edges-right}
+use Rattle.order.proofs.Layers.{passed-down, HeadGave, head-gave, tail-there, tail-room, edges-wrong, edges-right}
 use borrow.Author.Needs.{needs}
 use Rattle.order.proofs.read_edges.Statement.{statement}
 use Rattle.order.proofs.read_edges.Tie as tie
 
+-- the head reader accepted with these counts
+module _ (c : tie.After-known-told) where
+  abbrev called : tie.After-read-head
+  called = c .before .before .before
+
+  abbrev counts : Counts
+  counts = c .before .head .given .0 .0
+
+  gave : HeadGave (called .before .before .args .order .now) (counts .positions) (counts .edges) (counts .racks)
+  gave = head-gave (called .read-head .ensures) (c .before .head .given .1)
+
 returns : tie.Need-returns
 unfolding edgesAnswer
-returns c =
-    c .before .before .read-head .ensures
-    ∙ passUp-refused _ _ _ _ (sym (c .before .before .read-head .ensures) ∙ ap answerOf (c .enum-told .given .1))
+returns c = passed-down (c .before .before .read-head .ensures) (c .enum-told .given .1) _
 
 sub-edges-sound : tie.Need-sub-edges-sound
-sub-edges-sound c =
-    let head = c .before in let read-head = head .before .before in let entry = read-head .before .before in
-    tail-there (entry .args .order .now) (head .head .given .0 .0 .positions) (head .head .given .0 .0 .edges)
-    (head .head .given .0 .0 .racks)
-    (head-gave (entry .args .order .now) (head .head .given .0 .0 .positions) (head .head .given .0 .0 .edges)
-    (head .head .given .0 .0 .racks) (ap answerOf (sym (head .head .given .1)) ∙ read-head .read-head .ensures))
+sub-edges-sound c = tail-there (gave c)
 
 part-edges-sound-start : tie.Need-part-edges-sound-start
-part-edges-sound-start c =
-    let head = c .before in let read-head = head .before .before in let entry = read-head .before .before in
-    tail-there (entry .args .order .now) (head .head .given .0 .0 .positions) (head .head .given .0 .0 .edges)
-    (head .head .given .0 .0 .racks)
-    (head-gave (entry .args .order .now) (head .head .given .0 .0 .positions) (head .head .given .0 .0 .edges)
-    (head .head .given .0 .0 .racks) (ap answerOf (sym (head .head .given .1)) ∙ read-head .read-head .ensures))
+part-edges-sound-start c = tail-there (gave c)
 
 edges-sound-requires : tie.Need-edges-sound-requires
-edges-sound-requires c κs =
-    let head = c .before .before in let read-head = head .before .before in let entry = read-head .before .before in
-    omega (
-      arith,
-      tail-room (entry .args .order .now) (head .head .given .0 .0 .positions) (head .head .given .0 .0 .edges)
-          (head .head .given .0 .0 .racks)
-          (head-gave (entry .args .order .now) (head .head .given .0 .0 .positions) (head .head .given .0 .0 .edges)
-          (head .head .given .0 .0 .racks) (ap answerOf (sym (head .head .given .1)) ∙ read-head .read-head .ensures)),
-    )
+edges-sound-requires c κs = omega (arith, tail-room (gave (c .before)))
 
 returns-2 : tie.Need-returns-2
 returns-2 c =
-    let known-told = c .before .before .before in let head = known-told .before in
-    let read-head = head .before .before in let entry = read-head .before .before in
-    edges-wrong (entry .args .order .now) (head .head .given .0 .0 .positions) (head .head .given .0 .0 .edges)
-    (head .head .given .0 .0 .racks)
-    (head-gave (entry .args .order .now) (head .head .given .0 .0 .positions) (head .head .given .0 .0 .edges)
-    (head .head .given .0 .0 .racks) (ap answerOf (sym (head .head .given .1)) ∙ read-head .read-head .ensures))
-    (ap answerOf (sym (head .head .given .1)) ∙ read-head .read-head .ensures) (c .before .edges-sound .result)
-    (c .before .edges-sound .ensures) (not-true _ (c .if1 .taken))
+    edges-wrong (gave (c .before .before .before)) (c .before .edges-sound .ensures) (not-true _ (c .if1 .taken))
 
 returns-3 : tie.Need-returns-3
 returns-3 c =
-    let known-told = c .before .before .before in let head = known-told .before in
-    let read-head = head .before .before in let entry = read-head .before .before in
-    edges-right (entry .args .order .now) (head .head .given .0 .0 .positions) (head .head .given .0 .0 .edges)
-    (head .head .given .0 .0 .racks)
-    (head-gave (entry .args .order .now) (head .head .given .0 .0 .positions) (head .head .given .0 .0 .edges)
-    (head .head .given .0 .0 .racks) (ap answerOf (sym (head .head .given .1)) ∙ read-head .read-head .ensures))
-    (ap answerOf (sym (head .head .given .1)) ∙ read-head .read-head .ensures) (c .before .edges-sound .result)
-    (c .before .edges-sound .ensures) (not-false _ (c .if1 .left))
+    edges-right (gave (c .before .before .before)) (c .before .edges-sound .ensures) (not-false _ (c .if1 .left))
 
 pub read-edges-spec : {M : Type 1} → statement M
 read-edges-spec =

@@ -1,81 +1,70 @@
 -- `plan::check` meets its contract: a refusal of the order reader or of the record reader is passed up, and `Layers` has the judgement
 -- above their acceptance. Assumes nothing.
-use mathlib.Core.Path.{_≡_, ap, sym, _∙_}
+use mathlib.Core.Path.{ap, sym, _∙_}
 use Prim.Native.Nat.{ℕ}
-use mathlib.Core.List.{List, [], _∷_}
-use Rattle.answers.specs.Answer.{accepted}
-use Rattle.answers.proofs.AnswerLaws.{passed-up}
-use Rattle.order.specs.Order.{orderAnswer}
+use mathlib.Core.List.{List}
 use Rattle.order.specs.declared.Counts.{Counts}
-use Rattle.order.specs.Verdict.{answerOf as orderAnswerOf}
 use Rattle.tables.specs.Accepted.{OrderGave}
-use Rattle.tables.proofs.AcceptedLaws.{order-gave}
+use Rattle.tables.proofs.AcceptedLaws.{order-accepted}
+use Rattle.tables.proofs.Layers.{order-refused, record-refused}
 use Rattle.plan.specs.Readers.{recordAnswer}
 use Rattle.plan.specs.Verdict.{answerOf}
-use Rattle.plan.proofs.Layers.{order-turned-down, record-turned-down, RecordGave, record-gave, plan-room, answer-is}
+use Rattle.plan.proofs.Layers.{judgement, plan-is, RecordGave, record-gave, plan-room, answer-is}
 use borrow.Author.Needs.{needs}
 use Rattle.plan.proofs.check.Statement.{statement}
 use Rattle.plan.proofs.check.Tie as tie
 
--- what both readers' acceptance tells
-module _ (c : tie.After-known-told2) where
-  -- the two calls, and the two byte strings
-  abbrev plan-read : tie.After-read-record
-  plan-read = c .before .before .before
+abbrev start : tie.After-read → tie.Start
+start c = c .before .before .before
 
-  abbrev order-told : tie.After-below
-  order-told = plan-read .before .before
-
-  abbrev order-read : tie.After-read
-  order-read = order-told .before .before
-
+-- the order reader's acceptance
+module _ (c : tie.After-below) where
   abbrev o : List ℕ
-  o = order-read .before .before .before .args .order .now
-
-  abbrev p : List ℕ
-  p = order-read .before .before .before .args .plan .now
+  o = start (c .before .before) .args .order .now
 
   abbrev given : Counts
-  given = order-told .below .given .0 .0
-
-  order-accepted : accepted (given .positions ∷ given .edges ∷ given .racks ∷ []) ≡ orderAnswer o
-  order-accepted = ap orderAnswerOf (sym (order-told .below .given .1)) ∙ order-read .read .ensures
-
-  record-accepted : accepted (c .before .head .given .0 .0 ∷ []) ≡ recordAnswer p
-  record-accepted = ap answerOf (sym (c .before .head .given .1)) ∙ plan-read .read-record .ensures
+  given = c .below .given .0 .0
 
   of-order : OrderGave o (given .positions) (given .edges) (given .racks)
-  of-order = order-gave o (given .positions) (given .edges) (given .racks) order-accepted
+  of-order = order-accepted (c .before .before .read .ensures) (c .below .given .1)
+
+-- and the record reader's
+module _ (c : tie.After-known-told2) where
+  abbrev called : tie.After-read-record
+  called = c .before .before .before
+
+  abbrev order : tie.After-below
+  order = called .before .before
+
+  abbrev p : List ℕ
+  p = start (order .before .before) .args .plan .now
 
   of-record : RecordGave p (c .before .head .given .0 .0)
-  of-record = record-gave p (c .before .head .given .0 .0) record-accepted
+  of-record = record-gave p (c .before .head .given .0 .0) (ap answerOf (sym (c .before .head .given .1)) ∙ called .read-record .ensures)
 
 returns : tie.Need-returns
 returns c =
-    let told = c .before in
-    let read = told .before .before in
-    let entry = read .before .before .before .args in
-    order-turned-down (entry .order .now) (entry .plan .now) _ _ _ _ (read .read .ensures) (ap orderAnswerOf (told .enum-told .given .1))
-    (passed-up (c .passed-up .ensures))
+    let read = c .before .before .before in
+    let a = start read .args in
+    order-refused (a .order .now) (recordAnswer (a .plan .now)) (judgement (a .order .now) (a .plan .now))
+    (plan-is (a .order .now) (a .plan .now)) (read .read .ensures) (c .before .enum-told .given .1) (c .passed-up .ensures)
 
 returns-2 : tie.Need-returns-2
 returns-2 c =
-    let plan-read = c .before .before in
-    let told = plan-read .before .before in
-    let read = told .before .before in
-    let entry = read .before .before .before .args in
-    record-turned-down (entry .order .now) (entry .plan .now) _ _ _ _
-    (ap orderAnswerOf (sym (told .below .given .1)) ∙ read .read .ensures) (plan-read .read-record .ensures)
+    let called = c .before .before in
+    let told = called .before .before in
+    let p = start (told .before .before) .args .plan .now in
+    record-refused (o told) (recordAnswer p) (judgement (o told) p) (plan-is (o told) p) (of-order told) (called .read-record .ensures)
     (ap answerOf (c .enum-told2 .given .1))
 
 names-racks-requires : tie.Need-names-racks-requires
 names-racks-requires c κs = of-record c .fit .head-there
 
 sub-judge : tie.Need-sub-judge
-sub-judge c = of-order (c .before) .head-there
+sub-judge c = of-order (order (c .before)) .head-there
 
 part-judge-start : tie.Need-part-judge-start
-part-judge-start c = of-order (c .before) .head-there
+part-judge-start c = of-order (order (c .before)) .head-there
 
 sub-judge-2 : tie.Need-sub-judge-2
 sub-judge-2 c = of-record (c .before .before) .fit .head-there
@@ -86,24 +75,17 @@ part-judge-start-2 c = of-record (c .before .before) .fit .head-there
 judge-requires : tie.Need-judge-requires
 judge-requires c κs =
     let edition = c .before .before in
-    let read = edition .before in
-    let n = given read in
-    let gave = of-order read in
-    let record-is = of-record read in
-    let k = read .before .head .given .0 .0 in
-    let room = plan-room (o read) (n .positions) (n .edges) (n .racks) gave (p read) k record-is (edition .names-racks .result)
-    (edition .names-racks .ensures) in
-    ((gave .few-edges, gave .few-racks, gave .room), (record-is .count-below, room))
+    let gave = of-order (order (edition .before)) in
+    let record-is = of-record (edition .before) in (
+      (gave .few-edges, gave .few-racks, gave .room),
+      (record-is .count-below, plan-room record-is (edition .names-racks .ensures)),
+    )
 
 returns-3 : tie.Need-returns-3
 returns-3 c =
     let edition = c .before .before .before in
     let read = edition .before in
-    let n = given read in
-    let k = read .before .head .given .0 .0 in
-    c .judge .ensures
-    ∙ answer-is (o read) (n .positions) (n .edges) (n .racks) (of-order read) (p read) k (of-record read) (edition .names-racks .result)
-    (edition .names-racks .ensures) (order-accepted read) (record-accepted read)
+    c .judge .ensures ∙ answer-is (of-order (order read)) (of-record read) (edition .names-racks .ensures)
 
 pub check-spec : {M : Type 1} → statement M
 check-spec =

@@ -3,9 +3,10 @@ use Prim.Native.Nat.{_+_, _*_}
 use mathlib.Core.List.{[], _∷_}
 use Rattle.answers.specs.declared.Fault.{Fault}
 use Rattle.field.specs.Bits.{positions}
-use Rattle.tables.proofs.EndingLaws.{JudgeTold}
+use Rattle.field.specs.Listed.{listedMoves}
+use Rattle.tables.specs.MovesOn.{replayOn}
+use Rattle.tables.proofs.EndingLaws.{JudgeTold, judge-told}
 use Rattle.plan.specs.Readers.{tableAnswer}
-use Rattle.plan.proofs.Judging.{table-told}
 use borrow.Author.Needs.{needs}
 use Rattle.plan.proofs.judge.Statement.{statement}
 use Rattle.plan.proofs.judge.Tie as tie
@@ -24,11 +25,12 @@ module _ (ran : tie.After-replay) where
   told : let a = entry .args in
       JudgeTold Fault.PlanGoal (positions (a .order .now) (6 * (2 * a .e + a .m)) (a .m)) (a .k ∷ []) (a .m) (ran .replay .result)
       (ran .replay .last .1 .1 .1 .1 .0) (tableAnswer (a .order .now) (a .e) (a .m) (a .plan .now) (a .named) (a .k))
+  unfolding tableAnswer
   told =
       let a = entry .args in
-      table-told (a .order .now) (a .e) (a .m) (a .plan .now) (a .named) (a .k) _ _ (marked .mark-edges .ensures)
-      (placed .place-racks .ensures)
-      (ran .replay .result) _ (ran .replay .ensures)
+      judge-told Fault.PlanGoal (a .order .now) (a .e) (a .m) (a .k ∷ [])
+      (λ g h. replayOn g h (listedMoves (a .named) (a .plan .now) 0 (a .k)))
+      (marked .mark-edges .ensures) (placed .place-racks .ensures) (ran .replay .ensures)
 
 returns : tie.Need-returns
 returns c = told (c .before .before .before) .stopped _ _ (c .before .replayed .given .1)

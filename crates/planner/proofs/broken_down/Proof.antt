@@ -1,8 +1,8 @@
 -- `planner::broken_down` meets its contract: `MovesLaws` has each part. Assumes nothing.
 use Prim.Native.Nat.{ℕ, _*_}
 use native.Mathlib.Omega.{arith}
-use Rattle.planner.proofs.MovesLaws.{start-holds, goal-holds, start-placed, goal-placed, room-racks, rows-right, broken}
-use Rattle.planner.proofs.MovesLaws.{planned}
+use Rattle.floor.proofs.FloorRows.{filled-rows, filled-starts, filled-goals}
+use Rattle.planner.proofs.MovesLaws.{start-placed, goal-placed, room-racks, broken, planned}
 use borrow.Author.Needs.{needs}
 use Rattle.planner.proofs.broken_down.Statement.{statement}
 use Rattle.planner.proofs.broken_down.Tie as tie
@@ -13,13 +13,13 @@ fill-requires c κs =
     let t = entry .pre .0 .tables in
     let o = entry .pre .0 .order in
     let a = entry .args in
-    let from = start-holds o (a .n) (a .e) (a .m) (t .gave) (a .starts) (t .starts-are) in
+    let from = filled-starts (t .gave) (t .starts-are) in
     let w = t .gave .placed-well .few-positions in
     let p = t .gave .positions-are in (
       omega arith,
       (
-        room-racks o (a .n) (a .e) (a .m) (t .gave) (t .can) (entry .pre .1 .1 .0),
-        (start-placed o (a .n) (a .e) (a .m) (t .gave) _ from, from .size),
+        room-racks (t .gave) (t .can) (entry .pre .1 .1 .0),
+        (start-placed (t .gave) from, from .size),
       ),
     )
 
@@ -29,13 +29,13 @@ fill-requires-2 c κs =
     let t = entry .pre .0 .tables in
     let o = entry .pre .0 .order in
     let a = entry .args in
-    let to = goal-holds o (a .n) (a .e) (a .m) (t .gave) (a .goals) (t .goals-are) in
+    let to = filled-goals (t .gave) (t .goals-are) in
     let w = t .gave .placed-well .few-positions in
     let p = t .gave .positions-are in (
       omega arith,
       (
-        room-racks o (a .n) (a .e) (a .m) (t .gave) (t .can) (entry .pre .1 .1 .0),
-        (goal-placed o (a .n) (a .e) (a .m) (t .gave) _ to, to .size),
+        room-racks (t .gave) (t .can) (entry .pre .1 .1 .0),
+        (goal-placed (t .gave) to, to .size),
       ),
     )
 
@@ -46,7 +46,7 @@ break-down-requires c κs =
     let t = entry .pre .0 .tables in
     let o = entry .pre .0 .order in
     let a = entry .args in
-    rows-right o (a .n) (a .e) (a .m) (t .gave) (t .can) _ (t .rows-are)
+    filled-rows (t .gave) (t .rows-are)
 
 solve-requires : tie.Need-solve-requires
 solve-requires c κs =
@@ -63,10 +63,10 @@ solve-requires c κs =
     let room = entry .pre .1 .1 .1 in
     let w = t .gave .placed-well .few-positions in
     let p = t .gave .positions-are in
-    let most = room-racks o (a .n) (a .e) (a .m) (t .gave) (t .can) (entry .pre .1 .1 .0) in (
-      rows-right o (a .n) (a .e) (a .m) (t .gave) (t .can) _ (t .rows-are),
+    let most = room-racks (t .gave) (t .can) (entry .pre .1 .1 .0) in (
+      filled-rows (t .gave) (t .rows-are),
       (
-        answer .found (broken o (a .n) (a .e) (a .m) (t .gave) (t .can) _ (t .rows-are) (entry .pre .1 .1 .0) _ _ _ _ _ _ answer),
+        answer .found (broken (t .gave) (t .can) (t .rows-are) (entry .pre .1 .1 .0) answer),
         (f .0, (g .0, (g .1 .1 .0, record { racks = f .1 .1 .0; few-racks = omega arith; room = omega arith }))),
       ),
     )
@@ -82,10 +82,10 @@ returns c =
     let e = solved .solve .ensures in
     record {
       moves-of = λ o t.
-          planned o (a .n) (a .e) (a .m) (t .gave) (t .can) (a .rows .now) (t .rows-are) (a .starts) (a .goals)
+          planned (t .gave) (t .can) (t .rows-are)
           (first .fill .last .1 .1 .0) (second .fill2 .last .1 .1 .0) (a .tail .now)
-          (start-holds o (a .n) (a .e) (a .m) (t .gave) (a .starts) (t .starts-are))
-          (goal-holds o (a .n) (a .e) (a .m) (t .gave) (a .goals) (t .goals-are))
+          (filled-starts (t .gave) (t .starts-are))
+          (filled-goals (t .gave) (t .goals-are))
           (entry .pre .1 .0)
           (first .fill .ensures .1 .0) (second .fill2 .ensures .1 .0) (entry .pre .1 .1 .1) (omega arith) (e .0) (e .1);
     }

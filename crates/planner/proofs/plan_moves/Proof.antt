@@ -1,7 +1,8 @@
 -- `planner::plan_moves` meets its contract: where the tables agree there is nothing to move. Assumes nothing.
 use mathlib.Core.Bool.{false≢true}
 use mathlib.Core.Path.{sym, _∙_}
-use Rattle.planner.proofs.MovesLaws.{start-holds, goal-holds, none-needed}
+use Rattle.floor.proofs.FloorRows.{filled-starts, filled-goals}
+use Rattle.planner.proofs.MovesLaws.{none-needed}
 use borrow.Author.Needs.{needs}
 use Rattle.planner.proofs.plan_moves.Statement.{statement}
 use Rattle.planner.proofs.plan_moves.Tie as tie
@@ -13,9 +14,9 @@ returns c =
     let a = entry .args in
     record {
       moves-of = λ o t.
-          none-needed o (a .n) (a .e) (a .m) (t .gave) (a .starts) (a .goals) (a .tail .now)
-          (start-holds o (a .n) (a .e) (a .m) (t .gave) (a .starts) (t .starts-are))
-          (goal-holds o (a .n) (a .e) (a .m) (t .gave) (a .goals) (t .goals-are)) (judged .same-tables .ensures .0 (c .if1 .taken));
+          none-needed (t .gave) (a .tail .now)
+          (filled-starts (t .gave) (t .starts-are))
+          (filled-goals (t .gave) (t .goals-are)) (judged .same-tables .ensures .0 (c .if1 .taken));
     }
 
 round-requires : tie.Need-round-requires

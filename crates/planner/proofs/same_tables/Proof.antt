@@ -3,7 +3,7 @@
 use Prim.Native.Nat.{_-_, _≤_}
 use native.Mathlib.Omega.{arith}
 use Rattle.graph.proofs.Decision.{says-yes, says-no}
-use Rattle.shunting.specs.Journey.{row}
+use Rattle.graph.specs.Rows.{row}
 use Rattle.planner.proofs.SameLaws.{Alike, alike-none, alike-next}
 use Rattle.planner.proofs.same_tables.Statement.{statement}
 use Rattle.planner.proofs.same_tables.Tie as tie

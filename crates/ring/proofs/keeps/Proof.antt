@@ -4,7 +4,7 @@ use mathlib.Core.Logic.{⊎-elim}
 use native.Mathlib.Omega.{arith}
 use Rattle.graph.proofs.Decision.{says-yes, says-no}
 use Rattle.ring.specs.Order.{InFront}
-use Rattle.ring.specs.Standing.{row}
+use Rattle.graph.specs.Rows.{row}
 use Rattle.ring.proofs.OrderLaws.{rack-of, Before, before-first, before-next, before-last}
 use Rattle.ring.proofs.keeps.Statement.{statement}
 use Rattle.ring.proofs.keeps.Tie as tie

@@ -3,7 +3,7 @@ use Prim.Native.Nat.{ℕ, _-_, _≤_, _<_}
 use mathlib.Core.Path.{_≡_, refl, sym, subst, _∙_}
 use native.Mathlib.Omega.{arith}
 use lib.ListN.{length, length-set, replicate}
-use Rattle.ring.specs.Standing.{row}
+use Rattle.graph.specs.Rows.{row}
 use Rattle.ring.proofs.StandingLaws.{below-set, none-at, Placing, placing-none, placing-next}
 use Rattle.ring.proofs.places.Statement.{statement}
 use Rattle.ring.proofs.places.Tie as tie

@@ -7,7 +7,7 @@ use native.Mathlib.Omega.{arith}
 use borrow.Author.Tests.{not-true, not-false}
 use Rattle.graph.proofs.Decision.{says-yes, says-no}
 use Rattle.ring.specs.Order.{Keeps}
-use Rattle.ring.specs.Standing.{row}
+use Rattle.graph.specs.Rows.{row}
 use Rattle.ring.proofs.OrderLaws.{rack-of, order-kept, kept-order, Before, before-first, before-next, before-last}
 use Rattle.ring.proofs.same_order.Statement.{statement}
 use Rattle.ring.proofs.same_order.Tie as tie

@@ -5,9 +5,9 @@ use borrow.Author.Needs.{needs}
 use lib.Dec.{lit<}
 use Rattle.field.specs.Listed.{movesAt}
 use Rattle.field.proofs.ListedLaws.{length-moves}
-use Rattle.scheduling.specs.Filling.{latest}
-use Rattle.scheduling.proofs.FillingLaws.{latest-few}
-use Rattle.scheduling.proofs.Stretching.{begun-first, kept-first}
+use Rattle.passing.specs.Filling.{latest}
+use Rattle.passing.proofs.FillingLaws.{latest-few}
+use Rattle.passing.proofs.Stretching.{begun-first, kept-first}
 use Rattle.scheduling.proofs.Windowing.{windows-none, windows-all}
 use Rattle.scheduling.proofs.make_steps.Statement.{statement}
 use Rattle.scheduling.proofs.make_steps.Tie as tie

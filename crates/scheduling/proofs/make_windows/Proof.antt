@@ -7,9 +7,10 @@ use native.Mathlib.Omega.{arith}
 use lib.ListN.{length}
 use Rattle.field.specs.Listed.{movesAt}
 use Rattle.field.proofs.ListedLaws.{length-moves}
-use Rattle.scheduling.specs.Filling.{latest}
-use Rattle.scheduling.specs.Stretches.{Kept, Counted}
-use Rattle.scheduling.proofs.FillingLaws.{latest-few}
+use Rattle.passing.specs.Filling.{latest}
+use Rattle.passing.specs.Stretches.{Kept}
+use Rattle.scheduling.specs.Windows.{Counted}
+use Rattle.passing.proofs.FillingLaws.{latest-few}
 use Rattle.scheduling.proofs.Windowing.{counted-first, counted-later, counted-on, counted-last, WroteWindows, windows-none}
 use Rattle.scheduling.proofs.Windowing.{windows-length, windows-room, windows-more, windows-all}
 use Rattle.scheduling.proofs.make_windows.Statement.{statement}

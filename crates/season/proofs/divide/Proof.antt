@@ -4,8 +4,6 @@ use Rattle.season.specs.Season.{parallelism}
 use Rattle.season.proofs.SeasonLaws.{parallelism-of}
 use Rattle.season.proofs.divide.Statement.{statement}
 use Rattle.season.proofs.divide.Tie as tie
-use Rattle.season.proofs.divide.Reads as reads
-use Rattle.season.proofs.divide.Lts as lts
 
 returns : tie.Need-returns
 unfolding parallelism

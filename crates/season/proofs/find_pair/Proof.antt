@@ -4,10 +4,6 @@ use borrow.Author.Needs.{needs}
 use Rattle.season.proofs.SeasonLaws.{order-inside, no-order, no-timetable, within, pair-found}
 use Rattle.season.proofs.find_pair.Statement.{statement}
 use Rattle.season.proofs.find_pair.Tie as tie
-use Rattle.season.proofs.find_pair.Reads as reads
-use Rattle.season.proofs.find_pair.Lts as lts
-use Rattle.order.proofs.record_length.Reads as record-length-reads
-use Rattle.timetable.proofs.record_length.Reads as record-length-reads′
 
 returns : tie.Need-returns
 returns c = let order = c .before .record-length in no-order _ (order .result) (order .ensures) (search needs)

@@ -8,10 +8,6 @@ use borrow.Author.Needs.{needs}
 use Rattle.season.proofs.SeasonLaws.{Left, begins, over, thousandfold, full, cut, next}
 use Rattle.season.proofs.report.Statement.{statement}
 use Rattle.season.proofs.report.Tie as tie
-use Rattle.season.proofs.report.Reads as reads
-use Rattle.season.proofs.report.Lts as lts
-use Rattle.season.proofs.count_pair.Reads as count-pair-reads
-use Rattle.season.proofs.find_pair.Reads as find-pair-reads
 
 abbrev Inv-loop : tie.InvT-loop
 Inv-loop bytes totals₀ pairs₀ at₀ totals pairs at = Left bytes totals pairs at

@@ -3,11 +3,6 @@ use Rattle.season_program.proofs.PrintedLaws.{word-fits, number-fits, e
 use borrow.Author.Needs.{needs}
 use Rattle.season_program.proofs.put_count.Statement.{statement}
 use Rattle.season_program.proofs.put_count.Tie as tie
-use Rattle.season_program.proofs.put_count.Reads as reads
-use Rattle.season_program.proofs.put_count.Lts as lts
-use Rattle.writers.proofs.put_byte.Reads as put-byte-reads
-use Rattle.writers.proofs.put_bytes.Reads as put-bytes-reads
-use Rattle.writers.proofs.put_decimal.Reads as put-decimal-reads
 
 put-bytes-requires : tie.Need-put-bytes-requires
 put-bytes-requires c κs = search (word-fits, needs)

@@ -3,9 +3,6 @@ use Rattle.season_program.proofs.PrintedLaws.{accepted-fits, refused-fi
 use borrow.Author.Needs.{needs}
 use Rattle.season_program.proofs.put_counts.Statement.{statement}
 use Rattle.season_program.proofs.put_counts.Tie as tie
-use Rattle.season_program.proofs.put_counts.Reads as reads
-use Rattle.season_program.proofs.put_counts.Lts as lts
-use Rattle.season_program.proofs.put_count.Reads as put-count-reads
 
 put-count-requires : tie.Need-put-count-requires
 put-count-requires c κs = search (accepted-fits, needs)

@@ -3,11 +3,6 @@ use Rattle.season_program.proofs.PrintedLaws.{label-fits, quotient-fits
 use borrow.Author.Needs.{needs}
 use Rattle.season_program.proofs.put_parallelism.Statement.{statement}
 use Rattle.season_program.proofs.put_parallelism.Tie as tie
-use Rattle.season_program.proofs.put_parallelism.Reads as reads
-use Rattle.season_program.proofs.put_parallelism.Lts as lts
-use Rattle.season_program.proofs.put_quotient.Reads as put-quotient-reads
-use Rattle.writers.proofs.put_byte.Reads as put-byte-reads
-use Rattle.writers.proofs.put_bytes.Reads as put-bytes-reads
 
 put-bytes-requires : tie.Need-put-bytes-requires
 put-bytes-requires c κs = search (label-fits, needs)

@@ -10,10 +10,6 @@ use Rattle.season_program.proofs.PrintedLaws.{none-text, number-text}
 use borrow.Author.Needs.{needs}
 use Rattle.season_program.proofs.put_quotient.Statement.{statement}
 use Rattle.season_program.proofs.put_quotient.Tie as tie
-use Rattle.season_program.proofs.put_quotient.Reads as reads
-use Rattle.season_program.proofs.put_quotient.Lts as lts
-use Rattle.writers.proofs.put_bytes.Reads as put-bytes-reads
-use Rattle.writers.proofs.put_decimal.Reads as put-decimal-reads
 
 abbrev told : Parallelism → List ℕ
 told p = quotientText (toldBy p)

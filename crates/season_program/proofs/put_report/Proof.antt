@@ -3,10 +3,6 @@ use Rattle.season_program.proofs.PrintedLaws.{counts-fit, last-fits, re
 use borrow.Author.Needs.{needs}
 use Rattle.season_program.proofs.put_report.Statement.{statement}
 use Rattle.season_program.proofs.put_report.Tie as tie
-use Rattle.season_program.proofs.put_report.Reads as reads
-use Rattle.season_program.proofs.put_report.Lts as lts
-use Rattle.season_program.proofs.put_counts.Reads as put-counts-reads
-use Rattle.season_program.proofs.put_parallelism.Reads as put-parallelism-reads
 
 put-counts-requires : tie.Need-put-counts-requires
 put-counts-requires c κs = search (counts-fit, needs)

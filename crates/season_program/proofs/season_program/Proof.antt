@@ -19,12 +19,6 @@ use Rattle.season_program.proofs.PrintedLaws.{report-text, refusal-text
 use borrow.Author.Needs.{needs}
 use Rattle.season_program.proofs.season_program.Statement.{statement}
 use Rattle.season_program.proofs.season_program.Tie as tie
-use Rattle.season_program.proofs.season_program.Reads as reads
-use Rattle.season_program.proofs.season_program.Lts as lts
-use Rattle.answers.proofs.number.Reads as number-reads
-use Rattle.season.proofs.report.Reads as report-reads
-use Rattle.season_program.proofs.put_report.Reads as put-report-reads
-use Rattle.writers.proofs.put_refusal.Reads as put-refusal-reads
 
 -- a number that an enum holds fits its 64 bits
 small : (p : Parallelism) (vs : List Val) → Is (row the-type) p vs → getD (toldBy p) 0 0 < 2 ^ 64

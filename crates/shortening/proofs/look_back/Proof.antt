@@ -65,10 +65,10 @@ loop-again c =
     let low = went .back .ensures .1 moves (inv .1) down in (
       omega (arith, inv .0, went .back .ensures .0),
       looked-after moves (entry .marks .now) (entry .ends) (went .back .result) (inv .1) low
-          (blocked .forget-block .ensures) (grouped .forget-group .ensures),
+          (blocked .forget .ensures) (grouped .forget2 .ensures),
       low,
-      blocked .forget-block .kept .0 ∙ inv .3,
-      grouped .forget-group .kept .0 ∙ inv .4,
+      blocked .forget .kept .0 ∙ inv .3,
+      grouped .forget2 .kept .0 ∙ inv .4,
     )
 
 same-length-3 : tie.Need-same-length-3 Inv-loop μ-loop

@@ -1,11 +1,11 @@
 -- `shortening::mark_kept` meets its contract. The loop's invariant: the pass has come to the next move. Assumes nothing.
-use Prim.Native.Nat.{_+_, _-_, _≤_}
-use mathlib.Core.Path.{_≡_, refl, _∙_}
+use Prim.Native.Nat.{ℕ, _+_, _-_, _^_, _≤_, _<_}
+use mathlib.Core.Path.{_≡_, refl, sym, ap, _∙_}
 use native.Mathlib.Omega.{arith}
 use lib.ListN.{length}
 use Rattle.shortening.specs.Looking.{listedOf, Going}
 use Rattle.shortening.proofs.LookingLaws.{room-fewer}
-use Rattle.shortening.proofs.MarkLaws.{going-first}
+use Rattle.shortening.proofs.MarkLaws.{going-first, going-looked, going-at}
 use Rattle.shortening.proofs.mark_kept.Statement.{statement}
 use Rattle.shortening.proofs.mark_kept.Tie as tie
 
@@ -23,11 +23,29 @@ loop-holds c =
     let moves = listedOf (entry .args .named) (entry .args .tail .now) in
     (omega arith, going-first moves (entry .args .marks .now) _ _ (entry .pre .1 .1), refl, refl, refl)
 
-take-move-requires : tie.Need-take-move-requires Inv-loop μ-loop
-take-move-requires c κs =
-    let turn = c .before .before .before .before .before .before .before in
+abbrev turned : tie.After-bounds Inv-loop μ-loop → tie.At-loop Inv-loop μ-loop
+turned c = c .before .before .before .before .before
+
+abbrev started : tie.At-loop Inv-loop μ-loop → tie.Start Inv-loop μ-loop
+started c = c .before .before .before .before .before
+
+more-to-come : (c : tie.After-meet Inv-loop μ-loop)
+    → (turned (c .before) .loop .j < started (turned (c .before)) .args .k) × (started (turned (c .before)) .args .k < 2 ^ 22)
+more-to-come c =
+    (c .before .before .before .before .before .loop-test .taken, started (turned (c .before)) .pre .0 .0)
+
+-- where the turn has come to its end
+abbrev met-then : tie.After-take-move Inv-loop μ-loop → tie.After-meet Inv-loop μ-loop
+met-then c = c .before .before .before .before .before .before .before .before .before .before .before
+
+abbrev took-then : tie.After-slice-known8 Inv-loop μ-loop → tie.After-take-move Inv-loop μ-loop
+took-then c = c .before .before .before .before .before .before
+
+meet-requires : tie.Need-meet-requires Inv-loop μ-loop
+meet-requires c κs =
+    let turn = turned c in
     let inv = turn .loop .inv in
-    let start = turn .before .before .before .before .before in
+    let start = started turn in
     let room = start .pre .1 .0 in (
       (
         room-fewer (start .args .named) (turn .loop .j + 1) (start .args .k) _ (omega arith) (start .pre .0 .1),
@@ -37,16 +55,51 @@ take-move-requires c κs =
           for-groups = omega (arith, inv .4, room .for-groups);
         },
       ),
-      inv .1,
+      (inv .1 .looked, inv .1 .bounded),
     )
+
+take-move-requires : tie.Need-take-move-requires Inv-loop μ-loop
+take-move-requires c κs =
+    let met = c .before .before .before .before .before .before .before .before .before .before in
+    let turn = turned (met .before) in
+    let inv = turn .loop .inv in
+    let start = started turn in
+    let room = start .pre .1 .0 in
+    let is = met .meet .ensures .0 .0 in
+    let more = more-to-come met in
+    let kept = met .meet .kept .1 .1 .1 .1 in (
+      omega (arith, is),
+      met .meet .ensures .0 .1,
+      record {
+        for-marks = omega (arith, is, inv .2, room .for-marks);
+        for-blocks = omega (arith, is, kept .0, inv .3, room .for-blocks);
+        for-groups = omega (arith, is, kept .1 .0, inv .4, room .for-groups);
+      },
+    )
+
+add-j : tie.Need-add-j Inv-loop μ-loop
+add-j c = let more = more-to-come (met-then (took-then c)) in omega arith
+
+loop-less : tie.Need-loop-less Inv-loop μ-loop
+loop-less c = let more = more-to-come (met-then (took-then c)) in omega arith
 
 loop-again : tie.Need-loop-again Inv-loop μ-loop
 loop-again c =
-    let took = c .before .before .before .before .before .before in
-    let turn = took .before .before .before .before .before .before .before .before in
+    let took = took-then c in
+    let met = met-then took in
+    let turn = turned (met .before) in
     let inv = turn .loop .inv in
-    let kept = took .take-move .kept .1 .1 .1 in
-    (omega arith, took .take-move .ensures, kept .0 ∙ inv .2, kept .1 .0 ∙ inv .3, kept .1 .1 .0 ∙ inv .4)
+    let is = met .meet .ensures .0 .0 in
+    let looked = met .meet .kept .1 .1 .1 .1 in
+    let kept = took .take-move .kept .1 in
+    let more = more-to-come met in (
+      omega arith,
+      going-at (ap (λ (i : ℕ). i + 1) is)
+          (took .take-move .ensures _ (met .meet .ensures .1 .0) (going-at (sym is) (going-looked (met .meet .ensures .1 .1) (inv .1)))),
+      kept .0 ∙ inv .2,
+      kept .1 .0 ∙ looked .0 ∙ inv .3,
+      kept .1 .1 .0 ∙ looked .1 .0 ∙ inv .4,
+    )
 
 same-length : tie.Need-same-length Inv-loop μ-loop
 same-length c = c .before .loop .inv .2
@@ -68,5 +121,5 @@ pub mark-kept-spec : {M : Type 1} → statement M
 mark-kept-spec =
     tie.close
     (tie.spec
-    Inv-loop μ-loop loop-holds take-move-requires (λ c. omega arith) (λ c. omega arith) loop-again same-length same-length-2 same-length-3
+    Inv-loop μ-loop loop-holds meet-requires take-move-requires add-j loop-less loop-again same-length same-length-2 same-length-3
     returns)

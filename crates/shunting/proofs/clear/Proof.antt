@@ -2,7 +2,7 @@
 use Prim.Native.Nat.{_-_, _<_}
 use native.Mathlib.Omega.{arith}
 use borrow.Author.Needs.{needs}
-use Rattle.shunting.specs.Journey.{row}
+use Rattle.graph.specs.Rows.{row}
 use Rattle.shunting.specs.Cleared.Outcome.{no-way}
 use Rattle.shunting.proofs.ClearLaws.{Found, free-is, way-none, way-simple, way-shiftable, way-distance, cleared}
 use Rattle.shunting.proofs.clear.Statement.{statement}

@@ -2,7 +2,7 @@
 -- Assumes nothing.
 use Prim.Native.Nat.{_-_}
 use native.Mathlib.Omega.{arith}
-use Rattle.shunting.specs.Journey.{row}
+use Rattle.graph.specs.Rows.{row}
 use Rattle.shunting.proofs.TurnLaws.{round-in, round-below, vacant-place, Underway, underway-first, underway-next}
 use Rattle.shunting.proofs.TurnLaws.{underway-tail, underway-fits, underway-enterable, underway-journey, underway-shown}
 use Rattle.shunting.specs.Turned.{VacantPlace}

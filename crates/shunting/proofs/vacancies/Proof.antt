@@ -2,7 +2,7 @@
 -- Assumes nothing.
 use Prim.Native.Nat.{_-_, _≤_}
 use native.Mathlib.Omega.{arith}
-use Rattle.shunting.specs.Journey.{row}
+use Rattle.graph.specs.Rows.{row}
 use Rattle.shunting.specs.Cleared.{VacantBelow}
 use Rattle.shunting.proofs.ClearLaws.{vacant-none, vacant-all}
 use Rattle.shunting.proofs.vacancies.Statement.{statement}

@@ -3,9 +3,9 @@
 use Prim.Native.Nat.{_-_, _<_}
 use mathlib.Core.Path.{_≡_, refl, sym, _∙_}
 use native.Mathlib.Omega.{arith}
-use Rattle.shunting.specs.Journey.{row}
 use Rattle.breakdown.specs.Part.{placeOf}
 use Rattle.breakdown.proofs.PlaceLaws.{placeOf-here, placeOf-next, placeOf-end}
+use Rattle.graph.specs.Rows.{row}
 use Rattle.shunting.proofs.vacancy_on.Statement.{statement}
 use Rattle.shunting.proofs.vacancy_on.Tie as tie
 

@@ -2,7 +2,7 @@
 -- Assumes nothing.
 use Prim.Native.Nat.{ℕ, _-_, _<_}
 use native.Mathlib.Omega.{arith}
-use Rattle.shunting.specs.Journey.{row}
+use Rattle.graph.specs.Rows.{row}
 use Rattle.shunting.proofs.TableLaws.{Seeking, seeking-next, seeking-last}
 use Rattle.shunting.proofs.where_is.Statement.{statement}
 use Rattle.shunting.proofs.where_is.Tie as tie

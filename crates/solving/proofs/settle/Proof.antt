@@ -4,7 +4,7 @@ use Prim.Native.Nat.{_-_, _*_}
 use mathlib.Core.Path.{subst}
 use native.Mathlib.Omega.{arith}
 use borrow.Author.Needs.{needs}
-use Rattle.shunting.specs.Journey.{row}
+use Rattle.graph.specs.Rows.{row}
 use Rattle.shunting.proofs.JourneyLaws.{trip-append, space-less, space-then}
 use Rattle.base_ring.specs.declared.Circle.{Circle}
 use Rattle.base_ring.specs.Circle.{Open}

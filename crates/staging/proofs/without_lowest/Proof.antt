@@ -6,11 +6,9 @@ use native.Mathlib.Omega.{arith}
 use Rattle.staging.proofs.without_lowest.Statement.{statement}
 use Rattle.staging.proofs.without_lowest.Tie as tie
 
-sub-result : tie.Need-sub-result
-sub-result c = search needs
-
 returns : tie.Need-returns
 returns c = omega (arith, and-le-r (c .args .set) (c .args .set - 1))
 
 pub without-lowest-spec : {M : Type 1} → statement M
-without-lowest-spec = tie.close (tie.spec sub-result returns)
+without-lowest-spec = tie.close (tie.spec
+    (λ c. search needs) returns)

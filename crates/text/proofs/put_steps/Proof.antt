@@ -3,13 +3,13 @@
 use Prim.Native.Nat.{_≤_, _-_, _+_}
 use native.Mathlib.Omega.{arith}
 use borrow.Author.Needs.{needs}
-use lib.ListN.{take, drop}
-use Rattle.timetable.specs.Timetable.{stepMoves, stepsOf}
+use lib.ListN.{drop}
+use Rattle.timetable.specs.Timetable.{stepsOf}
 use Rattle.timetable.proofs.ReadingLaws.{Stands, stands-first, stands-room}
-use Rattle.text.specs.Text.{stepLine, stepLines}
+use Rattle.text.specs.Text.{stepLines}
 use Rattle.field.proofs.WritingLaws.{Left, left-first}
 use Rattle.writers.proofs.Parts.{next-fits, next-left, all-wrote}
-use Rattle.text.proofs.Loops.{cut-ends, cut-length, lines-next, stands-after, lines-none}
+use Rattle.text.proofs.Loops.{Cut, cut-ends, cut-length, lines-next, stands-after, lines-none}
 use Rattle.text.proofs.put_steps.Statement.{statement}
 use Rattle.text.proofs.put_steps.Tie as tie
 
@@ -30,57 +30,35 @@ shared-slice-read-step-length c =
     let round = c .before .before in let entry = round .before .before .before in
     stands-room (entry .args .timetable .now) (round .loop .i) (round .loop .begin) (round .loop .inv .1) (omega arith) .begins
 
+-- the next step is cut out
+module _ (c : tie.After-step-length Inv-loop μ-loop) where
+  abbrev round : tie.At-loop Inv-loop μ-loop
+  round = c .before .before .before
+
+  abbrev entry : tie.Start Inv-loop μ-loop
+  entry = round .before .before .before
+
+  cut : Cut (entry .args .timetable .now) (round .loop .i) (round .loop .begin) (c .step-length .result)
+  cut = record { stands = round .loop .inv .1; there = omega arith; size = c .step-length .ensures .size-is }
+
 add-end : tie.Need-add-end Inv-loop μ-loop
-add-end c =
-    let round = c .before .before .before in let entry = round .before .before .before in
-    omega (
-      arith,
-      cut-ends (entry .args .timetable .now) (round .loop .i) (round .loop .begin) (round .loop .inv .1) (omega arith)
-          (c .step-length .result) (c .step-length .ensures .size-is),
-    )
+add-end c = omega (arith, cut-ends (cut c))
 
 part-put-step-end : tie.Need-part-put-step-end Inv-loop μ-loop
-part-put-step-end c =
-    let round = c .before .before .before in let entry = round .before .before .before in
-    omega (
-      arith,
-      cut-ends (entry .args .timetable .now) (round .loop .i) (round .loop .begin) (round .loop .inv .1) (omega arith)
-          (c .step-length .result) (c .step-length .ensures .size-is),
-    )
+part-put-step-end c = omega (arith, cut-ends (cut c))
 
 put-step-requires : tie.Need-put-step-requires Inv-loop μ-loop
 put-step-requires c κs =
-    let step-length = c .before .before in let round = step-length .before .before .before in
-    let entry = round .before .before .before in (
-      cut-length (entry .args .timetable .now) (round .loop .i) (round .loop .begin) (round .loop .inv .1) (omega arith)
-          (step-length .step-length .result) (step-length .step-length .ensures .size-is),
-      next-fits
-          (stepLine (round .loop .i + 1)
-          (stepMoves
-          (take (round .loop .begin + step-length .step-length .result - round .loop .begin)
-          (drop (round .loop .begin) (entry .args .timetable .now)))))
-          (stepLines (round .loop .i + 1 + 1) (drop (round .loop .i + 1) (stepsOf (entry .args .timetable .now))))
-          (lines-next (entry .args .timetable .now) (round .loop .i) (round .loop .begin) (round .loop .inv .1) (omega arith)
-          (step-length .step-length .result) (step-length .step-length .ensures .size-is))
-          (entry .pre .2) (round .loop .inv .2),
-    )
+    let here = c .before .before in
+    (cut-length (cut here), next-fits _ _ (lines-next (cut here)) (entry here .pre .2) (round here .loop .inv .2))
 
 loop-again : tie.Need-loop-again Inv-loop μ-loop
 loop-again c =
-    let put-step = c .before .before in let step-length = put-step .before .before .before in
-    let round = step-length .before .before .before in let entry = round .before .before .before in (
+    let put = c .before .before in
+    let here = put .before .before .before in (
       omega arith,
-      stands-after (entry .args .timetable .now) (round .loop .i) (round .loop .begin) (round .loop .inv .1) (omega arith)
-          (step-length .step-length .result) (step-length .step-length .ensures .size-is),
-      next-left
-          (stepLine (round .loop .i + 1)
-          (stepMoves
-          (take (round .loop .begin + step-length .step-length .result - round .loop .begin)
-          (drop (round .loop .begin) (entry .args .timetable .now)))))
-          (stepLines (round .loop .i + 1 + 1) (drop (round .loop .i + 1) (stepsOf (entry .args .timetable .now))))
-          (lines-next (entry .args .timetable .now) (round .loop .i) (round .loop .begin) (round .loop .inv .1) (omega arith)
-          (step-length .step-length .result) (step-length .step-length .ensures .size-is))
-          (entry .pre .2) (round .loop .inv .2) (put-step .put-step .ensures),
+      stands-after (cut here),
+      next-left _ _ (lines-next (cut here)) (entry here .pre .2) (round here .loop .inv .2) (put .put-step .ensures),
     )
 
 same-length : tie.Need-same-length Inv-loop μ-loop

@@ -22,9 +22,6 @@ part-make-start : tie.Need-part-make-start
 part-make-start c =
     end-within (c .before .before .before .args .input .now) (c .before .order-end .result) (c .before .order-end .ensures)
 
-enum-told : tie.Need-enum-told
-enum-told c = search needs
-
 array-share-prefix-buffer : tie.Need-array-share-prefix-buffer
 array-share-prefix-buffer c =
     let enum-told = c .before .before in let make = enum-told .before .before .before in let buffer = make .before in
@@ -75,5 +72,5 @@ timetable-program-spec =
     tie.close
     (tie.spec
     (λ c κs. search needs) slice-aggregate-make sub-make part-make-start (λ c. search needs) (λ c. search needs) (λ c κs. search needs)
-    (λ c. search needs) (λ c κs. search needs) enum-told (λ c. search needs) (λ c κs. search needs) array-share-prefix-buffer
+    (λ c. search needs) (λ c κs. search needs) (λ c. search needs) (λ c. search needs) (λ c κs. search needs) array-share-prefix-buffer
     slice-aggregate-put-timetable put-timetable-requires returns returns-2)

@@ -1,98 +1,81 @@
 -- `timetable::check` meets its contract: a refusal of the order reader or of the reading is passed up, and `Layers` has the judgement
 -- above their acceptance. Assumes nothing.
-use mathlib.Core.Path.{_≡_, ap, sym, _∙_}
+use mathlib.Core.Path.{ap, sym, _∙_}
 use Prim.Native.Nat.{ℕ}
-use mathlib.Core.List.{List, [], _∷_}
-use Rattle.answers.specs.Answer.{accepted}
-use Rattle.answers.proofs.AnswerLaws.{passed-up}
-use Rattle.order.specs.Order.{orderAnswer}
+use mathlib.Core.List.{List}
 use Rattle.order.specs.declared.Counts.{Counts}
-use Rattle.order.specs.Verdict.{answerOf as orderAnswerOf}
 use Rattle.tables.specs.Accepted.{OrderGave}
-use Rattle.tables.proofs.AcceptedLaws.{order-gave}
+use Rattle.tables.proofs.AcceptedLaws.{order-accepted}
+use Rattle.tables.proofs.Layers.{order-refused, record-refused}
 use Rattle.timetable.specs.Reading.{readingAnswer}
 use Rattle.timetable.specs.Checking.{answerOfCheck}
-use Rattle.timetable.proofs.Layers.{order-turned-down, reading-turned-down, ReadingGave, reading-told, answer-is}
+use Rattle.timetable.proofs.ReadingLaws.{timetableAnswer-is}
+use Rattle.timetable.proofs.Layers.{judgement, ReadingGave, reading-told, answer-is}
 use borrow.Author.Needs.{needs}
 use Rattle.timetable.proofs.check.Statement.{statement}
 use Rattle.timetable.proofs.check.Tie as tie
 
--- what both readers' acceptance tells
-module _ (c : tie.After-known-told2) where
-  -- the two calls, and the two byte strings
-  abbrev timetable-read : tie.After-read2
-  timetable-read = c .before .before .before
+abbrev start : tie.After-read → tie.Start
+start c = c .before .before .before
 
-  abbrev order-told : tie.After-below
-  order-told = timetable-read .before .before
-
-  abbrev order-read : tie.After-read
-  order-read = order-told .before .before
-
+-- the order reader's acceptance
+module _ (c : tie.After-below) where
   abbrev o : List ℕ
-  o = order-read .before .before .before .args .order .now
-
-  abbrev s : List ℕ
-  s = order-read .before .before .before .args .timetable .now
+  o = start (c .before .before) .args .order .now
 
   abbrev given : Counts
-  given = order-told .below .given .0 .0
-
-  abbrev steps : ℕ
-  steps = c .before .reading .given .0 .0
-
-  abbrev moves : ℕ
-  moves = c .before .reading .given .0 .1 .0
-
-  order-accepted : accepted (given .positions ∷ given .edges ∷ given .racks ∷ []) ≡ orderAnswer o
-  order-accepted = ap orderAnswerOf (sym (order-told .below .given .1)) ∙ order-read .read .ensures
-
-  reading-accepted : accepted (steps ∷ moves ∷ []) ≡ readingAnswer s
-  reading-accepted = ap answerOfCheck (sym (c .before .reading .given .1)) ∙ timetable-read .read2 .ensures
+  given = c .below .given .0 .0
 
   of-order : OrderGave o (given .positions) (given .edges) (given .racks)
-  of-order = order-gave o (given .positions) (given .edges) (given .racks) order-accepted
+  of-order = order-accepted (c .before .before .read .ensures) (c .below .given .1)
 
-  of-reading : ReadingGave s steps moves
-  of-reading = reading-told s steps moves reading-accepted
+-- and the timetable reader's
+module _ (c : tie.After-known-told2) where
+  abbrev called : tie.After-read2
+  called = c .before .before .before
+
+  abbrev order : tie.After-below
+  order = called .before .before
+
+  abbrev s : List ℕ
+  s = start (order .before .before) .args .timetable .now
+
+  of-reading : let given = c .before .reading .given in ReadingGave s (given .0 .0) (given .0 .1 .0)
+  of-reading =
+      let given = c .before .reading .given in
+      reading-told s (given .0 .0) (given .0 .1 .0) (ap answerOfCheck (sym (given .1)) ∙ called .read2 .ensures)
 
 returns : tie.Need-returns
 returns c =
-    let told = c .before in
-    let read = told .before .before in
-    let entry = read .before .before .before .args in
-    order-turned-down (entry .order .now) (entry .timetable .now) _ _ _ _ (read .read .ensures)
-    (ap orderAnswerOf (told .enum-told .given .1)) (passed-up (c .passed-up .ensures))
+    let read = c .before .before .before in
+    let a = start read .args in
+    order-refused (a .order .now) (readingAnswer (a .timetable .now)) (judgement (a .order .now) (a .timetable .now))
+    (timetableAnswer-is (a .order .now) (a .timetable .now)) (read .read .ensures) (c .before .enum-told .given .1) (c .passed-up .ensures)
 
 returns-2 : tie.Need-returns-2
 returns-2 c =
-    let timetable-read = c .before .before in
-    let told = timetable-read .before .before in
-    let read = told .before .before in
-    let entry = read .before .before .before .args in
-    reading-turned-down (entry .order .now) (entry .timetable .now) _ _ _ _
-    (ap orderAnswerOf (sym (told .below .given .1)) ∙ read .read .ensures) (timetable-read .read2 .ensures)
-    (ap answerOfCheck (c .enum-told2 .given .1))
+    let called = c .before .before in
+    let told = called .before .before in
+    let s = start (told .before .before) .args .timetable .now in
+    record-refused (o told) (readingAnswer s) (judgement (o told) s) (timetableAnswer-is (o told) s) (of-order told)
+    (called .read2 .ensures) (ap answerOfCheck (c .enum-told2 .given .1))
 
 sub-judge : tie.Need-sub-judge
-sub-judge c = of-order c .head-there
+sub-judge c = of-order (order c) .head-there
 
 part-judge-start : tie.Need-part-judge-start
-part-judge-start c = of-order c .head-there
+part-judge-start c = of-order (order c) .head-there
 
 judge-requires : tie.Need-judge-requires
 judge-requires c κs =
-    let gave = of-order (c .before) in
+    let gave = of-order (order (c .before)) in
     let told = of-reading (c .before) in
     ((gave .few-edges, gave .few-racks, gave .room), (told .length-right, told .steps-are, told .few-steps))
 
 returns-3 : tie.Need-returns-3
 returns-3 c =
     let read = c .before .before in
-    let n = given read in
-    c .judge .ensures
-    ∙ answer-is (o read) (n .positions) (n .edges) (n .racks) (of-order read) (s read) (steps read) (moves read) (of-reading read)
-    (order-accepted read) (reading-accepted read)
+    c .judge .ensures ∙ answer-is (of-order (order read)) (of-reading read)
 
 pub check-spec : {M : Type 1} → statement M
 check-spec =

@@ -7,9 +7,6 @@ use borrow.Author.Needs.{needs}
 use Rattle.timetable.proofs.find_step.Statement.{statement}
 use Rattle.timetable.proofs.find_step.Tie as tie
 
-enum-told : tie.Need-enum-told
-enum-told c = search needs
-
 offset-of-requires : tie.Need-offset-of-requires
 offset-of-requires c κs =
     let read-number = c .before .before in let entry = read-number .before .before in
@@ -38,4 +35,5 @@ pub find-step-spec : {M : Type 1} → statement M
 find-step-spec =
     tie.close
     (tie.spec
-    (λ c κs. search needs) (λ c. search needs) enum-told offset-of-requires (λ c. search needs) (λ c κs. search needs) returns returns-2)
+    (λ c κs. search needs) (λ c. search needs) (λ c. search needs) offset-of-requires (λ c. search needs) (λ c κs. search needs) returns
+    returns-2)

@@ -3,9 +3,10 @@ use Prim.Native.Nat.{_+_, _*_}
 use mathlib.Core.List.{[], _∷_}
 use Rattle.answers.specs.declared.Fault.{Fault}
 use Rattle.field.specs.Bits.{positions}
-use Rattle.tables.proofs.EndingLaws.{JudgeTold}
+use Rattle.tables.proofs.EndingLaws.{JudgeTold, judge-told}
+use Rattle.trains.specs.StepsOn.{replayStepsOn}
+use Rattle.timetable.specs.Timetable.{stepsOf}
 use Rattle.timetable.specs.Checking.{tableAnswer}
-use Rattle.timetable.proofs.Judging.{table-told}
 use borrow.Author.Needs.{needs}
 use Rattle.timetable.proofs.judge.Statement.{statement}
 use Rattle.timetable.proofs.judge.Tie as tie
@@ -25,10 +26,12 @@ module _ (ran : tie.After-replay) where
       JudgeTold Fault.TimetableGoal (positions (a .order .now) (6 * (2 * a .e + a .m)) (a .m)) (a .steps ∷ a .moves ∷ []) (a .m)
       (ran .replay .result) (ran .replay .last .1 .1 .1 .0)
       (tableAnswer (a .order .now) (a .e) (a .m) (a .timetable .now) (a .steps ∷ a .moves ∷ []))
+  unfolding tableAnswer
   told =
       let a = entry .args in
-      table-told (a .order .now) (a .e) (a .m) (a .timetable .now) (a .steps ∷ a .moves ∷ []) _ _ (marked .mark-edges .ensures)
-      (placed .place-racks .ensures) (ran .replay .result) _ (ran .replay .ensures)
+      judge-told Fault.TimetableGoal (a .order .now) (a .e) (a .m) (a .steps ∷ a .moves ∷ [])
+      (λ g h. replayStepsOn g h (stepsOf (a .timetable .now)))
+      (marked .mark-edges .ensures) (placed .place-racks .ensures) (ran .replay .ensures)
 
 returns : tie.Need-returns
 returns c = told (c .before .before .before) .stopped _ _ (c .before .replayed .given .1)

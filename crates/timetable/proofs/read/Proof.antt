@@ -11,9 +11,6 @@ use Rattle.timetable.proofs.read.Tie as tie
 returns : tie.Need-returns
 returns c = short (c .before .before .args .timetable .now) (omega arith)
 
-enum-told : tie.Need-enum-told
-enum-told c = search needs
-
 returns-2 : tie.Need-returns-2
 returns-2 c =
     let read-steps = c .before .before in let count-at-head = read-steps .before in
@@ -41,5 +38,5 @@ pub read-spec : {M : Type 1} → statement M
 read-spec =
     tie.close
     (tie.spec
-    returns (λ c κs. search needs) (λ c κs. search needs) enum-told (λ c. search needs) returns-2 (λ c κs. search needs) returns-3
-    returns-4)
+    returns (λ c κs. search needs) (λ c κs. search needs) (λ c. search needs) (λ c. search needs) returns-2 (λ c κs. search needs)
+    returns-3 returns-4)

@@ -1,0 +1,5 @@
+pub mod FillingLaws
+pub mod Leaving
+pub mod Passing
+pub mod StretchLaws
+pub mod Stretching
