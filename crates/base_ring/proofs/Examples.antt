@@ -19,9 +19,9 @@ use lib.ListN.{replicate, length-replicate}
 use Rattle.sets.specs.Sets.{bit}
 use Rattle.graph.specs.Rows.{row, Edge, Rows}
 use Rattle.graph.proofs.Examples.{rows-tested}
-use Rattle.shunting.specs.Journey.{Space}
-use Rattle.shunting.specs.Table.{Table}
-use Rattle.shunting.specs.declared.State.{State}
+use Rattle.moving.specs.Journey.{Space}
+use Rattle.moving.specs.Table.{Table}
+use Rattle.moving.specs.declared.State.{State}
 use Rattle.base_ring.specs.declared.Circle.{Circle}
 use Rattle.base_ring.specs.Circle.{place, BaseRing, OnRing, Open, RestSettled, Ringing}
 use Rattle.base_ring.specs.Moves.{exchangeMoves, ringMoves}

@@ -38,19 +38,19 @@ use Rattle.sets.specs.Sets.{Has}
 use Rattle.graph.specs.Walk.{Symmetric}
 use Rattle.graph.specs.Rows.{row, Edge, Rows}
 use Rattle.breakdown.specs.Part.{Part}
-use Rattle.shunting.specs.declared.State.{State}
-use Rattle.shunting.specs.Went.Back.{done}
-use Rattle.shunting.proofs.WentLaws.{same-refl}
-use Rattle.shunting.specs.Journey.{relogged, onto, Fits, Room, Space, Trip, Journey, JourneyOn}
-use Rattle.shunting.specs.Journey.Trail.{start}
-use Rattle.shunting.proofs.JourneyLaws.{trail-below, journey-append, trip-append, trip-anew, trip-more}
-use Rattle.shunting.proofs.JourneyLaws.{fits-anew, space-then, space-less}
-use Rattle.shunting.proofs.BackLaws.{back-from, back-renamed}
-use Rattle.shunting.specs.Turned.{Movable, Passed}
-use Rattle.shunting.specs.Undone.{Entries, Undoing}
+use Rattle.moving.specs.declared.State.{State}
+use Rattle.moving.specs.Went.Back.{done}
+use Rattle.moving.proofs.WentLaws.{same-refl}
+use Rattle.moving.specs.Journey.{relogged, onto, Fits, Room, Space, Trip, Journey, JourneyOn}
+use Rattle.moving.specs.Journey.Trail.{start}
+use Rattle.moving.proofs.JourneyLaws.{trail-below, journey-append, trip-append, trip-anew, trip-more}
+use Rattle.moving.proofs.JourneyLaws.{fits-anew, space-then, space-less}
+use Rattle.turning.proofs.BackLaws.{back-from, back-renamed}
+use Rattle.moving.specs.OnePlace.{Movable, Passed}
+use Rattle.turning.specs.Undone.{Entries, Undoing}
 use Rattle.shunting.specs.Cleared.{Cleared, Bringable, Brought}
-use Rattle.shunting.specs.Table.{Table, StandsAt}
-use Rattle.shunting.proofs.TableLaws.{table-rack, table-went}
+use Rattle.moving.specs.Table.{Table, StandsAt}
+use Rattle.moving.proofs.TableLaws.{table-rack, table-went}
 use Rattle.base_ring.specs.declared.Circle.{Circle}
 use Rattle.base_ring.specs.Circle.{place, On, BaseRing, OnRing, TwoOnRing, RestHeld, Open, Aside, Ready, swapped, Exchanged}
 use Rattle.base_ring.specs.Moves.{asideMoves, nextMoves, exchangeMoves}

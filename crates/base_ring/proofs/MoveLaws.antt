@@ -14,10 +14,10 @@ use lib.ListN.{replicate, getD-replicate}
 use Rattle.sets.specs.Sets.{Has}
 use Rattle.sets.proofs.SetLaws.{has-first}
 use Rattle.graph.specs.Rows.{row, Edge}
-use Rattle.shunting.specs.declared.State.{State}
-use Rattle.shunting.specs.Journey.{Fits, JourneyOn}
-use Rattle.shunting.specs.Turned.{Passed}
-use Rattle.shunting.proofs.JourneyLaws.{fits-then}
+use Rattle.moving.specs.declared.State.{State}
+use Rattle.moving.specs.Journey.{Fits, JourneyOn}
+use Rattle.moving.specs.OnePlace.{Passed}
+use Rattle.moving.proofs.JourneyLaws.{fits-then}
 use Rattle.base_ring.specs.Swap.{PassableBy, JoinsBy, Swappable, Swapped}
 
 pub passed-by : {h i k : ℕ → ℕ} {a x b : ℕ} → PassableBy a x b h → Passed a x h i → Passed x b i k → Passed a b h k

@@ -37,8 +37,8 @@ use Rattle.breakdown.proofs.StageLaws as stage
 use Rattle.shunting.specs.Distance.{Reaches, AtMost}
 use Rattle.shunting.proofs.DistanceLaws.{at-most-less, at-most-more, at-most-seats, at-most-without, reaches-back}
 use Rattle.shunting.specs.Cleared.{Vacancy}
-use Rattle.shunting.specs.Table.{Table}
-use Rattle.shunting.proofs.TableLaws.{table-other}
+use Rattle.moving.specs.Table.{Table}
+use Rattle.moving.proofs.TableLaws.{table-other}
 use Rattle.base_ring.specs.declared.Circle.{Circle}
 use Rattle.base_ring.specs.Circle.{place, On, BaseRing, RestHeld, Open}
 

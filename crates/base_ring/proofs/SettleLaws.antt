@@ -20,13 +20,13 @@ use lib.ListN.{length}
 use Rattle.sets.specs.Sets.{Has}
 use Rattle.graph.specs.Rows.{row, Edge, Rows}
 use Rattle.breakdown.specs.Part.{Part}
-use Rattle.shunting.specs.declared.State.{State}
-use Rattle.shunting.specs.Went.{Same}
-use Rattle.shunting.specs.Journey.{Room, Trip}
-use Rattle.shunting.proofs.JourneyLaws.{trip-none, trip-more, trip-append, room-less, room-then}
+use Rattle.moving.specs.declared.State.{State}
+use Rattle.moving.specs.Went.{Same}
+use Rattle.moving.specs.Journey.{Room, Trip}
+use Rattle.moving.proofs.JourneyLaws.{trip-none, trip-more, trip-append, room-less, room-then}
 use Rattle.shunting.specs.Cleared.{Cleared}
-use Rattle.shunting.specs.Table.{Table}
-use Rattle.shunting.proofs.TableLaws.{table-rack}
+use Rattle.moving.specs.Table.{Table}
+use Rattle.moving.proofs.TableLaws.{table-rack}
 use Rattle.base_ring.specs.declared.Circle.{Circle}
 use Rattle.base_ring.specs.Circle.{place, On, BaseRing, OnRing, RestHeld, Open, swapped, Exchanged, RestSettled, Ringing}
 use Rattle.base_ring.proofs.RingLaws.{among-or-not, on-surely, circle-on, circle-apart, table-two, held-open, held-same, ring-on}

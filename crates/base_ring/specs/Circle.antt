@@ -24,8 +24,8 @@ use mathlib.Core.Logic.{_≢_}
 use lib.Dec.{eqb}
 use Rattle.breakdown.specs.Breakdown.{Among}
 use Rattle.graph.specs.Rows.{row}
-use Rattle.shunting.specs.Went.{Same}
-use Rattle.shunting.specs.Table.{Table}
+use Rattle.moving.specs.Went.{Same}
+use Rattle.moving.specs.Table.{Table}
 use Rattle.base_ring.specs.declared.Circle.{Circle}
 
 abbrev pub place : Circle → ℕ → ℕ

@@ -1,15 +1,15 @@
 // The base ring of a floor, settled when all else is: racks on it are exchanged in pairs through a position beside it.
 use breakdown::Breakdown;
-use shunting::Log;
-use shunting::State;
+use moving::Log;
+use moving::State;
 ghost use mathlib.Core.Path.{_≡_};
 ghost use Prim.Native.Nat.{_+_, _≤_, _<_};
 ghost use lib.ListN.{length};
 ghost use Rattle.graph.specs.Rows.{row, Edge, Rows};
-ghost use Rattle.shunting.specs.Went.{Same};
-ghost use Rattle.shunting.specs.Journey.{Fits, Room, Space, Trip, Journey, JourneyOn};
-ghost use Rattle.shunting.specs.Turned.{Passed};
-ghost use Rattle.shunting.specs.Table.{Table};
+ghost use Rattle.moving.specs.Went.{Same};
+ghost use Rattle.moving.specs.Journey.{Fits, Room, Space, Trip, Journey, JourneyOn};
+ghost use Rattle.moving.specs.OnePlace.{Passed};
+ghost use Rattle.moving.specs.Table.{Table};
 ghost use Rattle.base_ring.specs.Circle.{BaseRing, OnRing, TwoOnRing, RestHeld, Open, Aside, Ready, Exchanged, RestSettled, Ringing};
 ghost use Rattle.base_ring.specs.From.{ringFrom, circleOf};
 ghost use Rattle.base_ring.specs.Moves.{asideMoves, nextMoves, exchangeMoves, openMoves, ringMoves};
@@ -31,8 +31,8 @@ fn pass_by(from: usize, x: usize, to: usize, state: State, log: &mut Log, tail: 
     ensures { λ r. ⌜ JourneyOn (JoinsBy from x to) 2 state (now (log .entry)) (now (tail .entry)) r (now (log .exit)) (now (tail .exit)) ⌝ }
     ensures { λ r. ⌜ Passed from to (row (state .racks)) (row (r .racks)) ⌝ }
 {
-    let there = shunting::make_move(from, x, state, log, tail);
-    shunting::make_move(x, to, there, log, tail)
+    let there = moving::make_move(from, x, state, log, tail);
+    moving::make_move(x, to, there, log, tail)
 }
 
 // Exchanges the racks at `next` and at y by way of x, which both are beside, and of `last`, beside x too: x and `last` are vacant before
@@ -81,11 +81,11 @@ fn bring_aside(
     let x = at[0] as usize;
     let y = circle.beside;
     let ring = breakdown::part(&at, 0, circle.size);
-    let stepped = shunting::make_move(y, x, state, log, tail);
+    let stepped = moving::make_move(y, x, state, log, tail);
     let racks = stepped.racks;
-    let stands = shunting::where_is(&racks, n, rack);
+    let stands = moving::where_is(&racks, n, rack);
     let brought = shunting::bring(rows, n, ring, stands, x, stepped, log, tail);
-    shunting::make_move(x, y, brought, log, tail)
+    moving::make_move(x, y, brought, log, tail)
 }
 
 // Brings a rack of the ring to its place 1, and clears its place 0 and its last place. All vacancies are on the ring.
@@ -115,7 +115,7 @@ fn bring_next(
     let last = at[size - 1] as usize;
     let ring = breakdown::part(&at, 0, size);
     let racks = state.racks;
-    let stands = shunting::where_is(&racks, n, rack);
+    let stands = moving::where_is(&racks, n, rack);
     let brought = shunting::bring(rows, n, ring, stands, next, state, log, tail);
     let free = sets::without(ring, next);
     let cleared = shunting::clear_within(rows, n, free, x, brought, log, tail);
@@ -154,7 +154,7 @@ fn exchange(
     let ready = bring_next(rows, circle, b, aside, log, tail);
     let logged = ready.logged;
     let swapped = swap(x, next, last, y, ready, log, tail);
-    shunting::undo(0, logged, swapped, log, tail)
+    turning::undo(0, logged, swapped, log, tail)
 }
 
 // Settles place i of the ring, 2 or above: where its rack is another than the goal's, the two are exchanged.
@@ -230,7 +230,7 @@ pub fn settle_ring(
         r (now (tail .exit)) ⌝ }
     ensures { λ r. ⌜ Same (row (r .racks)) (row (now (goal .entry))) ⌝ }
 {
-    let mut log = [0u16; shunting::LOG];
+    let mut log = [0u16; moving::LOG];
     let mut state = open_ring(rows, circle, goal, state, &mut log, tail);
     let size = circle.size;
     let mut i: usize = 2;

@@ -24,7 +24,7 @@ use Rattle.sets.specs.First.{firstFrom}
 use Rattle.order.specs.Order.{floorOf}
 use Rattle.motion.specs.Replay.{listed}
 use Rattle.plan.specs.Plan.{spareBits, planBits, planBytes, planRecord}
-use Rattle.plan.proofs.Examples.{plan-open}
+use Rattle.plan_check.proofs.Examples.{plan-open}
 use Rattle.carry.specs.Carry.{nextOf, reaches, distance, greatest, farthest, longest, dearestStart, dearestGoal, wayFrom}
 use Rattle.carry.specs.Carry.{movesAlong, dearestMoves, carryRecord}
 use Rattle.carry.specs.CarryAnswer.{connected?, notConnected, cannotHold, carryAnswer, bufferAfter}

@@ -1,4 +1,3 @@
-pub mod BallLaws
 pub mod ListingLaws
 pub mod ReachLaws
 pub mod OneRack

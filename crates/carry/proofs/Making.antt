@@ -20,8 +20,8 @@ use lib.ListN.{length, take, drop, getD, length-append, length-drop}
 use lib.Seq.{length-take-le}
 use Rattle.answers.specs.Answer.{Answer, accepted, refused, refuse, passUp}
 use Rattle.answers.proofs.AnswerLaws.{passUp-accepted}
-use Rattle.field.specs.Head.{headBytes}
-use Rattle.field.proofs.HeadLaws.{length-headBytes, record-written}
+use Rattle.recording.specs.Head.{headBytes}
+use Rattle.recording.proofs.HeadLaws.{length-headBytes, record-written}
 use Rattle.field.proofs.RecordLaws.{rest-is}
 use Rattle.field.specs.Listed.{moveSize, allUnits}
 use Rattle.field.specs.Packing.{packPositions}
@@ -49,7 +49,7 @@ use Rattle.floor.proofs.FloorLaws.{holds-yes, holds-no}
 use Rattle.floor.proofs.FloorRows.{filled-rows, filled-joins, joins-filled}
 use Rattle.carry.specs.Carry.{wayFrom, movesAlong, longest, dearestStart, dearestGoal, dearestMoves, carryRecord}
 use Rattle.carry.specs.CarryAnswer.{connected?, notConnected, cannotHold, carryAnswer, bufferAfter}
-use Rattle.carry.specs.Balls.{Dearest}
+use Rattle.farthest.specs.Balls.{Dearest}
 use Rattle.carry.specs.Listing.{taken}
 use Rattle.carry.proofs.ReachLaws.{dearest-one, dearest-along, whole-along}
 use Rattle.carry.proofs.WayLaws.{nearest-size, inside, way-taken}

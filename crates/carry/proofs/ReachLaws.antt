@@ -29,8 +29,8 @@ use Rattle.graph.specs.Connected.{Below, Whole, Connected}
 use Rattle.floor.specs.FloorAnswer.{Joins}
 use Rattle.floor.proofs.FloorRows.{walk-along}
 use Rattle.carry.specs.Carry.{nextOf, reaches, distance, greatest, farthest, longest, dearestStart, dearestGoal}
-use Rattle.carry.specs.Theorems.{Earlier}
-use Rattle.carry.specs.Balls.{Reached, Dearest}
+use Rattle.farthest.specs.Balls.{Earlier}
+use Rattle.farthest.specs.Balls.{Reached, Dearest}
 
 -- the first that passes is at most any that passes
 first-low : (f : ℕ → Bool) (n i : ℕ) → T (f i) → firstFrom f 0 n ≤ i

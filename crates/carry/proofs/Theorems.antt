@@ -29,9 +29,9 @@ use Rattle.motion.proofs.Lawful.{Leads, replayMoves-ended}
 use Rattle.motion.proofs.PebbleLaws.{pebble-replay}
 use Rattle.tables.proofs.AcceptedLaws.{well-placed}
 use Rattle.plan.specs.Plan.{planRecord, planAnswer, moveCount, planMoves}
-use Rattle.plan.proofs.Accepted.{plan-gave}
+use Rattle.plan_check.proofs.Accepted.{plan-gave}
 use Rattle.plan.proofs.PlanRecord.{moves-counted}
-use Rattle.plan.proofs.Replayed.{the-moves, accepted-record}
+use Rattle.plan_check.proofs.Replayed.{the-moves, accepted-record}
 use Rattle.graph.specs.Walk.{Walk}
 use Rattle.graph.specs.Connected.{Below, Connected}
 use Rattle.floor.specs.FloorAnswer.{Joins, holds}
@@ -40,7 +40,7 @@ use Rattle.floor.proofs.FloorRows.{joined-other}
 use Rattle.floor.proofs.Layers.{edges-length}
 use Rattle.carry.specs.Carry.{reaches, distance, wayFrom, movesAlong, longest, dearestStart, dearestGoal, dearestMoves, carryRecord}
 use Rattle.carry.specs.CarryAnswer.{connected?, notConnected, cannotHold, carryAnswer}
-use Rattle.carry.specs.Balls.{Dearest}
+use Rattle.farthest.specs.Balls.{Dearest}
 use Rattle.carry.specs.Theorems.{LeastMoves, oneRack, Before, DearestCarry}
 use Rattle.carry.proofs.ReachLaws.{walk-reach, dist-most, dist-walk, dist-few, goal-is, dearest-is}
 use Rattle.carry.proofs.OneRack.{leads-walk, way-count, way-first, way-leads, walk-plan, before-not, before-once}

@@ -22,7 +22,7 @@ use Rattle.graph.proofs.NearestLaws.{nearest-found}
 use Rattle.floor.specs.FloorAnswer.{Joins}
 use Rattle.floor.proofs.FloorRows.{walk-along}
 use Rattle.carry.specs.Carry.{nextOf, reaches, wayFrom, movesAlong}
-use Rattle.carry.specs.Balls.{Dearest}
+use Rattle.farthest.specs.Balls.{Dearest}
 use Rattle.carry.specs.Listing.{taken}
 use Rattle.carry.proofs.ReachLaws.{next-joined, next-low, reach-walk, walk-reach}
 use Rattle.carry.proofs.OneRack.{rack-one, moved-one}

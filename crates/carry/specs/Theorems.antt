@@ -5,7 +5,6 @@
 --     LeastMoves F a b k    one of k moves is, and none of fewer
 --     oneRack F a b         the order of one rack from a to b on F
 --     Before ms ls          the moves ms enter a lower position than the moves ls at the first move where they differ
---     Earlier a b c d       the pair a, b has the lower start, or the same start and the lower goal, than the pair c, d
 --     DearestCarry F        what the start, the goal and the plan of the dearest carry are
 -- Assumes nothing.
 use Prim.Native.Nat.{ℕ, _≤_, _<_}
@@ -18,6 +17,7 @@ use Rattle.order.specs.Floor.{Floor}
 use Rattle.order.specs.Order.{Order, orderRecord, orderOf}
 use Rattle.motion.specs.Replay.{ended, replayMoves}
 use Rattle.plan.specs.Plan.{planAnswer}
+use Rattle.farthest.specs.Balls.{Earlier}
 use Rattle.carry.specs.Carry.{distance, longest, dearestStart, dearestGoal, dearestMoves, carryRecord}
 
 abbrev pub PlanFor : Floor → ℕ → ℕ → List (ℕ × ℕ) → Type 0
@@ -38,9 +38,6 @@ oneRack F a b = record { floor = F; starts = a ∷ []; goals = b ∷ [] }
 pub data Before : List (ℕ × ℕ) → List (ℕ × ℕ) → Type 0 where
   lower : {m l : ℕ × ℕ} {ms ls : List (ℕ × ℕ)} → m .1 < l .1 → Before (m ∷ ms) (l ∷ ls)
   later : {m : ℕ × ℕ} {ms ls : List (ℕ × ℕ)} → Before ms ls → Before (m ∷ ms) (m ∷ ls)
-
-abbrev pub Earlier : ℕ → ℕ → ℕ → ℕ → Type 0
-Earlier a b c d = (a < c) ⊎ ((a ≡ c) × (b < d))
 
 pub record DearestCarry (F : Floor) : Type 0 where
   pub start-there : dearestStart F < F .positions

@@ -16,7 +16,7 @@ use Rattle.motion.specs.Step.{every}
 use Rattle.motion.proofs.StepTestsLaws.{every-iff}
 use Rattle.plan.specs.Plan.{moveCount, planAnswer}
 use Rattle.timetable.specs.Timetable.{timetableRecord, timetableAnswer}
-use Rattle.timetable.proofs.Inhabited.{timetable-open}
+use Rattle.timetable_check.proofs.Inhabited.{timetable-open}
 use Rattle.scheduling.proofs.MakerCases.{maker-open}
 use Rattle.scheduling.specs.Maker.{madeOf, makerAnswer, bufferAfter}
 use Rattle.motion.specs.Arrangement.{stands}

@@ -2,7 +2,7 @@
 -- plan for the same order in which rack 1 first goes out and back.
 --
 --     caseDetour            that plan: 0>1, 1>0, and then the case book's moves
---     detour-planned        the plan checker accepts it, so that `choosing::improves` may be asked
+--     detour-planned        the plan checker accepts it, so that `comparing::improves` may be asked
 --     detour-steps, case-steps    its timetable has four steps, the case book's plan two
 --     improves-met          the case book's plan improves on it
 --     improves-not          it does not improve on the case book's plan, nor does that on itself
@@ -14,10 +14,10 @@ use native.Mathlib.Omega.{arith}
 use lib.Dec.{lit<, lit≤}
 use Rattle.answers.specs.Answer.{accepted}
 use Rattle.plan.specs.Plan.{moveCount, planAnswer}
-use Rattle.plan.proofs.Examples.{caseBook, caseNamed, plan-open}
+use Rattle.plan_check.proofs.Examples.{caseBook, caseNamed, plan-open}
 use Rattle.scheduling.specs.Maker.{madeCount}
 use Rattle.scheduling.proofs.MakerCases.{maker-open}
-use Rattle.choosing.specs.Choosing.{Better, fewer-steps, fewer-moves, Improves}
+use Rattle.comparing.specs.Choosing.{Better, fewer-steps, fewer-moves, Improves}
 
 abbrev caseDetour : List ℕ
 caseDetour =

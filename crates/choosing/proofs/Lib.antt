@@ -1,3 +1,1 @@
-pub mod Improving
-pub mod Choices
 pub mod Examples

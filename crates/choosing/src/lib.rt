@@ -1,20 +1,11 @@
 // The planner with a search beside it: the proved method's plan is made, a search looks for another one within a fixed budget, and the one
-// with the shorter timetable stays. specs/Choosing.antt says when that is the search's; `make` is the entry point, and promises what the
+// with the shorter timetable stays: crate `comparing` says when that is the search's. `make` is the entry point, and promises what the
 // proved method promises.
-use order::OrderVerdict;
 use planner::PlannerVerdict;
-use scheduling::MakerVerdict;
-ghost use mathlib.Core.Bool.{true};
-ghost use mathlib.Core.Logic.{_↔_};
 ghost use mathlib.Core.Path.{_≡_};
-ghost use mathlib.Core.List.{List, [], _∷_};
-ghost use Prim.Native.Nat.{ℕ, _≤_, min};
+ghost use Prim.Native.Nat.{_≤_, min};
 ghost use lib.ListN.{length};
-ghost use Rattle.answers.specs.Answer.{accepted};
-ghost use Rattle.plan.specs.Plan.{moveCount, planAnswer};
 ghost use Rattle.planner.specs.Planner.{PlanMade, answerOf};
-ghost use Rattle.choosing.specs.Choosing.{Improves, Chosen};
-ghost use Rattle.choosing.specs.Overwriting.{Overwritten, SomeBuffer};
 
 // So many bytes of the buffer are kept while the proved method's plan stands there, at the most. A longer plan stays.
 const KEPT: usize = 262144;
@@ -52,67 +43,32 @@ fn list(found: &[u16; 4096], k: usize, starts: [u8; 64], room: &mut [u8]) -> usi
         if 64 < number {
             return 0;
         }
-        field::put_listed(&mut room[3..], true, j, a, b, number);
+        recording::put_listed(&mut room[3..], true, j, a, b, number);
         racks[a] = 0;
         racks[b] = rack;
         j += 1;
     }
-    field::put_head(room, k, 1);
+    recording::put_head(room, k, 1);
     3 + (9 * k + 3) / 4
 }
 
-// The record of what the search finds for an order, and how many bytes it has; 0 where it finds nothing.
-fn candidate(order: &[u8], room: &mut [u8; RECORD]) -> usize
+// The record of what the search finds for an order on n positions, from what it was decoded to, and how many bytes it has; 0 where it finds
+// nothing.
+fn candidate(
+    n: usize,
+    rows: &[u64; 64],
+    starts: [u8; 64],
+    goals: &[u8; 64],
+    room: &mut [u8; RECORD],
+) -> usize
     ensures { λ r. ⌜ r ≤ length (now (room .exit)) ⌝ }
 {
-    let mut rows = [0u64; 64];
-    let mut starts = [0u8; 64];
-    let mut goals = [0u8; 64];
-    let decoded = order::decode(order, &mut rows, &mut starts, &mut goals);
-    let OrderVerdict::Accepted(counts) = decoded else {
-        return 0;
-    };
     let mut found = [0u16; 4096];
-    let k = searching::search(counts.positions, &rows, &starts, &goals, &mut found);
+    let k = searching::search(n, rows, &starts, goals, &mut found);
     if k == 0 {
         return 0;
     }
     list(&found, k, starts, room)
-}
-
-// May the plan that was found stand in the place of the proved method's? It has to be a plan of edition two for the order, with no more
-// moves than demand 3 allows, and its timetable has to be shorter, or as long with fewer moves.
-fn improves(order: &[u8], proved: &[u8], found: &[u8]) -> bool
-    requires { ⌜ planAnswer (now order) (now proved) ≡ accepted (moveCount (now proved) ∷ []) ⌝ }
-    ensures { λ r. ⌜ (r ≡ true) ↔ Improves (now (order .entry)) (now (proved .entry)) (now (found .entry)) ⌝ }
-{
-    let made = scheduling::count_steps(order, proved);
-    let MakerVerdict::Accepted(steps) = made else {
-        return false;
-    };
-    let other = scheduling::count_steps(order, found);
-    let MakerVerdict::Accepted(fewer) = other else {
-        return false;
-    };
-    if !plan::names_racks(found) {
-        return false;
-    }
-    let n = order::counts_of(order).positions;
-    let moves = field::count_at_head(found);
-    if 8 * (n * (n * n)) < moves {
-        return false;
-    }
-    if fewer < steps {
-        return true;
-    }
-    if steps < fewer {
-        return false;
-    }
-    let most = field::count_at_head(proved);
-    if moves < most {
-        return true;
-    }
-    false
 }
 
 // How many bytes of a buffer are kept for an order: as many as a plan for it may take, if there is room for them. None for a ring, which
@@ -132,34 +88,18 @@ fn kept_length(order: &[u8], length: usize) -> usize
     smaller(most, length)
 }
 
-// A plan of k moves stands in the buffer, and its bytes were kept as they had been before. Leaves it there, or puts the bytes back and
-// writes the plan that was found, if that improves on it. Yields how many moves the plan has that stands there then.
-fn take_better(order: &[u8], kept: &[u8], found: &[u8], k: usize, buffer: &mut [u8]) -> usize
-    requires { ⌜ SomeBuffer (now order) (now kept) k (now buffer) ⌝ }
-    ensures { λ r. ⌜ ((B : List ℕ) → Overwritten (now (order .entry)) B (now (kept .entry)) k (now (buffer .entry))
-        → Chosen (now (order .entry)) B (accepted (r ∷ [])) (now (buffer .exit))) ⌝ }
-{
-    let length = kept.len();
-    if !improves(order, &buffer[..length], found) {
-        return k;
-    }
-    writers::put_bytes(kept, buffer, 0);
-    writers::put_bytes(found, buffer, 0);
-    field::count_at_head(found)
-}
-
-// 10 to 14, 20, 21, 24, 26 and 23, or a plan: its record at the front of the buffer, in edition two, and how many moves it has. What stood
-// where the proved method writes its plan is kept, so that nothing of that plan stays behind a shorter one.
-pub fn make(order: &[u8], buffer: &mut [u8]) -> PlannerVerdict
+// The proved method's plan, or the search's. What stands in the buffer where the method writes its plan is kept first, as many bytes as
+// are asked for, so that nothing of that plan stays behind a shorter one; a plan that takes more of them stays. The order is decoded once,
+// for the method and the search.
+fn make_beside(order: &[u8], saved: usize, kept: &mut [u8], buffer: &mut [u8]) -> PlannerVerdict
+    requires { ⌜ (saved ≤ length (now kept)) × (saved ≤ length (now buffer)) ⌝ }
     ensures { λ r. ⌜ PlanMade (now (order .entry)) (now (buffer .entry)) (answerOf r) (now (buffer .exit)) ⌝ }
 {
-    let saved = kept_length(order, buffer.len());
-    if saved == 0 {
-        return planner::make(order, buffer);
-    }
-    let mut kept = [0u8; KEPT];
-    writers::put_bytes(&buffer[..saved], &mut kept, 0);
-    let planned = planner::make(order, buffer);
+    writers::put_bytes(&buffer[..saved], kept, 0);
+    let mut rows = [0u64; 64];
+    let mut starts = [0u8; 64];
+    let mut goals = [0u8; 64];
+    let planned = planner::make_on(order, &mut rows, &mut starts, &mut goals, buffer);
     let PlannerVerdict::Planned(k) = planned else {
         return planned;
     };
@@ -171,7 +111,20 @@ pub fn make(order: &[u8], buffer: &mut [u8]) -> PlannerVerdict
         return planned;
     }
     let mut room = [0u8; RECORD];
-    let found = candidate(order, &mut room);
-    let moves = take_better(order, &kept[..length], &room[..found], k, buffer);
+    let n = order::counts_of(order).positions;
+    let found = candidate(n, &rows, starts, &goals, &mut room);
+    let moves = comparing::take_better(order, &kept[..length], &room[..found], k, buffer);
     PlannerVerdict::Planned(moves)
+}
+
+// 10 to 14, 20, 21, 24, 26 and 23, or a plan: its record at the front of the buffer, in edition two, and how many moves it has.
+pub fn make(order: &[u8], buffer: &mut [u8]) -> PlannerVerdict
+    ensures { λ r. ⌜ PlanMade (now (order .entry)) (now (buffer .entry)) (answerOf r) (now (buffer .exit)) ⌝ }
+{
+    let saved = kept_length(order, buffer.len());
+    if saved == 0 {
+        return planner::make(order, buffer);
+    }
+    let mut kept = [0u8; KEPT];
+    make_beside(order, saved, &mut kept, buffer)
 }

@@ -18,10 +18,10 @@ use Rattle.graph.specs.Rows.{row, Edge}
 use Rattle.ring.specs.Circle.{Circle, next}
 use Rattle.ring.specs.Standing.{OnCircle}
 use Rattle.ring.proofs.CircleLaws.{next-below, circle-next}
-use Rattle.shunting.specs.declared.State.{State}
-use Rattle.shunting.specs.Journey.{unlogged, Space, Moved, Trip}
-use Rattle.shunting.specs.Turned.{Movable}
-use Rattle.shunting.proofs.JourneyLaws.{trip-none, trip-more, trip-append, space-then, space-less, moved-passed, moved-trip}
+use Rattle.moving.specs.declared.State.{State}
+use Rattle.moving.specs.Journey.{unlogged, Space, Moved, Trip}
+use Rattle.moving.specs.OnePlace.{Movable}
+use Rattle.moving.proofs.JourneyLaws.{trip-none, trip-more, trip-append, space-then, space-less, moved-passed, moved-trip}
 use Rattle.circling.specs.Lands.{total}
 use Rattle.circling.specs.Drive.{Circled, Ready, Found, Driveable, Driven, TripRound}
 use Rattle.circling.proofs.LandsLaws.{total-set}

@@ -15,7 +15,7 @@ use Rattle.ring.specs.Circle.{Circle, next}
 use Rattle.ring.specs.Order.{Rack, ahead}
 use Rattle.ring.specs.Standing.{OnCircle}
 use Rattle.ring.proofs.CircleLaws.{next-is, next-below, circle-one}
-use Rattle.shunting.specs.Turned.{Passed}
+use Rattle.moving.specs.OnePlace.{Passed}
 use Rattle.circling.specs.Lands.{Lands}
 use Rattle.circling.specs.Drive.{Ready, Paced, Driveable, Driven}
 use Rattle.circling.proofs.LandsLaws.{ahead-next, ahead-before, ahead-one, lands-next, lands-self}

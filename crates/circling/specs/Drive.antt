@@ -18,8 +18,8 @@ use Rattle.graph.specs.Rows.{Edge, Rows}
 use Rattle.ring.specs.Circle.{Circle, next}
 use Rattle.ring.specs.Order.{ahead}
 use Rattle.ring.specs.Standing.{OnCircle}
-use Rattle.shunting.specs.Journey.{Trip}
-use Rattle.shunting.specs.declared.State.{State}
+use Rattle.moving.specs.Journey.{Trip}
+use Rattle.moving.specs.declared.State.{State}
 use Rattle.circling.specs.Lands.{Lands}
 
 abbrev pub Circled : ℕ → (ℕ → ℕ) → Type 0

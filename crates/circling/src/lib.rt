@@ -1,14 +1,14 @@
 // A ring planned: its racks are driven round the circle, each straight to its goal. Which way each goes, and how far, is settled first:
 // of the ways to take all racks round without changing their order, the one with the fewest moves. Then those that go on are driven on,
 // and those that go back, back. specs/Drive.antt and specs/Needs.antt say what that means; `solve` is the entry point.
-use shunting::State;
+use moving::State;
 ghost use mathlib.Core.Path.{_≡_};
 ghost use Prim.Native.Nat.{ℕ, _*_, _≤_, _<_};
 ghost use lib.ListN.{length};
 ghost use Rattle.ring.specs.Order.{Rack, Places};
 ghost use Rattle.graph.specs.Rows.{row};
 ghost use Rattle.ring.specs.Standing.{OnCircle};
-ghost use Rattle.shunting.specs.Journey.{unlogged, Space};
+ghost use Rattle.moving.specs.Journey.{unlogged, Space};
 ghost use Rattle.circling.specs.Lands.{mirror, total};
 ghost use Rattle.circling.specs.Drive.{Circled, Found, Driveable, Driven, TripRound, TripOnRing};
 ghost use Rattle.circling.specs.Needs.{Bases, Numbered, Aimed, Needs, RoundAlike, roundMoves};
@@ -81,7 +81,7 @@ fn drive(
         let b = circle[ring::next(n, i)] as usize;
         let rack = racks[a] as usize;
         need[rack] = need[rack] - 1;
-        written = shunting::move_rack(a, b, real, racks, tail, written);
+        written = moving::move_rack(a, b, real, racks, tail, written);
     }
 }
 

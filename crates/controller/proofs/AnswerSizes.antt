@@ -46,8 +46,8 @@ use Rattle.planner.proofs.PlannerLaws.{moves-few}
 use Rattle.timetable.specs.Timetable.{stepCount, partsOf, stepsOf, stepMoves, wrongTimetableLength, timetablePaddingSet, timetableAnswer}
 use Rattle.timetable.specs.Timetable.{stepAnswer}
 use Rattle.timetable.proofs.StepLaws.{length-parts}
-use Rattle.timetable.specs.ByteString.{ByteString}
-use Rattle.timetable.proofs.SizeLaws.{count-small, total-small, offset-small, length-small}
+use Rattle.timetable_check.specs.ByteString.{ByteString}
+use Rattle.timetable_check.proofs.SizeLaws.{count-small, total-small, offset-small, length-small}
 use Rattle.converting.specs.Converter.{convertedOf, converterAnswer}
 use Rattle.shortening.specs.Shortener.{shortenerAnswer}
 use Rattle.shortening.proofs.ShortenerLaws.{moves-small}

@@ -111,7 +111,7 @@ pub extern "C" fn wichteab_plan_make(order: &[u8], buffer: &mut [u8]) -> u64
 pub extern "C" fn wichteab_plan_check(order: &[u8], plan: &[u8]) -> u64
     ensures { λ r. ⌜ Tells oneCount planMovesOf (planAnswer (now (order .entry)) (now (plan .entry))) r ⌝ }
 {
-    match plan::check(order, plan) {
+    match plan_check::check(order, plan) {
         PlanVerdict::Accepted(moves) => packing::one_count(moves),
         PlanVerdict::Refused(fault, place) => packing::refusal(fault, place),
     }
@@ -165,7 +165,7 @@ pub extern "C" fn wichteab_dearest_carry(order: &[u8], buffer: &mut [u8]) -> u64
 pub extern "C" fn wichteab_timetable_check(order: &[u8], timetable: &[u8]) -> u64
     ensures { λ r. ⌜ Tells stepsAndMoves stepsAndMovesOf (timetableAnswer (now (order .entry)) (now (timetable .entry))) r ⌝ }
 {
-    match timetable::check(order, timetable) {
+    match timetable_check::check(order, timetable) {
         TimetableVerdict::Accepted { steps, moves } => packing::steps_and_moves(steps, moves),
         TimetableVerdict::Refused(fault, place) => packing::refusal(fault, place),
     }

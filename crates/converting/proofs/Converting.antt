@@ -20,8 +20,8 @@ use Rattle.answers.specs.Answer.{Answer, accepted, refused, refuse, passUp}
 use Rattle.answers.proofs.AnswerLaws.{passUp-accepted, passUp-high, refuse-else}
 use Rattle.field.proofs.BitLaws.{field-lt}
 use Rattle.field.specs.Bits.{positions}
-use Rattle.field.specs.Head.{headBytes}
-use Rattle.field.proofs.HeadLaws.{length-headBytes, record-written}
+use Rattle.recording.specs.Head.{headBytes}
+use Rattle.recording.proofs.HeadLaws.{length-headBytes, record-written}
 use Rattle.field.proofs.RecordLaws.{rest-is}
 use Rattle.field.specs.Listed.{moveSize, movesAt, allUnits}
 use Rattle.field.specs.Packing.{packPositions}
@@ -36,7 +36,7 @@ use Rattle.motion.specs.Replay.{listed}
 use Rattle.tables.proofs.TablesLaws.{Holds}
 use Rattle.tables.proofs.TableLaws.{placed-holds}
 use Rattle.plan.specs.Plan.{spareBits, planBytes, planRecord, named, moveCount, planMoves, planAnswer}
-use Rattle.plan.proofs.Accepted.{PlanGave, gave, count-is, count-below, tail-moves}
+use Rattle.plan_check.proofs.Accepted.{PlanGave, gave, count-is, count-below, tail-moves}
 use Rattle.plan.proofs.Listing.{length-listing, listing-fits}
 use Rattle.plan.proofs.PlanRecord.{length-record, record-parts, moves-counted}
 use Rattle.converting.specs.Listing.{tabled, Held}

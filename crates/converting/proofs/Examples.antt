@@ -19,7 +19,7 @@ use Rattle.field.specs.Listed.{movesOf, units, allUnits}
 use Rattle.field.specs.Writing.{written}
 use Rattle.motion.specs.Replay.{listed}
 use Rattle.plan.specs.Plan.{spareBits, planBits, planBytes, planRecord, planMoves}
-use Rattle.plan.proofs.Examples.{caseBook, casePlan, caseNamed, plan-open, case-1, case-1-named}
+use Rattle.plan_check.proofs.Examples.{caseBook, casePlan, caseNamed, plan-open, case-1, case-1-named}
 use Rattle.converting.specs.Converter.{convertedOf, converterAnswer, bufferAfter}
 use Rattle.converting.specs.Theorems.{ThereAndBack}
 use Rattle.converting.proofs.Theorems.{there-and-back}

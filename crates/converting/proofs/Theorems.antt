@@ -22,10 +22,10 @@ use Rattle.motion.specs.Move.{afterMove}
 use Rattle.motion.proofs.Lawful.{replayMoves-ended}
 use Rattle.motion.proofs.PebbleLaws.{pebble-replay}
 use Rattle.plan.specs.Plan.{planBytes, planRecord, named, moveCount, planListed, planMoves, planAnswer}
-use Rattle.plan.proofs.Accepted.{PlanGave, gave, count-is, count-below}
+use Rattle.plan_check.proofs.Accepted.{PlanGave, gave, count-is, count-below}
 use Rattle.plan.proofs.Listing.{moves-listed, length-listing, listing-fits}
 use Rattle.plan.proofs.PlanRecord.{Written, written as record-written, length-record, record-read, moves-counted}
-use Rattle.plan.proofs.Replayed.{plan-replayed}
+use Rattle.plan_check.proofs.Replayed.{plan-replayed}
 use Rattle.converting.specs.Converter.{convertedOf, converterAnswer, bufferAfter}
 use Rattle.converting.specs.Theorems.{ThereAndBack}
 

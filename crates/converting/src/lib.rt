@@ -31,7 +31,7 @@ fn list_moves(tail: &[u8], named: bool, k: usize, racks: &mut [u8; 64], room: &m
         let a = step.first;
         let b = step.second;
         let rack = racks[a];
-        field::put_listed(room, other, j, a, b, field::wide(rack));
+        recording::put_listed(room, other, j, a, b, field::wide(rack));
         racks[a] = 0;
         racks[b] = rack;
         j += 1;
@@ -59,7 +59,7 @@ pub fn convert(order: &[u8], plan: &[u8], buffer: &mut [u8]) -> ConverterVerdict
     ensures { λ r. ⌜ answerOf r ≡ converterAnswer (now (order .entry)) (now (plan .entry)) (length (now (buffer .entry))) ⌝ }
     ensures { λ _. ⌜ now (buffer .exit) ≡ bufferAfter (now (order .entry)) (now (plan .entry)) (now (buffer .entry)) ⌝ }
 {
-    let below = plan::check(order, plan);
+    let below = plan_check::check(order, plan);
     let PlanVerdict::Accepted(k) = below else {
         return passed_up(below);
     };
@@ -70,8 +70,8 @@ pub fn convert(order: &[u8], plan: &[u8], buffer: &mut [u8]) -> ConverterVerdict
     }
     let counts = order::counts_of(order);
     let mut racks = [0u8; 64];
-    order::place_racks(&order[3..], 2 * counts.edges, counts.racks, &mut racks);
+    decoding::place_racks(&order[3..], 2 * counts.edges, counts.racks, &mut racks);
     list_moves(&plan[3..], named, k, &mut racks, &mut buffer[3..]);
-    field::put_head(buffer, k, plan::spare_bits(!named));
+    recording::put_head(buffer, k, plan::spare_bits(!named));
     ConverterVerdict::Accepted(k)
 }

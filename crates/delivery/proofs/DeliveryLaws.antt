@@ -36,7 +36,7 @@ use Rattle.scheduling.specs.Maker.{madeOf, makerAnswer, bufferAfter, Timetabled
 use Rattle.scheduling.proofs.MakerLaws.{made-packable, maker-record}
 use Rattle.floor.specs.Plannable.{Plannable}
 use Rattle.floor.proofs.FloorLaws.{plannable-is}
-use Rattle.planner.specs.Moves.{Solves}
+use Rattle.method.specs.Moves.{Solves}
 use Rattle.planner.specs.Planner.{refusals, PlanMade, turned-down, made}
 use Rattle.planner.proofs.PlannerLaws.{unrefused, moves-read, count-read, edition-read, plan-accepted}
 use Rattle.delivery.specs.Delivery.{Call, answered, Answers, planLength, planAlone, timetableAlone, Called, unplanned, untimed}

@@ -20,12 +20,12 @@ use Rattle.field.specs.Writing.{written}
 use Rattle.order.specs.Order.{positionCount, startsOf}
 use Rattle.motion.specs.Replay.{replayMoves}
 use Rattle.plan.specs.Plan.{planRecord}
-use Rattle.plan.proofs.Examples.{plan-open}
+use Rattle.plan_check.proofs.Examples.{plan-open}
 use Rattle.scheduling.proofs.MakerCases.{maker-open}
 use Rattle.scheduling.specs.Maker.{bufferAfter}
 use Rattle.floor.specs.CaseBookOrders.{threeInRing}
 use Rattle.floor.proofs.ExamplesLaws.{twoRacks, plannable-met, ring-met}
-use Rattle.planner.specs.Moves.{Solves}
+use Rattle.method.specs.Moves.{Solves}
 use Rattle.delivery.specs.Delivery.{answered, Answers, Called, Delivered}
 use Rattle.delivery.proofs.DeliveryLaws.{planRoom, delivered, callable}
 

@@ -51,7 +51,7 @@ pub fn deliver(order: &[u8], plan: &mut [u8], timetable: &mut [u8]) -> Delivery
         };
     };
     let timetable_end = timetable::record_length(timetable);
-    let checked = timetable::check(order, &timetable[..timetable_end]);
+    let checked = timetable_check::check(order, &timetable[..timetable_end]);
     Delivery {
         plan: PlannerVerdict::Planned(moves),
         timetable: MakerCall::Answered(MakerVerdict::Accepted(steps)),

@@ -1,8 +1,6 @@
 pub mod Sextets
 pub mod Triples
 pub mod BitLaws
-pub mod FrontLaws
-pub mod HeadLaws
 pub mod PackingLaws
 pub mod RecordLaws
 pub mod UnitLaws

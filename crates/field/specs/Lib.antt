@@ -4,5 +4,3 @@ pub mod Listed
 pub mod Units
 pub mod Packing
 pub mod Writing
-pub mod Head
-pub mod Front

@@ -28,7 +28,7 @@ use Rattle.field.proofs.UnitLaws.{or-left}
 use Rattle.order.specs.Floor.{Floor, some, isPair, joined}
 use Rattle.order.specs.Order.{floorOf, startsOf, goalsOf, badEdge, ascending, wrongEdges}
 use Rattle.order.proofs.EdgeLaws.{good-edge}
-use Rattle.order.proofs.TablesLaws.{decoded-rows, decoded-starts, decoded-goals}
+use Rattle.decoding.proofs.TablesLaws.{decoded-rows, decoded-starts, decoded-goals}
 use Rattle.motion.proofs.Test.{and-parts, or-parts, eqb-parts, equal?}
 use Rattle.tables.proofs.TableLaws.{passed, zeros-at}
 use Rattle.tables.specs.Accepted.{OrderGave}

@@ -59,7 +59,7 @@ pub fn judge(
     ensures { λ _. ⌜ now (starts .exit) ≡ decodedStarts (now (order .entry)) ⌝ }
     ensures { λ _. ⌜ now (goals .exit) ≡ decodedGoals (now (order .entry)) ⌝ }
 {
-    let below = order::decode(order, rows, starts, goals);
+    let below = decoding::decode(order, rows, starts, goals);
     let OrderVerdict::Accepted(counts) = below else {
         return passed_up(below);
     };

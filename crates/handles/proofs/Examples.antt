@@ -8,7 +8,7 @@
 --     settle-handles-met   what `handles::settle_handles` asks for
 --     place-met            what `place` asks for, and with it `settle_handle`, `open_stage`, `fetch`, `beside_end` and `close_cycle`
 --     aside, aside-table   rack 1 moved aside to 1, so that both 0 and the right end are vacant
---     carry-met            what `handles::carry` asks for
+--     carry-met            what `lane::carry` asks for
 -- Assumes nothing.
 use Prim.Native.Nat.{ℕ, zero, suc, _-_, _*_, _≤_, _<_}
 use mathlib.Core.Path.{_≡_, refl}
@@ -24,19 +24,19 @@ use Rattle.graph.proofs.Examples.{floorF, floorF-rows}
 use Rattle.breakdown.specs.declared.Breakdown.{Breakdown}
 use Rattle.breakdown.specs.Answer.{BreaksDown}
 use Rattle.breakdown.proofs.Examples.{inRow, starts, lefts, rights, floorF-breakdown}
-use Rattle.shunting.specs.Went.{Move, Went}
-use Rattle.shunting.specs.Went.Went.{stay, real}
-use Rattle.shunting.proofs.WentLaws.{same-refl}
-use Rattle.shunting.proofs.JourneyLaws.{space-room}
-use Rattle.shunting.specs.declared.State.{State}
+use Rattle.moving.specs.Went.{Move, Went}
+use Rattle.moving.specs.Went.Went.{stay, real}
+use Rattle.moving.proofs.WentLaws.{same-refl}
+use Rattle.moving.proofs.JourneyLaws.{space-room}
+use Rattle.moving.specs.declared.State.{State}
 use Rattle.shunting.specs.Cleared.{Vacancy}
-use Rattle.shunting.specs.Journey.{Room, Space}
-use Rattle.shunting.specs.Table.{Table}
-use Rattle.shunting.proofs.TableLaws.{table-went}
+use Rattle.moving.specs.Journey.{Room, Space}
+use Rattle.moving.specs.Table.{Table}
+use Rattle.moving.proofs.TableLaws.{table-went}
 use Rattle.shunting.proofs.TableExamples.{start, goal, start-table, goal-table}
-use Rattle.handles.specs.declared.Lane.{Lane}
-use Rattle.handles.specs.Lane.{Filled, LaneOn, LaneBeside, LaneClosed, LaneStage, LanePlacing, InLane, LaneCarriable}
-use Rattle.handles.specs.Moves.{carryMoves, placeMoves}
+use Rattle.lane.specs.declared.Lane.{Lane}
+use Rattle.lane.specs.Lane.{Filled, LaneOn, LaneBeside, LaneClosed, LaneStage, LanePlacing, InLane, LaneCarriable}
+use Rattle.lane.specs.Moves.{carryMoves, placeMoves}
 use Rattle.handles.proofs.LaneExamples.{goal-filled, laneF, aroundF, closedF, placingF, openF, besideF}
 
 abbrev pub log : List ℕ

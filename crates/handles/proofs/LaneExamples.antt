@@ -22,7 +22,7 @@ use Rattle.breakdown.proofs.StageLaws.{stage-robust}
 use Rattle.breakdown.proofs.Examples.{inRow, inRow-is, floorF-breakdown}
 use Rattle.shunting.specs.Cleared.{Vacancy}
 use Rattle.shunting.proofs.TableExamples.{start, goal, start-table, goal-table}
-use Rattle.handles.specs.Lane.{HandleOn, BesideEnd, Closed, Placing, Fetched}
+use Rattle.lane.specs.Lane.{HandleOn, BesideEnd, Closed, Placing, Fetched}
 
 pub laneF : HandleOn 4 (Edge floorF) (row inRow) 3 4 1 2
 laneF =

@@ -1,8 +1,3 @@
-pub mod StageLaws
-pub mod CarryLaws
-pub mod CycleLaws
-pub mod PlaceLaws
-pub mod FetchLaws
 pub mod SettleLaws
 pub mod Examples
 pub mod LaneExamples

@@ -27,12 +27,12 @@ use Rattle.graph.specs.Walk.{Symmetric}
 use Rattle.breakdown.specs.Breakdown.{Breakdown}
 use Rattle.breakdown.proofs.StageLaws.{stage-within, stage-robust}
 use Rattle.graph.specs.Rows.{row}
-use Rattle.shunting.specs.declared.State.{State}
-use Rattle.shunting.specs.Journey.{Room, Trip}
-use Rattle.shunting.proofs.JourneyLaws.{trip-none, trip-more, trip-append, room-then, room-less}
-use Rattle.shunting.specs.Table.{Table}
-use Rattle.handles.specs.Lane.{HandleOn, Agreed, Filled, Placing}
-use Rattle.handles.specs.Moves.{placeMoves}
+use Rattle.moving.specs.declared.State.{State}
+use Rattle.moving.specs.Journey.{Room, Trip}
+use Rattle.moving.proofs.JourneyLaws.{trip-none, trip-more, trip-append, room-then, room-less}
+use Rattle.moving.specs.Table.{Table}
+use Rattle.lane.specs.Lane.{HandleOn, Agreed, Filled, Placing}
+use Rattle.lane.specs.Moves.{placeMoves}
 
 pub down-up : (i : ℕ) → 0 < i → i - 1 + 1 ≡ i
 down-up i some = omega arith

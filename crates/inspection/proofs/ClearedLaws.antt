@@ -38,8 +38,8 @@ use Rattle.graph.proofs.WalkLaws.{walk-last}
 use Rattle.graph.specs.Rows.{row, Edge, Rows}
 use Rattle.floor.specs.FloorAnswer.{Joins}
 use Rattle.floor.proofs.FloorRows.{walk-along, filled-rows, filled-joins, joins-filled, filled-starts}
-use Rattle.shunting.specs.Went.{Same}
-use Rattle.shunting.specs.declared.State.{State}
+use Rattle.moving.specs.Went.{Same}
+use Rattle.moving.specs.declared.State.{State}
 use Rattle.shunting.specs.declared.Clearing.{Clearing}
 use Rattle.shunting.specs.Distance.{Unheld, WayFrom, NoWay, Distance}
 use Rattle.shunting.proofs.DistanceLaws.{at-most-inside, way-same, distance-same, distance-one, distance-way, distance-few}
@@ -47,7 +47,7 @@ use Rattle.shunting.specs.Cleared.{RoomToClear, Outcome}
 use Rattle.shunting.specs.Cleared.Outcome.{by-nearest, no-way}
 use Rattle.shunting.proofs.ClearLaws.{clear-room}
 use Rattle.solving.proofs.Held.{HeldBy, held-racks, went-led}
-use Rattle.planner.proofs.OrderTables.{held-by}
+use Rattle.method.proofs.OrderTables.{held-by}
 use Rattle.inspection.specs.Inspection.{upTo, Copied}
 use Rattle.inspection.specs.NearestDecision.{Found}
 use Rattle.inspection.specs.Clear.{Loose, away, told, clearNumber, ClearLeft}

@@ -4,10 +4,10 @@ use answers::Fault;
 use breakdown::Breakdown;
 use delivery::CheckCall;
 use delivery::MakerCall;
+use moving::State;
 use order::OrderVerdict;
 use planner::PlannerVerdict;
 use scheduling::MakerVerdict;
-use shunting::State;
 use timetable::TimetableVerdict;
 ghost use mathlib.Core.Path.{_≡_};
 ghost use Prim.Native.Nat.{_+_, _≤_, _<_};
@@ -76,7 +76,7 @@ pub extern "C" fn wichteab_inspect_breakdown(order: &[u8], buffer: &mut [u8]) ->
     let mut rows = [0u64; 64];
     let mut starts = [0u8; 64];
     let mut goals = [0u8; 64];
-    let below = order::decode(order, &mut rows, &mut starts, &mut goals);
+    let below = decoding::decode(order, &mut rows, &mut starts, &mut goals);
     let OrderVerdict::Accepted(counts) = below else {
         return 0;
     };
@@ -110,7 +110,7 @@ pub extern "C" fn wichteab_inspect_clear(
     let mut rows = [0u64; 64];
     let mut starts = [0u8; 64];
     let mut goals = [0u8; 64];
-    let below = order::decode(order, &mut rows, &mut starts, &mut goals);
+    let below = decoding::decode(order, &mut rows, &mut starts, &mut goals);
     let OrderVerdict::Accepted(counts) = below else {
         return 0;
     };
@@ -124,7 +124,7 @@ pub extern "C" fn wichteab_inspect_clear(
         written: 0,
         logged: 0,
     };
-    let mut log = [0u16; shunting::LOG];
+    let mut log = [0u16; moving::LOG];
     let mut tail = [0u8; 144];
     let clearing = shunting::clear(&rows, counts.positions, held, p, state, &mut log, &mut tail);
     if !clearing.found {

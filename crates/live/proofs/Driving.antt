@@ -25,15 +25,16 @@ use Rattle.motion.specs.StepOf.{insert, sort}
 use Rattle.motion.specs.TurnedStep.{turned, turnedStep}
 use Rattle.tables.specs.Accepted.{OrderGave}
 use Rattle.tables.proofs.AcceptedLaws.{well-placed}
-use Rattle.trains.specs.StepOn.{stepOn}
+use Rattle.chains.specs.StepOn.{stepOn}
 use Rattle.timetable.specs.Timetable.{stepCount}
 use Rattle.timetable.proofs.TimetableRecord.{moves-low}
-use Rattle.timetable.proofs.Leading.{accepted-leads}
+use Rattle.timetable_check.proofs.Leading.{accepted-leads}
 use Rattle.live.specs.Picture.{Picture}
 use Rattle.live.specs.Roles.{Kind, opening, reading, running, takingBack, roleNumber}
-use Rattle.live.specs.Calls.{allowed, stepNumbered, cannotRun, cannotTakeBack, ownAnswer, callAnswer, changed, byAnswer}
+use Rattle.live.specs.Calls.{allowed, cannotRun, cannotTakeBack, ownAnswer, callAnswer, changed, byAnswer}
+use Rattle.stepping.specs.Judging.{stepNumbered}
 use Rattle.live.specs.Calls.{pictureAfter}
-use Rattle.live.specs.Judging.{legalOn, ranHere, Lent}
+use Rattle.stepping.specs.Judging.{legalOn, ranHere, Lent}
 use Rattle.live.specs.declared.Role.{Role}
 use Rattle.live.proofs.HereLaws.{here-is}
 use Rattle.live.proofs.Gate.{Admitted, own-refused, own-accepted, admitted-answer}

@@ -25,14 +25,15 @@ use Rattle.motion.specs.StepOf.{insert, sort}
 use Rattle.motion.specs.TurnedStep.{turned, turnedStep}
 use Rattle.motion.proofs.StepDecision.{by-test}
 use Rattle.tables.specs.Simulation.{Each, each-none, each-more}
-use Rattle.trains.specs.StepOn.{takenUp, putDown, stepOn}
+use Rattle.chains.specs.StepOn.{takenUp, putDown, stepOn}
 use Rattle.timetable.specs.Timetable.{stepPart}
-use Rattle.timetable.proofs.Inhabited.{order₁, timetable₁, timetable-open}
+use Rattle.timetable_check.proofs.Inhabited.{order₁, timetable₁, timetable-open}
 use Rattle.live.specs.Picture.{Picture, isOpen, heldFrom, standing}
 use Rattle.live.specs.Roles.{Kind, opening, reading, running, takingBack}
-use Rattle.live.specs.Judging.{knows}
+use Rattle.stepping.specs.Judging.{knows}
 use Rattle.live.specs.HereDecision.{legalTest, legalHere?}
-use Rattle.live.specs.Calls.{stepNumbered, cannotRun, cannotTakeBack, ownAnswer, callAnswer, changed, pictureAfter}
+use Rattle.live.specs.Calls.{cannotRun, cannotTakeBack, ownAnswer, callAnswer, changed, pictureAfter}
+use Rattle.stepping.specs.Judging.{stepNumbered}
 use Rattle.live.specs.Theorems.{Call, after, kept, Lends, Replayed, CanGoOn, ByViewer, NotBySupervisor}
 use Rattle.live.specs.declared.Role.{Role}
 use Rattle.live.proofs.Theorems.{live-replayed, live-goes-on, viewer-keeps, never-back}

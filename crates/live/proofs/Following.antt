@@ -31,17 +31,18 @@ use Rattle.tables.specs.Accepted.{WellPlaced}
 use Rattle.tables.proofs.AcceptedLaws.{well-placed}
 use Rattle.tables.proofs.TablesLaws.{Holds}
 use Rattle.tables.proofs.TableLaws.{table-rack, placed-holds}
-use Rattle.trains.specs.StepOn.{stepOn}
+use Rattle.chains.specs.StepOn.{stepOn}
 use Rattle.trains.proofs.LegalOn.{legal-step-same, legal-step-on}
 use Rattle.trains.proofs.StepHolds.{step-holds}
 use Rattle.timetable.specs.Timetable.{stepCount, stepsOf}
-use Rattle.timetable.proofs.Leading.{LeadingTimetable}
+use Rattle.timetable_check.proofs.Leading.{LeadingTimetable}
 use Rattle.live.specs.Picture.{Picture, standing, LegalHere}
 use Rattle.live.specs.Roles.{opening, running, takingBack}
-use Rattle.live.specs.Calls.{stepNumbered, changed}
+use Rattle.live.specs.Calls.{changed}
+use Rattle.stepping.specs.Judging.{stepNumbered}
 use Rattle.live.proofs.HereLaws.{held-standing}
 use Rattle.live.proofs.Driving.{step-below, turned-below}
-use Rattle.live.proofs.Steps.{Reached, reached, next-legal, reached-next}
+use Rattle.stepping.proofs.Steps.{Reached, reached, next-legal, reached-next}
 
 entries-same : (l k : List ℕ) → length l ≡ length k → ((p : ℕ) → getD l p 0 ≡ getD k p 0) → l ≡ k
 entries-same [] [] e h = refl

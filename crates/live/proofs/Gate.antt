@@ -18,12 +18,12 @@ use native.Mathlib.Omega.{arith}
 use Rattle.answers.specs.Answer.{Answer, accepted, refused, refuse, passUp}
 use Rattle.answers.specs.declared.Fault.{Fault}
 use Rattle.timetable.specs.Timetable.{stepCount, total, partsOf, timetableAnswer}
-use Rattle.timetable.proofs.SizeLaws.{count-small}
-use Rattle.timetable.proofs.Leading.{accepted-leads}
+use Rattle.timetable_check.proofs.SizeLaws.{count-small}
+use Rattle.timetable_check.proofs.Leading.{accepted-leads}
 use Rattle.live.specs.Picture.{Picture}
 use Rattle.live.specs.Roles.{Kind, reading}
 use Rattle.live.specs.Calls.{allowed, ownAnswer, callAnswer, changed, byAnswer, pictureAfter, answerOf}
-use Rattle.live.specs.Judging.{gateAnswer}
+use Rattle.live.specs.Admitting.{gateAnswer}
 use Rattle.live.specs.declared.Role.{Role}
 use Rattle.live.specs.declared.LiveVerdict.{LiveVerdict}
 use Rattle.live.specs.declared.LiveVerdict.the-variants.{Accepted, Refused}

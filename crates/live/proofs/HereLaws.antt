@@ -23,7 +23,7 @@ use Rattle.tables.specs.Tables.{heldAt}
 use Rattle.tables.proofs.MovesOnLaws.{matrixOf}
 use Rattle.trains.proofs.LegalOn.{legal-step-same}
 use Rattle.live.specs.Picture.{Picture, heldFrom, standing, LegalHere}
-use Rattle.live.specs.Judging.{knows, legalOn}
+use Rattle.stepping.specs.Judging.{knows, legalOn}
 use Rattle.live.specs.HereDecision.{legalTest, legalTest-iff, legalHere?}
 use Rattle.live.specs.Calls.{holds}
 

@@ -3,8 +3,4 @@ pub mod Examples
 pub mod Following
 pub mod Gate
 pub mod HereLaws
-pub mod Knowing
-pub mod Lending
-pub mod Steps
 pub mod Theorems
-pub mod Turning

@@ -33,16 +33,17 @@ use Rattle.motion.proofs.Lawful.{replaySteps-ended}
 use Rattle.tables.specs.Simulation.{Each, each-none, each-more}
 use Rattle.timetable.specs.Timetable.{stepCount, stepsOf, timetableAnswer}
 use Rattle.timetable.proofs.ReadingLaws.{count-steps}
-use Rattle.timetable.proofs.Leading.{LeadingTimetable, accepted-leads}
+use Rattle.timetable_check.proofs.Leading.{LeadingTimetable, accepted-leads}
 use Rattle.live.specs.Picture.{Picture}
 use Rattle.live.specs.Roles.{Kind, opening, reading, running, takingBack}
 use Rattle.live.specs.HereDecision.{legalHere?}
-use Rattle.live.specs.Calls.{allowed, holds, stepNumbered, cannotRun, cannotTakeBack, ownAnswer, callAnswer, changed, byAnswer}
+use Rattle.live.specs.Calls.{allowed, holds, cannotRun, cannotTakeBack, ownAnswer, callAnswer, changed, byAnswer}
+use Rattle.stepping.specs.Judging.{stepNumbered}
 use Rattle.live.specs.Calls.{pictureAfter}
 use Rattle.live.specs.Theorems.{Call, answerTo, onward, after, keptBy, kept, Lends, Replayed, CanGoOn, ByViewer, NotBySupervisor}
 use Rattle.live.specs.declared.Role.{Role}
 use Rattle.live.proofs.HereLaws.{here-yes}
-use Rattle.live.proofs.Steps.{first-is}
+use Rattle.stepping.proofs.Steps.{first-is}
 use Rattle.live.proofs.Following.{Following, follows-opened, next-here, follows-run, back-here, follows-back}
 
 -- what acceptance tells

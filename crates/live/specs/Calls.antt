@@ -3,7 +3,6 @@
 --
 --     allowed k r P          the role r has a right to the call k on the picture P
 --     holds d                the decision d says yes
---     stepNumbered t i       the moves of step i of the timetable t
 --     cannotRun P o t        61 applies to the picture P with the lent order o and timetable t
 --     cannotTakeBack P o t   62 does
 --     ownAnswer k P o t      the answer to the call k that is no refusal by 60 or by the checker
@@ -22,13 +21,14 @@ use Rattle.answers.specs.Answer.{Answer, accepted, refused, refusedBy, refuse, 
 use Rattle.order.specs.Order.{positionCount, floorOf, startsOf}
 use Rattle.order.specs.Tables.{racksAt}
 use Rattle.motion.specs.TurnedStep.{turnedStep}
-use Rattle.trains.specs.StepOn.{stepOn}
-use Rattle.timetable.specs.Timetable.{stepCount, stepPart, stepMoves, timetableAnswer}
+use Rattle.chains.specs.StepOn.{stepOn}
+use Rattle.timetable.specs.Timetable.{stepCount, timetableAnswer}
 use Rattle.live.specs.Picture.{Picture, isOpen}
 use Rattle.live.specs.Roles.{Kind, opening, reading, running, takingBack, right}
 use Rattle.live.specs.declared.Role.{Role}
 use Rattle.live.specs.declared.LiveVerdict.{LiveVerdict}
 use Rattle.live.specs.declared.LiveVerdict.the-variants.{Accepted, Refused}
+use Rattle.stepping.specs.Judging.{stepNumbered}
 use Rattle.live.specs.HereDecision.{legalHere?}
 
 -- "Until an opening succeeds, only opening is a right."
@@ -41,10 +41,6 @@ allowed takingBack r P = right takingBack r && isOpen P
 abbrev pub holds : {A : Type 0} → Dec A → Bool
 holds (yes a) = true
 holds (no f) = false
-
--- "Steps go by their number in the lent timetable."
-unfoldable pub stepNumbered : List ℕ → ℕ → List (ℕ × ℕ)
-stepNumbered t i = stepMoves (stepPart t i)
 
 -- 61: "no step left to run, or the lent step is not legal on the picture"
 unfoldable pub cannotRun : Picture → List ℕ → List ℕ → Bool

@@ -17,7 +17,7 @@ use Rattle.motion.proofs.StepTestsLaws.{every-iff}
 use Rattle.motion.proofs.LegalStepLaws.{legalStep-iff}
 use Rattle.motion.proofs.StepDecision.{by-test}
 use Rattle.live.specs.Picture.{Picture, standing, LegalHere}
-use Rattle.live.specs.Judging.{knows}
+use Rattle.stepping.specs.Judging.{knows}
 
 unfoldable pub legalTest : Picture → Floor → List (ℕ × ℕ) → Bool
 legalTest P F ms = every (knows (P .positions)) ms && legalStep F (standing P) ms

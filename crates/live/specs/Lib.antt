@@ -1,6 +1,6 @@
 pub mod Picture
 pub mod Roles
-pub mod Judging
+pub mod Admitting
 pub mod HereDecision
 pub mod Calls
 pub mod Theorems

@@ -29,7 +29,8 @@ use Rattle.motion.proofs.StepDecision.{legalStep?}
 use Rattle.timetable.specs.Timetable.{stepCount}
 use Rattle.live.specs.Picture.{Picture, LegalHere}
 use Rattle.live.specs.Roles.{Kind, opening, reading, running, takingBack}
-use Rattle.live.specs.Calls.{stepNumbered, callAnswer, byAnswer, pictureAfter}
+use Rattle.live.specs.Calls.{callAnswer, byAnswer, pictureAfter}
+use Rattle.stepping.specs.Judging.{stepNumbered}
 use Rattle.live.specs.declared.Role.{Role}
 
 pub record Call : Type 0 where

@@ -6,20 +6,13 @@ use timetable::TimetableVerdict;
 ghost use mathlib.Core.Path.{_≡_};
 ghost use mathlib.Core.Bool.{not, _&&_};
 ghost use mathlib.Core.List.{[], _∷_};
-ghost use Prim.Native.Nat.{_≤_};
 ghost use lib.Dec.{leb, eqb};
-ghost use lib.ListN.{length};
 ghost use Rattle.answers.specs.Answer.{accepted, PassedUp};
-ghost use Rattle.order.specs.Order.{floorOf, WellFormed};
-ghost use Rattle.motion.specs.Step.{every};
-ghost use Rattle.motion.specs.StepTests.{EnteredOnce};
-ghost use Rattle.motion.specs.TurnedStep.{turnedStep};
-ghost use Rattle.trains.specs.StepOn.{entries};
 ghost use Rattle.timetable.specs.Checking.{answerOfCheck};
 ghost use Rattle.live.specs.Picture.{isOpen};
 ghost use Rattle.live.specs.Roles.{roleNumber, roleOf, opening, reading, running, takingBack};
-ghost use Rattle.live.specs.Calls.{stepNumbered, callAnswer, byAnswer, pictureAfter, answerOf};
-ghost use Rattle.live.specs.Judging.{knows, legalOn, ranHere, gateAnswer, Lent, Readable, originsOf, OriginsLow, rowMoves};
+ghost use Rattle.live.specs.Calls.{callAnswer, byAnswer, pictureAfter, answerOf};
+ghost use Rattle.live.specs.Admitting.{gateAnswer};
 
 // The picture: the rack at each position, 0 where there is none; how many steps were run and not taken back; and how many positions the
 // opening floor has, 0 while the picture is closed. The header's `wichteab_floor` is this struct.
@@ -112,7 +105,7 @@ fn admit(allowed: bool, order: &[u8], timetable: &[u8]) -> LiveVerdict
     if !allowed {
         return LiveVerdict::Refused(Fault::FloorRight, 0);
     }
-    let checked = timetable::check(order, timetable);
+    let checked = timetable_check::check(order, timetable);
     let TimetableVerdict::Accepted { steps, moves: _ } = checked else {
         return passed_up(checked);
     };
@@ -147,7 +140,7 @@ pub fn open(floor: Floor, role: Role, order: &[u8], timetable: &[u8]) -> Driven
     };
     let counts = order::counts_of(order);
     let mut racks = [0u8; 64];
-    order::place_racks(&order[3..], 2 * counts.edges, counts.racks, &mut racks);
+    decoding::place_racks(&order[3..], 2 * counts.edges, counts.racks, &mut racks);
     Driven {
         floor: Floor {
             racks,
@@ -179,135 +172,6 @@ pub fn read(
     LiveVerdict::Accepted(floor.steps)
 }
 
-// Whether a step's c moves name positions below n alone.
-fn all_known(step: &[u16; 64], c: usize, n: usize) -> bool
-    requires { ⌜ c ≤ 64 ⌝ }
-    ensures { λ r. ⌜ r ≡ every (knows n) (entries (now (step .entry)) 0 c) ⌝ }
-{
-    let mut j = 0;
-    while j < c {
-        let a = field::first_of(step[j]);
-        let b = field::second_of(step[j]);
-        if n <= a {
-            return false;
-        }
-        if n <= b {
-            return false;
-        }
-        j += 1;
-    }
-    true
-}
-
-// Judges a step of c moves by the lent order's floor and the opening floor's n, and makes it on the table if it is legal.
-fn run_moves(order: &[u8], step: &[u16; 64], c: usize, n: usize, racks: &mut [u8; 64]) -> bool
-    requires { ⌜ WellFormed (now order) ⌝ }
-    requires { ⌜ c ≤ 64 ⌝ }
-    ensures judged { λ r. ⌜ r ≡ legalOn (floorOf (now (order .entry))) n (now (racks .entry)) (entries (now (step .entry)) 0 c) ⌝ }
-    ensures made { λ _. ⌜ now (racks .exit) ≡
-        ranHere (floorOf (now (order .entry))) n (now (racks .entry)) (entries (now (step .entry)) 0 c) ⌝ }
-{
-    if !all_known(step, c, n) {
-        return false;
-    }
-    let counts = order::counts_of(order);
-    let mut matrix = [0u8; 4096];
-    order::mark_edges(&order[3..], counts.edges, &mut matrix);
-    trains::run_entries(step, c, &matrix, racks)
-}
-
-// Reads step `number` of the timetable as numbers, and says how many moves it has.
-fn read_lent(timetable: &[u8], number: usize, step: &mut [u16; 64]) -> usize
-    requires { ⌜ Readable (now timetable) number ⌝ }
-    requires { ⌜ length (now step) ≡ 64 ⌝ }
-    ensures { λ r. ⌜ (r ≤ 64) × (entries (now (step .exit)) 0 r ≡ stepNumbered (now (timetable .entry)) number) ⌝ }
-{
-    let part = timetable::step(timetable, number);
-    let c = field::wide(part[0]);
-    let _few = trains::read_moves(&part[1..], c, step);
-    c
-}
-
-// Judges step `number` of the timetable so, and makes it if it is legal.
-fn run_lent(order: &[u8], timetable: &[u8], number: usize, n: usize, racks: &mut [u8; 64]) -> bool
-    requires { ⌜ Lent (now order) (now timetable) number ⌝ }
-    ensures judged { λ r. ⌜ r ≡
-        legalOn (floorOf (now (order .entry))) n (now (racks .entry)) (stepNumbered (now (timetable .entry)) number) ⌝ }
-    ensures made { λ _. ⌜ now (racks .exit) ≡
-        ranHere (floorOf (now (order .entry))) n (now (racks .entry)) (stepNumbered (now (timetable .entry)) number) ⌝ }
-{
-    let mut step = [0u16; 64];
-    let c = read_lent(timetable, number, &mut step);
-    run_moves(order, &step, c, n, racks)
-}
-
-// Notes for each position that a step's c moves enter one more than the position left.
-fn note_origins(step: &[u16; 64], c: usize, origins: &mut [u8; 64])
-    requires { ⌜ c ≤ 64 ⌝ }
-    ensures { λ _. ⌜ now (origins .exit) ≡ originsOf (now (origins .entry)) (entries (now (step .entry)) 0 c) ⌝ }
-{
-    let mut j = 0;
-    while j < c {
-        let a = field::first_of(step[j]);
-        let b = field::second_of(step[j]);
-        origins[b] = (a + 1) as u8;
-        j += 1;
-    }
-}
-
-// The moves that the row has, from each position to the one noted there, ascending; how many they are.
-fn list_origins(origins: &[u8; 64], back: &mut [u16; 64]) -> usize
-    requires { ⌜ OriginsLow (now origins) ⌝ }
-    requires { ⌜ length (now back) ≡ 64 ⌝ }
-    ensures { λ r. ⌜ (r ≤ 64) × (entries (now (back .exit)) 0 r ≡ rowMoves (now (origins .entry)) 0 64) ⌝ }
-{
-    let mut count = 0;
-    let mut p = 0;
-    while p < 64 {
-        let origin = field::wide(origins[p]);
-        if origin != 0 {
-            back[count] = (p * 64 + (origin - 1)) as u16;
-            count += 1;
-        }
-        p += 1;
-    }
-    count
-}
-
-// A step of c moves turned round: each move from the position entered to the position left, ascending. Each position is entered once, so a
-// row by the position entered has every move; how many they are.
-fn turn_round(step: &[u16; 64], c: usize, back: &mut [u16; 64]) -> usize
-    requires { ⌜ c ≤ 64 ⌝ }
-    requires { ⌜ EnteredOnce (entries (now step) 0 c) ⌝ }
-    requires { ⌜ length (now back) ≡ 64 ⌝ }
-    ensures { λ r. ⌜ (r ≤ 64) × (entries (now (back .exit)) 0 r ≡ turnedStep (entries (now (step .entry)) 0 c)) ⌝ }
-{
-    let mut origins = [0u8; 64];
-    note_origins(step, c, &mut origins);
-    list_origins(&origins, back)
-}
-
-// Takes step `number` of the timetable back, if its moves, turned round, are legal on the table.
-fn take_back_lent(
-    order: &[u8],
-    timetable: &[u8],
-    number: usize,
-    n: usize,
-    racks: &mut [u8; 64],
-) -> bool
-    requires { ⌜ Lent (now order) (now timetable) number ⌝ }
-    ensures judged { λ r. ⌜ r ≡
-        legalOn (floorOf (now (order .entry))) n (now (racks .entry)) (turnedStep (stepNumbered (now (timetable .entry)) number)) ⌝ }
-    ensures made { λ _. ⌜ now (racks .exit) ≡
-        ranHere (floorOf (now (order .entry))) n (now (racks .entry)) (turnedStep (stepNumbered (now (timetable .entry)) number)) ⌝ }
-{
-    let mut step = [0u16; 64];
-    let c = read_lent(timetable, number, &mut step);
-    let mut back = [0u16; 64];
-    let count = turn_round(&step, c, &mut back);
-    run_moves(order, &back, count, n, racks)
-}
-
 // Runs the next step: 61 where none is left or the lent one is not legal on the picture.
 pub fn run(floor: Floor, role: Role, order: &[u8], timetable: &[u8]) -> Driven
     ensures answer { λ r. ⌜ answerOf (r .verdict) ≡ callAnswer running role floor (now (order .entry)) (now (timetable .entry)) ⌝ }
@@ -323,7 +187,7 @@ pub fn run(floor: Floor, role: Role, order: &[u8], timetable: &[u8]) -> Driven
         return leave(floor, LiveVerdict::Refused(Fault::FloorRun, 0));
     }
     let mut racks = floor.racks;
-    if !run_lent(
+    if !stepping::run_lent(
         order,
         timetable,
         (steps + 1) as usize,
@@ -360,7 +224,7 @@ pub fn take_back(floor: Floor, role: Role, order: &[u8], timetable: &[u8]) -> Dr
         return leave(floor, LiveVerdict::Refused(Fault::FloorTakeBack, 0));
     }
     let mut racks = floor.racks;
-    if !take_back_lent(
+    if !stepping::take_back_lent(
         order,
         timetable,
         steps as usize,

@@ -23,7 +23,7 @@ use Rattle.field.specs.Writing.{written}
 use Rattle.field.proofs.BitLaws.{field-lt}
 use Rattle.field.proofs.RecordLaws.{bits-pairs, bits-positions, pairs-drop, pairs-lt, length-pairs, rest-is}
 use Rattle.field.proofs.PackingLaws.{length-pack}
-use Rattle.field.proofs.HeadLaws.{record-written}
+use Rattle.recording.proofs.HeadLaws.{record-written}
 use Rattle.field.proofs.WritingLaws.{written-front}
 use Rattle.models.specs.Grid.{rowsOf, columnsOf, unknownModel, gridEdges, grid, modelFloor}
 use Rattle.models.specs.ShortOrder.{modelCode, shortRacks, shortStarts, shortGoals, wrongShort}

@@ -50,7 +50,7 @@ fn put_right(tail: &mut [u8], j: usize, columns: usize, p: usize) -> usize
     if columns <= p % columns + 1 {
         return j;
     }
-    field::put_pair(tail, j, p, p + 1);
+    recording::put_pair(tail, j, p, p + 1);
     j + 1
 }
 
@@ -63,7 +63,7 @@ fn put_below(tail: &mut [u8], j: usize, n: usize, columns: usize, p: usize) -> u
     if n <= p + columns {
         return j;
     }
-    field::put_pair(tail, j, p, p + columns);
+    recording::put_pair(tail, j, p, p + columns);
     j + 1
 }
 
@@ -95,7 +95,7 @@ pub fn put_pairs(tail: &mut [u8], j: usize, from: &[u8], m: usize)
         let pair = field::pair_at(from, i);
         let a = pair.first;
         let b = pair.second;
-        field::put_pair(tail, j + i, a, b);
+        recording::put_pair(tail, j + i, a, b);
         i += 1;
     }
 }

@@ -34,13 +34,13 @@ use Rattle.motion.specs.Sound.{Sound}
 use Rattle.plan.specs.Plan.{moveCount, planMoves, planAnswer}
 use Rattle.timetable.specs.Timetable.{timetableRecord, stepsOf, timetableAnswer}
 use Rattle.timetable.proofs.ReadingLaws.{count-steps}
-use Rattle.timetable.proofs.Leading.{accepted-leads}
+use Rattle.timetable_check.proofs.Leading.{accepted-leads}
 use Rattle.timetable.proofs.TimetableRecord.{stepsOf-record}
 use Rattle.scheduling.specs.Making.{timed, greatest, madeSteps}
 use Rattle.scheduling.specs.Maker.{madeOf, makerAnswer}
 use Rattle.scheduling.proofs.Timing.{history, history-greatest}
 use Rattle.scheduling.proofs.Made.{made}
-use Rattle.plan.proofs.Accepted.{plan-gave}
+use Rattle.plan_check.proofs.Accepted.{plan-gave}
 use Rattle.scheduling.proofs.MakerLaws.{MakerGave, maker-gave, made-of, made-packable, timetabled}
 use Rattle.optimality.specs.Routes.{racksAmong, visitors, Keeps, LegalInTurn, no-more, one-more}
 use Rattle.optimality.specs.Shortest.{Shortest, KeepsRecord, ShortestRecord}

@@ -14,7 +14,7 @@ use lib.ListN.{take}
 use Rattle.answers.specs.Answer.{accepted, refused}
 use Rattle.field.specs.Bits.{bits, number, bitsOf, field, pairs, positions, pairBits, positionBits, pad, padded, bytes, toBytes}
 use Rattle.field.specs.Units.{recordLength, misfits, padSet, unclean}
-use Rattle.field.specs.Front.{wholeLength}
+use Rattle.recording.specs.Front.{wholeLength}
 use Rattle.order.specs.Floor.{some}
 use Rattle.order.specs.Order.{Order, orderBits, orderRecord, positionCount, edgeCount, rackCount, unitCount, floorOf, startsOf}
 use Rattle.order.specs.Order.{goalsOf, orderOf, wrongLength, wrongPositions, paddingSet, badEdge, precedes, ascending}

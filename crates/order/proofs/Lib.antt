@@ -2,7 +2,6 @@ pub mod Head
 pub mod Edges
 pub mod Places
 pub mod Tables
-pub mod TablesLaws
 pub mod Layers
 pub mod EdgeLaws
 pub mod EdgeSetsLaws

@@ -10,7 +10,7 @@ use native.Mathlib.Omega.{arith}
 use lib.ListN.{length}
 use Rattle.field.specs.Units.{recordLength}
 use Rattle.field.proofs.UnitLaws.{fitting, fits}
-use Rattle.field.proofs.FrontLaws.{field-front, LengthFound, length-found}
+use Rattle.recording.proofs.FrontLaws.{field-front, LengthFound, length-found}
 use Rattle.order.specs.Order.{edgeCount, rackCount, unitCount, wrongLength}
 use Rattle.order.specs.RecordLength.{orderLength, wholeOrderLength}
 

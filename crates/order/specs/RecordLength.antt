@@ -6,7 +6,7 @@
 use Prim.Native.Nat.{ℕ}
 use mathlib.Core.List.{List}
 use Rattle.field.specs.Units.{recordLength}
-use Rattle.field.specs.Front.{wholeLength}
+use Rattle.recording.specs.Front.{wholeLength}
 use Rattle.order.specs.Order.{unitCount}
 
 -- "The length is 3 bytes plus 12 × (e + m) bits rounded up to bytes."

@@ -19,7 +19,7 @@ use Rattle.answers.specs.Answer.{Answer, accepted, refused, refuse, passUp}
 use Rattle.answers.proofs.AnswerLaws.{passUp-accepted}
 use Rattle.order.specs.Order.{positionCount, rackCount, floorOf, startsOf, goalsOf, orderAnswer}
 use Rattle.order.specs.Tables.{racksAt, decodedRows, decodedStarts, decodedGoals}
-use Rattle.order.proofs.TablesLaws.{decoded-starts, decoded-goals}
+use Rattle.decoding.proofs.TablesLaws.{decoded-starts, decoded-goals}
 use Rattle.motion.specs.Arrangement.{Arrangement}
 use Rattle.motion.specs.Sound.{Sound}
 use Rattle.tables.specs.Accepted.{OrderGave}

@@ -25,7 +25,7 @@ use Rattle.motion.proofs.PebbleLaws.{solution-replay}
 use Rattle.tables.specs.Accepted.{WellPlaced}
 use Rattle.tables.proofs.AcceptedLaws.{well-placed}
 use Rattle.graph.specs.Connected.{BiConnected}
-use Rattle.plan.proofs.Limits.{accepted-leads}
+use Rattle.plan_check.proofs.Limits.{accepted-leads}
 use Rattle.floor.specs.FloorAnswer.{Joins, biConnected?, holds}
 use Rattle.floor.proofs.FloorLaws.{holds-true}
 use Rattle.parity.specs.Impossible.{Impossible}

@@ -14,7 +14,7 @@ use Rattle.answers.specs.Answer.{accepted}
 use Rattle.order.specs.Order.{positionCount, floorOf, startsOf, goalsOf}
 use Rattle.motion.specs.Arrangement.{Arrangement}
 use Rattle.plan.specs.Plan.{planAnswer}
-use Rattle.plan.specs.Solutions.{SolutionOf, NoPlan}
+use Rattle.plan_check.specs.Solutions.{SolutionOf, NoPlan}
 use Rattle.floor.specs.FloorAnswer.{Joins}
 use Rattle.parity.specs.Colours.{TwoColours, Coloured}
 use Rattle.parity.specs.Impossible.{Contrary}

@@ -161,7 +161,7 @@ pub fn one_vacancy(order: &[u8]) -> VacancyVerdict
     let mut rows = [0u64; 64];
     let mut starts = [0u8; 64];
     let mut goals = [0u8; 64];
-    let below = order::decode(order, &mut rows, &mut starts, &mut goals);
+    let below = decoding::decode(order, &mut rows, &mut starts, &mut goals);
     let OrderVerdict::Accepted(counts) = below else {
         return passed_up(below);
     };

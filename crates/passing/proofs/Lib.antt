@@ -1,5 +1,2 @@
-pub mod FillingLaws
-pub mod Leaving
-pub mod Passing
 pub mod StretchLaws
 pub mod Stretching

@@ -27,10 +27,10 @@ use lib.Seq.{getD-set-same, getD-set-other, getD-take, getD-drop, length-take-le
 use Rattle.field.specs.Listed.{moveSize, listedMoves, movesOf, movesAt}
 use Rattle.field.proofs.ListedLaws.{size-none, size-next}
 use Rattle.motion.specs.LegalStep.{longestTrain}
-use Rattle.passing.specs.Filling.{Pass, started, passed, pass, Early, Due, due-none, due-more, emptyWindow, windowOf, latest}
+use Rattle.window.specs.Filling.{Pass, started, passed, pass, Early, Due, due-none, due-more, emptyWindow, windowOf, latest}
 use Rattle.passing.specs.Stretches.{stretchEnd, before, stretch, Copied, RowIn, after}
-use Rattle.passing.proofs.FillingLaws.{early-started, early-pass, Same, same-pass, same-window, pass-append}
-use Rattle.passing.proofs.Passing.{note-outside}
+use Rattle.window.proofs.FillingLaws.{early-started, early-pass, Same, same-pass, same-window, pass-append}
+use Rattle.window.proofs.Passing.{note-outside}
 
 module _ (k n : ℕ) where
   pub end-few : (i : ℕ) → stretchEnd k n i ≤ k

@@ -19,9 +19,9 @@ use lib.Seq.{getD-set-same, getD-set-other}
 use Rattle.field.specs.Listed.{moveSize, movesAt}
 use Rattle.field.proofs.ListedLaws.{length-moves}
 use Rattle.tables.proofs.TableLaws.{zeros-at}
-use Rattle.passing.specs.Filling.{Pass, started, pass, passIn, Early, Due, PassMade, emptyWindow, windowOf, latest}
+use Rattle.window.specs.Filling.{Pass, started, pass, passIn, Early, Due, PassMade, emptyWindow, windowOf, latest}
 use Rattle.passing.specs.Stretches.{stretchEnd, before, stretch, Copied, RowIn, after, Begun, Kept, PlanPassed}
-use Rattle.passing.proofs.FillingLaws.{Same}
+use Rattle.window.proofs.FillingLaws.{Same}
 use Rattle.passing.proofs.StretchLaws.{end-next, before-none, before-next, before-all}
 use Rattle.passing.proofs.StretchLaws.{read-arrived, read-left, row-written, row-kept}
 use Rattle.passing.proofs.StretchLaws.{after-length, after-early, GoesOn, goes-on, goes-on-window, goes-on-latest}

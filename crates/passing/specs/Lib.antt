@@ -1,3 +1,1 @@
-pub mod Rows
-pub mod Filling
 pub mod Stretches

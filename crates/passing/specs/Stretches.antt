@@ -19,7 +19,7 @@ use mathlib.Core.Bool.{Bool}
 use mathlib.Core.List.{List, []}
 use lib.ListN.{length, getD}
 use Rattle.field.specs.Listed.{moveSize, movesAt}
-use Rattle.passing.specs.Filling.{Pass, started, pass, emptyWindow, windowOf, latest, Due}
+use Rattle.window.specs.Filling.{Pass, started, pass, emptyWindow, windowOf, latest, Due}
 
 -- stretches of k / n + 1 moves; the last ones may have fewer, or none
 unfoldable pub stretchEnd : ℕ → ℕ → ℕ → ℕ

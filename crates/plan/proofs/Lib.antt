@@ -1,14 +1,5 @@
 pub mod Listing
 pub mod Record
 pub mod MoveTests
-pub mod Turns
-pub mod Layers
-pub mod Examples
-pub mod Limits
 pub mod PlanRecord
-pub mod SizeLaws
-pub mod Replayed
-pub mod SolutionsLaws
-pub mod Stopped
-pub mod Accepted
 pub mod EditionOne

@@ -25,8 +25,8 @@ use Rattle.field.specs.Listed.{moveSize, movesOf, allUnits, ListedFit}
 use Rattle.field.proofs.ListedLaws.{length-listed, length-movesOf, length-units, units-below, units-listed, listed-from}
 use Rattle.field.proofs.RecordLaws.{length-positionBits, positionBits-are, bits-positions, positions-at, bits-zero, zeros-at, join}
 use Rattle.field.proofs.RecordLaws.{padded-by, up-to-byte, length-toBytes, toBytes-are, bitsOf-toBytes, toBytes-from}
-use Rattle.field.proofs.HeadLaws.{headBits, headBits-are, length-headBits, head-bytes}
-use Rattle.field.specs.Head.{headBytes}
+use Rattle.recording.proofs.HeadLaws.{headBits, headBits-are, length-headBits, head-bytes}
+use Rattle.recording.specs.Head.{headBytes}
 use Rattle.field.proofs.WholeBytes.{toBytes-append}
 use Rattle.field.specs.Packing.{packPositions}
 use Rattle.field.proofs.PackingLaws.{packed-is}

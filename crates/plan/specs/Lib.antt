@@ -1,4 +1,3 @@
 pub mod Plan
 pub mod Verdict
 pub mod Readers
-pub mod Solutions

@@ -30,7 +30,7 @@ use Rattle.order.specs.Order.{orderBits, orderRecord, positionCount, edgeCount,
 use Rattle.order.specs.Order.{wrongLength, wrongPositions, paddingSet, badEdge, precedes, ascending, wrongEdges, repeats}
 use Rattle.order.specs.Order.{wrongPlaces, wrongRacks, counts, orderAnswer}
 use Rattle.order.specs.EdgeSets.{listed, isEdge, floorFrom}
-use Rattle.plan.proofs.Examples.{plan-open}
+use Rattle.plan_check.proofs.Examples.{plan-open}
 use Rattle.plan.specs.Plan.{spareBits, planBits, planBytes, planRecord}
 use Rattle.writers.specs.Lines.{digits, decimal, refusalLine}
 use Rattle.motion.specs.Arrangement.{stands, rackFrom, rackAt}
@@ -50,7 +50,7 @@ use Rattle.models.specs.ShortOrder.{shortRecord}
 use Rattle.models.specs.Expansion.{expanded}
 use Rattle.models.proofs.Theorems.{model-plannable}
 use Rattle.models.proofs.EveryShort.{model-order}
-use Rattle.planner.specs.Moves.{Solves}
+use Rattle.method.specs.Moves.{Solves}
 use Rattle.planner.specs.Planner.{refusals, made}
 use Rattle.plan_program.specs.Printed.{Printed}
 use Rattle.plan_program.proofs.PrintedLaws.{made-printed, line-printed}

@@ -17,7 +17,7 @@ use Rattle.writers.specs.Lines.{refusalLine}
 use Rattle.planner.specs.Planner.{PlanMade}
 use Rattle.order.specs.Order.{positionCount, startsOf}
 use Rattle.plan.specs.Plan.{planRecord, planAnswer}
-use Rattle.planner.specs.Moves.{Solves}
+use Rattle.method.specs.Moves.{Solves}
 
 -- "writes the plan record", whose length the count of its moves gives; "On a refusal a program prints one line and no other"
 abbrev pub planText : Answer → List ℕ → List ℕ

@@ -1,8 +1,8 @@
 -- What the planner's contracts and laws assume can be met: the case book's order (document 01, "Programs": F, rack 1 from 0 to 3, rack 2
 -- from 3 to 0) and its plan.
 --
---     plan-moves-met      what `planner::plan_moves` asks for, in a buffer of just the bytes that 23 asks for
---     round-met, ring-floor-met, ring-plan-met    what `planner::round` and the theorem on rings ask for
+--     plan-moves-met      what `method::plan_moves` asks for, in a buffer of just the bytes that 23 asks for
+--     round-met, ring-floor-met, ring-plan-met    what `method::round` and the theorem on rings ask for
 --     mirrored-no-plan    an order on a ring that no moves fulfil
 --     plan                the case book's plan
 --     solves-met          its moves solve the order
@@ -32,11 +32,11 @@ use Rattle.motion.specs.Replay.{replayFrom, replayMoves, listed}
 use Rattle.tables.specs.Accepted.{OrderGave}
 use Rattle.tables.proofs.AcceptedLaws.{order-gave}
 use Rattle.plan.specs.Plan.{planRecord}
-use Rattle.plan.specs.Solutions.{NoPlan}
+use Rattle.plan_check.specs.Solutions.{NoPlan}
 use Rattle.floor.specs.CaseBookOrders.{threeInRing, mirrored}
 use Rattle.floor.proofs.FloorLaws.{told-disordered}
 use Rattle.floor.proofs.ExamplesLaws.{twoRacks, floors-judged, plannable-met, ring-met, on-met}
-use Rattle.planner.specs.Moves.{Solves, SomeTables, Moves}
+use Rattle.method.specs.Moves.{Solves, SomeTables, Moves}
 use Rattle.planner.specs.Rings.{OnRingFloor, TurnedDown}
 use Rattle.planner.proofs.RingTheorem.{ring-turned-down}
 use Rattle.planner.specs.Planner.{refusals, PlanMade, turned-down, made}

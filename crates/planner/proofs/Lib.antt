@@ -1,10 +1,6 @@
-pub mod SameLaws
-pub mod MovesLaws
-pub mod RingLaws
 pub mod RoundKept
 pub mod RoundReached
 pub mod RingTheorem
 pub mod Making
 pub mod Examples
-pub mod OrderTables
 pub mod PlannerLaws

@@ -18,8 +18,8 @@ use borrow.Author.Tests.{lt-ltb, le-ltb}
 use lib.Dec.{ltb}
 use lib.ListN.{length, take, drop, length-drop}
 use Rattle.answers.specs.Answer.{Answer, accepted, refused, refuse, passUp}
-use Rattle.field.specs.Head.{headBytes}
-use Rattle.field.proofs.HeadLaws.{length-headBytes, record-written}
+use Rattle.recording.specs.Head.{headBytes}
+use Rattle.recording.proofs.HeadLaws.{length-headBytes, record-written}
 use Rattle.field.specs.Packing.{packPositions}
 use Rattle.field.proofs.PackingLaws.{length-packed}
 use Rattle.field.specs.Listed.{moveSize, allUnits}
@@ -39,7 +39,7 @@ use Rattle.plan.proofs.Listing.{length-listing, listing-fits}
 use Rattle.floor.specs.FloorAnswer.{floorAnswer}
 use Rattle.floor.specs.Plannable.{Plannable}
 use Rattle.floor.proofs.FloorLaws.{plannable-is}
-use Rattle.planner.specs.Moves.{Solves, TablesOf, Moves}
+use Rattle.method.specs.Moves.{Solves, TablesOf, Moves}
 use Rattle.planner.specs.Planner.{refusals, PlanMade, turned-down, made}
 
 pub counted : (o : List ℕ) → Plannable o → (a : Answer) → a ≡ passUp (floorAnswer o) (accepted (counts o)) → a ≡ orderAnswer o

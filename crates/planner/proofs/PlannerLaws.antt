@@ -29,12 +29,12 @@ use Rattle.tables.specs.Accepted.{WellPlaced}
 use Rattle.tables.proofs.AcceptedLaws.{well-placed}
 use Rattle.plan.specs.Plan.{planRecord, named, moveCount, planMoves, planAnswer}
 use Rattle.plan.proofs.PlanRecord.{Written, written as written-right}
-use Rattle.plan.proofs.SizeLaws.{most-moves}
+use Rattle.plan_check.proofs.SizeLaws.{most-moves}
 use Rattle.plan.proofs.Listing.{moves-listed, length-listing, listing-fits}
 use Rattle.floor.specs.FloorAnswer.{floorAnswer}
 use Rattle.floor.specs.Plannable.{Plannable}
 use Rattle.floor.proofs.FloorLaws.{plannable}
-use Rattle.planner.specs.Moves.{Solves}
+use Rattle.method.specs.Moves.{Solves}
 use Rattle.planner.specs.Planner.{refusals, PlanMade, turned-down, made}
 use Rattle.planner.specs.Planned.{Planned}
 

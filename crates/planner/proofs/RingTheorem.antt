@@ -24,7 +24,7 @@ use Rattle.tables.proofs.AcceptedLaws.{well-placed}
 use Rattle.graph.specs.Rows.{row, Edge}
 use Rattle.ring.specs.Circle.{roundOf, edgeIn}
 use Rattle.ring.proofs.CircleLaws.{circle-every}
-use Rattle.shunting.proofs.WentLaws.{went-to}
+use Rattle.moving.proofs.WentLaws.{went-to}
 use Rattle.solving.specs.Placed.{Placed}
 use Rattle.solving.proofs.Held.{went-replayed}
 use Rattle.floor.specs.FloorAnswer.{roundPlace, SameRound}
@@ -36,8 +36,8 @@ use Rattle.floor.proofs.FloorRows.{filled-onFloor}
 use Rattle.floor.proofs.Layers.{ring-other, ring-plain, rings, ring-tables}
 use Rattle.floor.proofs.RoundTables.{rows, starts-hold, goals-hold, starts-on, goals-on}
 use Rattle.planner.specs.Rings.{OnRingFloor, TurnedDown}
-use Rattle.planner.proofs.OrderTables.{held-by, held-placed}
-use Rattle.planner.proofs.RingLaws.{went-outside}
+use Rattle.method.proofs.OrderTables.{held-by, held-placed}
+use Rattle.method.proofs.RingLaws.{went-outside}
 use Rattle.planner.proofs.RoundKept.{circle, stand-of, places-round, moves-kept}
 use Rattle.planner.proofs.RoundReached.{Reached, reached}
 

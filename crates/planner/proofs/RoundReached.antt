@@ -23,10 +23,10 @@ use Rattle.ring.specs.Order.{Rack, SameOrder}
 use Rattle.graph.specs.Rows.{row}
 use Rattle.ring.specs.Standing.{OnCircle, StandAt}
 use Rattle.ring.proofs.CircleLaws.{next-below, circle-next, circle-one}
-use Rattle.shunting.specs.Turned.{Passed}
-use Rattle.shunting.specs.Went.{Move, Went}
-use Rattle.shunting.specs.Went.Went.{stay, real}
-use Rattle.shunting.proofs.WentLaws.{same-refl, went-append}
+use Rattle.moving.specs.OnePlace.{Passed}
+use Rattle.moving.specs.Went.{Move, Went}
+use Rattle.moving.specs.Went.Went.{stay, real}
+use Rattle.moving.proofs.WentLaws.{same-refl, went-append}
 use Rattle.circling.specs.Lands.{Lands, mirror, total}
 use Rattle.circling.specs.Drive.{Ready, Driveable, Driven}
 use Rattle.circling.specs.Needs.{reach}

@@ -1,4 +1,3 @@
-pub mod Moves
 pub mod Planner
 pub mod Planned
 pub mod Rings

@@ -15,7 +15,7 @@ use Rattle.field.specs.Writing.{written}
 use Rattle.order.specs.Order.{positionCount, startsOf}
 use Rattle.plan.specs.Plan.{planRecord}
 use Rattle.floor.specs.FloorAnswer.{floorAnswer}
-use Rattle.planner.specs.Moves.{Solves}
+use Rattle.method.specs.Moves.{Solves}
 use Rattle.planner.specs.declared.PlannerVerdict.{PlannerVerdict}
 use Rattle.planner.specs.declared.PlannerVerdict.the-variants.{Planned, Refused}
 

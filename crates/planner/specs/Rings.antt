@@ -10,7 +10,7 @@ use mathlib.Core.Logic.{_↔_}
 use lib.ListN.{length}
 use Rattle.answers.specs.Answer.{refused}
 use Rattle.order.specs.Order.{positionCount, rackCount, floorOf, WellFormed}
-use Rattle.plan.specs.Solutions.{NoPlan}
+use Rattle.plan_check.specs.Solutions.{NoPlan}
 use Rattle.graph.specs.Connected.{Ring}
 use Rattle.floor.specs.FloorAnswer.{Joins, floorAnswer}
 

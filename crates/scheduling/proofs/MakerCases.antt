@@ -23,7 +23,7 @@ use Rattle.field.specs.Writing.{written}
 use Rattle.motion.specs.Arrangement.{rackFrom, rackAt}
 use Rattle.motion.specs.StepOf.{insert, sort}
 use Rattle.motion.proofs.Inhabited.{floorF, starts, plan, plan-leads, starts-sound}
-use Rattle.plan.proofs.Examples.{plan-open}
+use Rattle.plan_check.proofs.Examples.{plan-open}
 use Rattle.plan.specs.Plan.{planMoves, planAnswer}
 use Rattle.timetable.specs.Timetable.{stepBits, allStepBits, timetableBits, timetableRecord}
 use Rattle.scheduling.specs.Making.{ofRack, ofLeaving, placeLeaving, stepAfter, placeAfter, turnAfter, turnFor, timed}

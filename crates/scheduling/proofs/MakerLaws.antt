@@ -19,8 +19,8 @@ use lib.ListN.{length, drop, length-append}
 use lib.Dec.{ltb}
 use Rattle.answers.specs.Answer.{Answer, accepted, refuse}
 use Rattle.answers.proofs.AnswerLaws.{refuse-not, refuse-else, passUp-low, passUp-high, passUp-accepted}
-use Rattle.field.specs.Head.{headBytes}
-use Rattle.field.proofs.HeadLaws.{length-headBytes}
+use Rattle.recording.specs.Head.{headBytes}
+use Rattle.recording.proofs.HeadLaws.{length-headBytes}
 use Rattle.field.proofs.BitLaws.{field-lt}
 use Rattle.field.specs.Bytes.{BelowPairs, none₂, more₂}
 use Rattle.order.specs.Floor.{Floor}
@@ -40,14 +40,14 @@ use Rattle.motion.proofs.JudgementLaws.{judged-accepted}
 use Rattle.tables.specs.Accepted.{WellPlaced}
 use Rattle.plan.specs.Plan.{moveCount, planMoves, wrongPlanLength, planAnswer}
 use Rattle.plan.proofs.PlanRecord.{moves-counted}
-use Rattle.plan.proofs.Accepted.{PlanGave, plan-gave}
+use Rattle.plan_check.proofs.Accepted.{PlanGave, plan-gave}
 use Rattle.timetable.specs.Timetable.{timetableRecord, stepCount, partsOf, stepsOf, total, timetableAnswer}
 use Rattle.timetable.specs.Reading.{moveTotal}
 use Rattle.timetable.proofs.ReadingLaws.{total-moves}
 use Rattle.timetable.proofs.TimetableRecord.{Steps, no-steps, one-step, Packable, count-record, stepsOf-record, record-well-packed}
 use Rattle.scheduling.specs.Making.{timed, greatest, madeSteps}
 use Rattle.scheduling.proofs.Made.{Made, made}
-use Rattle.passing.specs.Rows.{stepsBytes}
+use Rattle.window.specs.Rows.{stepsBytes}
 use Rattle.scheduling.proofs.RecordBytes.{record-bytes}
 use Rattle.scheduling.specs.Maker.{madeOf, makerAnswer, bufferAfter, Timetabled}
 

@@ -16,20 +16,20 @@ use lib.ListN.{length, take, drop}
 use lib.Dec.{ltb}
 use Rattle.answers.specs.Answer.{Answer, accepted, refused, refuse, passUp}
 use Rattle.answers.proofs.AnswerLaws.{passUp-accepted}
-use Rattle.field.specs.Head.{headBytes}
-use Rattle.field.proofs.HeadLaws.{length-headBytes, front-written}
+use Rattle.recording.specs.Head.{headBytes}
+use Rattle.recording.proofs.HeadLaws.{length-headBytes, front-written}
 use Rattle.field.specs.Listed.{movesAt}
 use Rattle.field.specs.Writing.{written, leftBy, Fits}
 use Rattle.field.proofs.WritingLaws.{length-written}
 use Rattle.order.specs.Order.{floorOf, startsOf}
 use Rattle.plan.specs.Plan.{named, moveCount, planMoves, planAnswer}
-use Rattle.plan.proofs.Accepted.{PlanGave, gave, count-is, count-below, tail-moves}
+use Rattle.plan_check.proofs.Accepted.{PlanGave, gave, count-is, count-below, tail-moves}
 use Rattle.plan.proofs.PlanRecord.{moves-counted}
 use Rattle.timetable.specs.Timetable.{timetableRecord}
 use Rattle.scheduling.specs.Making.{timed, greatest}
-use Rattle.passing.specs.Rows.{stepsBytes}
-use Rattle.passing.specs.Filling.{latest}
-use Rattle.passing.proofs.FillingLaws.{latest-few}
+use Rattle.window.specs.Rows.{stepsBytes}
+use Rattle.window.specs.Filling.{latest}
+use Rattle.window.proofs.FillingLaws.{latest-few}
 use Rattle.scheduling.specs.Windows.{allSteps}
 use Rattle.scheduling.proofs.TabledSteps.{latest-rule, allSteps-made}
 use Rattle.scheduling.proofs.RecordBytes.{record-bytes}

@@ -26,7 +26,7 @@ use lib.Dec.{eqb, lit<}
 use borrow.Author.Tests.{ne-eqb}
 use lib.ListN.{length}
 use Rattle.field.specs.Packing.{pack}
-use Rattle.passing.specs.Rows.{stepBytes, stepsBytes}
+use Rattle.window.specs.Rows.{stepBytes, stepsBytes}
 use Rattle.order.specs.Floor.{Floor, some, isPair, joined}
 use Rattle.motion.specs.Arrangement.{Arrangement, occupied, vacant, rackFrom, rackAt}
 use Rattle.motion.specs.Move.{onFloor, legalMove, faultBy, moveFault, goesTo, after, afterMove}

@@ -12,8 +12,8 @@ use lib.ListN.{length}
 use Rattle.field.specs.Bits.{bits, bitsOf, pairBits, padded}
 use Rattle.field.specs.Bytes.{more, Bytes, BelowPairs}
 use Rattle.field.proofs.BitLaws.{length-bits}
-use Rattle.field.specs.Head.{headBytes}
-use Rattle.field.proofs.HeadLaws.{head-bytes}
+use Rattle.recording.specs.Head.{headBytes}
+use Rattle.recording.proofs.HeadLaws.{head-bytes}
 use Rattle.field.proofs.RecordLaws.{bitsOf-toBytes, toBytes-are, toBytes-from, pairBits-are}
 use Rattle.field.proofs.WholeBytes.{padded-append, padded-whole}
 use Rattle.field.specs.Packing.{pack}
@@ -21,7 +21,7 @@ use Rattle.field.proofs.PackingLaws.{pack-is}
 use Rattle.timetable.specs.Timetable.{stepBits, stepLength, timetableRecord}
 use Rattle.timetable.proofs.StepRecord.{stepRecord, joined, stepBits-are, length-stepBits}
 use Rattle.timetable.proofs.TimetableRecord.{Steps, no-steps, one-step, Packable, record-parts}
-use Rattle.passing.specs.Rows.{stepBytes, stepsBytes}
+use Rattle.window.specs.Rows.{stepBytes, stepsBytes}
 
 module _ (ms : List (ℕ × ℕ)) (few : length ms ≤ 255) (below : BelowPairs 64 ms) where
   pack-bytes : Bytes (pack ms)

@@ -8,7 +8,7 @@ use mathlib.Core.Path.{_≡_, refl, sym, _∙_}
 use mathlib.Core.List.{List, [], _∷_, _++_, append-assoc}
 use native.Mathlib.Omega.{arith}
 use native.Mathlib.Nat.{add-zero, zero-add}
-use Rattle.passing.specs.Rows.{rowMoves, rows, stepBytes, stepsBytes}
+use Rattle.window.specs.Rows.{rowMoves, rows, stepBytes, stepsBytes}
 
 pub rows-split : (t : List ℕ) (i k l : ℕ) → rows t i (k + l) ≡ rows t i k ++ rows t (i + k) l
 unfolding rows

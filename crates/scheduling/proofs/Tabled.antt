@@ -39,7 +39,7 @@ use Rattle.scheduling.proofs.Timing.{ofRack-same, ofRack-other, ofLeavi
 use Rattle.scheduling.proofs.Timing.{placeLeaving-same, placeLeaving-other}
 use Rattle.scheduling.proofs.Timing.{ByRule, leads, behind, later, turnFor-byRule, byRule-place}
 use Rattle.motion.specs.LegalStep.{longestTrain}
-use Rattle.passing.specs.Filling.{Pass, started, turnNumber, turnBy, noted, passed, pass, emptyWindow}
+use Rattle.window.specs.Filling.{Pass, started, turnNumber, turnBy, noted, passed, pass, emptyWindow}
 
 unfoldable pub entryOf : List Timed → ℕ → ℕ → ℕ
 entryOf [] i p = 0

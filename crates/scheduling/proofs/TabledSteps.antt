@@ -36,8 +36,8 @@ use Rattle.motion.proofs.StepOfLaws.{sort-iff, sort-ascends, ascending-same}
 use Rattle.scheduling.specs.Making.{Timed, timed, greatest, inStep, movesIn, stepsFrom, madeSteps}
 use Rattle.scheduling.proofs.Timing.{inStep-same, inStep-other, history, history-greatest}
 use Rattle.scheduling.proofs.Made.{steps-made, history-lefts}
-use Rattle.passing.specs.Rows.{rowFrom, rowMoves, rows}
-use Rattle.passing.specs.Filling.{Pass, started, pass, emptyWindow, windowOf, latest}
+use Rattle.window.specs.Rows.{rowFrom, rowMoves, rows}
+use Rattle.window.specs.Filling.{Pass, started, pass, emptyWindow, windowOf, latest}
 use Rattle.scheduling.specs.Windows.{rowsOf, windowSteps, windows, allSteps}
 use Rattle.scheduling.proofs.Tabled.{entryOf, entryOf-same, entryOf-place, entryOf-step, Agrees, agrees-started, agrees-pass}
 

@@ -18,12 +18,12 @@ use native.Mathlib.Nat.{add-zero, le-refl}
 use Rattle.field.specs.Bytes.{BelowPairs}
 use Rattle.field.specs.Writing.{written, Fits, Wrote}
 use Rattle.field.proofs.WritingLaws.{fits-next, wrote-none, wrote-then, wrote-length, fits-as, wrote-as}
-use Rattle.passing.specs.Filling.{started, windowOf, latest}
+use Rattle.window.specs.Filling.{started, windowOf, latest}
 use Rattle.passing.specs.Stretches.{Begun}
-use Rattle.passing.proofs.FillingLaws.{latest-some, entries-empty, entries-pass}
+use Rattle.window.proofs.FillingLaws.{latest-some, entries-empty, entries-pass}
 use Rattle.scheduling.specs.Windows.{rowsOf, windowSteps, windows, allSteps, Counted}
 use lib.ListN.{length, length-append}
-use Rattle.passing.specs.Rows.{EntriesFit, rowMoves, rows, stepBytes, stepsBytes}
+use Rattle.window.specs.Rows.{EntriesFit, rowMoves, rows, stepBytes, stepsBytes}
 use Rattle.scheduling.proofs.RowLaws.{rows-split, rows-next, stepsBytes-append}
 
 module _ (t s : List ℕ) (n at : ℕ) where

@@ -34,7 +34,7 @@ use Rattle.field.specs.Writing.{written, Fits, Wrote}
 use Rattle.field.proofs.WritingLaws.{written-none, length-written}
 use Rattle.sets.specs.Sets.{Has}
 use Rattle.sets.proofs.SetLaws.{has-none}
-use Rattle.passing.specs.Rows.{rowFrom, rowMoves, stepBytes, Left}
+use Rattle.window.specs.Rows.{rowFrom, rowMoves, stepBytes, Left}
 
 module _ (s : List ℕ) (at n p e : ℕ) where
   pub part-put : (ys : List ℕ) → ys ≡ putPair (take (length s - (at + 1)) (drop (at + 1) s)) n p e

@@ -9,8 +9,8 @@
 use Prim.Native.Nat.{ℕ, zero, suc, _+_, _-_, _*_, _/_, _<_, min}
 use mathlib.Core.Path.{_≡_}
 use mathlib.Core.List.{List, [], _++_}
-use Rattle.passing.specs.Rows.{rows}
-use Rattle.passing.specs.Filling.{windowOf, latest}
+use Rattle.window.specs.Rows.{rows}
+use Rattle.window.specs.Filling.{windowOf, latest}
 use Rattle.passing.specs.Stretches.{Begun}
 
 unfoldable pub rowsOf : ℕ → ℕ → ℕ

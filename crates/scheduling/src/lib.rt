@@ -12,8 +12,8 @@ ghost use Rattle.answers.specs.Answer.{accepted, PassedUp};
 ghost use Rattle.field.specs.Listed.{moveSize, movesAt};
 ghost use Rattle.field.specs.Writing.{written, Fits, Wrote};
 ghost use Rattle.plan.specs.Verdict.{answerOf as planAnswerOf};
-ghost use Rattle.passing.specs.Filling.{latest};
-ghost use Rattle.passing.specs.Rows.{EntriesFit, Left, rowMoves, rows, stepBytes, stepsBytes};
+ghost use Rattle.window.specs.Filling.{latest};
+ghost use Rattle.window.specs.Rows.{EntriesFit, Left, rowMoves, rows, stepBytes, stepsBytes};
 ghost use Rattle.passing.specs.Stretches.{Begun, Kept};
 ghost use Rattle.scheduling.specs.Windows.{rowsOf, windowSteps, allSteps, Counted};
 ghost use Rattle.scheduling.specs.Maker.{makerAnswer, bufferAfter, stepsAnswer, answerOf};
@@ -37,7 +37,7 @@ fn write_step(
     while rest != 0 {
         let p = sets::lowest(rest);
         let entry = field::wide(window[base + p]);
-        field::put_pair(&mut buffer[at + 1..], count, p, entry - 1);
+        recording::put_pair(&mut buffer[at + 1..], count, p, entry - 1);
         count += 1;
         rest = sets::without(rest, p);
     }
@@ -109,7 +109,7 @@ fn make_window(
     let mut leaving = [0u64; 4096];
     let first = 4096 * done.windows;
     let found = passing::pass_plan(tail, named, k, first, book, due, &mut window, &mut leaving);
-    let steps = passing::later(done.steps, found);
+    let steps = window::later(done.steps, found);
     let n = rows_of(steps, first);
     let next = write_window(&window, &leaving, n, buffer, done.next);
     Progress {
@@ -189,7 +189,7 @@ fn passed_up(plan: PlanVerdict) -> MakerVerdict
 pub fn count_steps(order: &[u8], plan: &[u8]) -> MakerVerdict
     ensures { λ r. ⌜ answerOf r ≡ stepsAnswer (now (order .entry)) (now (plan .entry)) ⌝ }
 {
-    let below = plan::check(order, plan);
+    let below = plan_check::check(order, plan);
     let PlanVerdict::Accepted(k) = below else {
         return passed_up(below);
     };
@@ -203,7 +203,7 @@ pub fn make(order: &[u8], plan: &[u8], buffer: &mut [u8]) -> MakerVerdict
     ensures { λ r. ⌜ answerOf r ≡ makerAnswer (now (order .entry)) (now (plan .entry)) (length (now (buffer .entry))) ⌝ }
     ensures { λ _. ⌜ now (buffer .exit) ≡ bufferAfter (now (order .entry)) (now (plan .entry)) (now (buffer .entry)) ⌝ }
 {
-    let below = plan::check(order, plan);
+    let below = plan_check::check(order, plan);
     let PlanVerdict::Accepted(k) = below else {
         return passed_up(below);
     };
@@ -212,6 +212,6 @@ pub fn make(order: &[u8], plan: &[u8], buffer: &mut [u8]) -> MakerVerdict
     }
     let named = plan::names_racks(plan);
     let s = make_steps(&plan[3..], named, k, buffer);
-    field::put_head(buffer, s, 0);
+    recording::put_head(buffer, s, 0);
     MakerVerdict::Accepted(s)
 }

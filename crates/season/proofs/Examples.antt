@@ -12,10 +12,10 @@ use mathlib.Core.Path.{_≡_, refl}
 use mathlib.Core.List.{List, [], _∷_, _++_}
 use lib.ListN.{take}
 use Rattle.answers.specs.Answer.{Answer, accepted, refused}
-use Rattle.field.specs.Front.{wholeLength}
+use Rattle.recording.specs.Front.{wholeLength}
 use Rattle.order.specs.RecordLength.{orderLength, wholeOrderLength}
 use Rattle.timetable.specs.RecordLength.{stepsLength, timetableLength, wholeTimetableLength}
-use Rattle.timetable.proofs.Inhabited.{order₁, timetable₁, timetable-open}
+use Rattle.timetable_check.proofs.Inhabited.{order₁, timetable₁, timetable-open}
 use Rattle.season.specs.Season.{orderPart, behindOrder, timetablePart, behindPair, cutShort, nothing, counted, parallelism}
 use Rattle.season.specs.Season.{seasonFrom, seasonAnswer}
 use Rattle.season.specs.declared.Totals.{Totals}

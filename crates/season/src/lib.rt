@@ -68,7 +68,7 @@ fn count_pair(totals: Totals, pairs: u32, order: &[u8], timetable: &[u8]) -> Tot
     ensures { λ r. ⌜ r ≡ counted totals (timetableAnswer (now (order .entry)) (now (timetable .entry))) ⌝ }
     ensures { λ r. ⌜ Within (pairs + 1) r ⌝ }
 {
-    match timetable::check(order, timetable) {
+    match timetable_check::check(order, timetable) {
         TimetableVerdict::Accepted { steps, moves } => Totals {
             accepted: totals.accepted + 1,
             refused: totals.refused,

@@ -26,7 +26,7 @@ use Rattle.motion.specs.Move.{goesTo, after, afterMove}
 use Rattle.motion.specs.Problem.{arrangementAt}
 use Rattle.motion.specs.Replay.{listed, trace}
 use Rattle.plan.specs.Plan.{spareBits, planBits, planBytes, planRecord, named, moveCount, planListed, planMoves, planAnswer}
-use Rattle.plan.proofs.Examples.{plan-open}
+use Rattle.plan_check.proofs.Examples.{plan-open}
 use Rattle.scheduling.specs.Making.{ofRack, ofLeaving, placeLeaving, stepAfter, placeAfter, turnAfter, turnFor, timed, greatest}
 use Rattle.shortening.specs.Rule.{moveAt, rackOf, between, visits, cancels, without, partner, laterMove, shorten, shortened}
 use Rattle.shortening.specs.Shortener.{shortenedOf}

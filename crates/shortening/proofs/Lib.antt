@@ -3,8 +3,6 @@ pub mod RuleLaws
 pub mod RemovalLaws
 pub mod RackLaws
 pub mod PassLaws
-pub mod LookingLaws
-pub mod MarkLaws
 pub mod WritingLaws
 pub mod ShortenerLaws
 pub mod Theorems

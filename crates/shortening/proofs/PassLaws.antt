@@ -29,8 +29,8 @@ use Rattle.motion.proofs.ListedLaws.{LeadsListed}
 use Rattle.motion.proofs.Test.{equal?}
 use Rattle.plan.proofs.Listing.{listing}
 use Rattle.shortening.specs.Rule.{moveAt, between, cancels, without, FirstPair, Shortens, done, again, shortened}
-use Rattle.shortening.specs.Stack.{moveOf, Apart, Partner, top, under, Taken, off-top, from-under, Pushed, cancelled, kept}
-use Rattle.shortening.specs.Stack.{Passes, begun, next, laid}
+use Rattle.cancelling.specs.Stack.{moveOf, Apart, Partner, top, under, Taken, off-top, from-under, Pushed, cancelled, kept}
+use Rattle.cancelling.specs.Stack.{Passes, begun, next, laid}
 use Rattle.shortening.proofs.RuleLaws.{cancelling, shortens-unique, shortened-rule}
 use Rattle.shortening.proofs.RemovalLaws.{Undoing, undoing-cancels}
 use Rattle.shortening.proofs.RackLaws.{leads-moves, taken-leads, fit-at, laid-fits, passes-fit}

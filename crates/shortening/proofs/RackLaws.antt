@@ -22,7 +22,7 @@ use Rattle.motion.proofs.ListedLaws.{rightly, legalListed, LeadsListed}
 use Rattle.motion.proofs.MoveLaws.{turned-back}
 use Rattle.motion.specs.TurnedStep.{turned}
 use Rattle.motion.proofs.Test.{and-parts}
-use Rattle.shortening.specs.Stack.{moveOf, Apart, Taken, off-top, from-under, Pushed, cancelled, kept, Passes, begun, next, laid}
+use Rattle.cancelling.specs.Stack.{moveOf, Apart, Taken, off-top, from-under, Pushed, cancelled, kept, Passes, begun, next, laid}
 use Rattle.shortening.proofs.RemovalLaws.{rack-kept, first-legal, then-legal, alike}
 use Rattle.shortening.proofs.StackLaws.{apart-sym, apart-turned, laid-append}
 

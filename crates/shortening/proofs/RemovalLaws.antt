@@ -33,7 +33,7 @@ use Rattle.motion.specs.TurnedStep.{turned}
 use Rattle.motion.proofs.Test.{equal?}
 use Rattle.motion.proofs.Untouched.{vacant-move}
 use Rattle.shortening.specs.Rule.{moveAt, rackOf, between, cancels, without, Shortens, done, again}
-use Rattle.shortening.specs.Stack.{Apart}
+use Rattle.cancelling.specs.Stack.{Apart}
 use Rattle.shortening.proofs.RuleLaws.{cancelling, between-at, length-between}
 
 -- the rack of a move

@@ -27,7 +27,7 @@ use Rattle.motion.specs.Arrangement.{Arrangement}
 use Rattle.motion.proofs.Test.{and-parts, or-parts, not-parts, eqb-parts, decided, equal?, cond-true, cond-false}
 use Rattle.shortening.specs.Rule.{moveAt, rackOf, between, visits, cancels, without, NoPair, FirstPair, Shortens, done, again}
 use Rattle.shortening.specs.Rule.{partner, laterMove, shorten, shortened}
-use Rattle.shortening.specs.Stack.{Apart}
+use Rattle.cancelling.specs.Stack.{Apart}
 
 -- tests
 

@@ -22,12 +22,12 @@ use lib.Seq.{length-take-le}
 use Rattle.answers.specs.Answer.{Answer, accepted, refused, refuse, passUp}
 use Rattle.answers.proofs.AnswerLaws.{refuse-else, passUp-high, passUp-refused, passUp-accepted}
 use Rattle.field.specs.Bits.{field}
-use Rattle.field.specs.Head.{headBytes}
+use Rattle.recording.specs.Head.{headBytes}
 use Rattle.field.specs.Listed.{moveSize, rackField, listedMoves, allUnits, ListedFit}
 use Rattle.field.specs.Packing.{packPositions}
 use Rattle.field.specs.Writing.{written, leftBy}
 use Rattle.field.proofs.BitLaws.{field-lt}
-use Rattle.field.proofs.HeadLaws.{length-headBytes, record-written}
+use Rattle.recording.proofs.HeadLaws.{length-headBytes, record-written}
 use Rattle.field.proofs.ListedLaws.{size-none, size-next, length-units, listed-drop}
 use Rattle.field.proofs.PackingLaws.{length-packed}
 use Rattle.field.proofs.RecordLaws.{rest-is}
@@ -36,15 +36,15 @@ use Rattle.order.specs.Order.{floorOf, startsOf, goalsOf}
 use Rattle.motion.specs.Replay.{listed}
 use Rattle.motion.proofs.ListedLaws.{LeadsListed, listed-leads}
 use Rattle.plan.specs.Plan.{spareBits, planRecord, named, moveCount, planListed, planMoves, planUnits, wrongPlanLength, planAnswer}
-use Rattle.plan.proofs.Accepted.{PlanGave, gave, count-is, count-below}
+use Rattle.plan_check.proofs.Accepted.{PlanGave, gave, count-is, count-below}
 use Rattle.plan.proofs.Listing.{length-listing, listing-fits}
 use Rattle.plan.proofs.PlanRecord.{listed-counted, moves-counted, record-parts}
-use Rattle.plan.proofs.Replayed.{listed-fits}
+use Rattle.plan_check.proofs.Replayed.{listed-fits}
 use Rattle.shortening.specs.Rule.{shortened}
-use Rattle.shortening.specs.Stack.{Passes, begun, next, laid}
-use Rattle.shortening.specs.Looking.{listedOf, Shortened}
+use Rattle.cancelling.specs.Stack.{Passes, begun, next, laid}
+use Rattle.cancelling.specs.Looking.{listedOf, Shortened}
 use Rattle.shortening.specs.Shortener.{shortenedOf, shortenerAnswer, bufferAfter}
-use Rattle.shortening.proofs.LookingLaws.{bytes-fewer}
+use Rattle.cancelling.proofs.LookingLaws.{bytes-fewer}
 use Rattle.shortening.proofs.RuleLaws.{shortened-rule, shortens-length}
 use Rattle.shortening.proofs.RemovalLaws.{shortens-leads}
 use Rattle.shortening.proofs.PassLaws.{listedAt, passes-listed}

@@ -12,8 +12,8 @@ use mathlib.Core.List.{List, [], _∷_, _++_}
 use mathlib.Core.Path.{_≡_, refl, sym, _∙_}
 use native.Mathlib.Omega.{arith}
 use lib.ListN.{length, getD, take, drop}
-use Rattle.shortening.specs.Stack.{moveOf, Apart, Partner, top, under, Taken, off-top, from-under, Pushed, cancelled, kept}
-use Rattle.shortening.specs.Stack.{Passes, begun, next, laid}
+use Rattle.cancelling.specs.Stack.{moveOf, Apart, Partner, top, under, Taken, off-top, from-under, Pushed, cancelled, kept}
+use Rattle.cancelling.specs.Stack.{Passes, begun, next, laid}
 
 pub apart-sym : {m x : ℕ × ℕ} → Apart m x → Apart x m
 apart-sym a =

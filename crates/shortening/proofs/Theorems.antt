@@ -24,7 +24,7 @@ use Rattle.motion.specs.Replay.{ended, replayMoves, listed}
 use Rattle.motion.proofs.Lawful.{Leads, replayMoves-ended}
 use Rattle.tables.proofs.AcceptedLaws.{well-placed}
 use Rattle.plan.specs.Plan.{planBytes, planRecord, named, moveCount, planListed, planMoves, planUnits, wrongPlanLength, planAnswer}
-use Rattle.plan.proofs.Limits.{LeadingPlan, accepted-leads}
+use Rattle.plan_check.proofs.Limits.{LeadingPlan, accepted-leads}
 use Rattle.plan.proofs.Listing.{moves-listed, length-listing, listing-fits}
 use Rattle.plan.proofs.PlanRecord.{moves-counted, length-record, Written, written as read-back}
 use Rattle.scheduling.specs.Making.{timed, greatest}
@@ -32,7 +32,7 @@ use Rattle.scheduling.proofs.MakerLaws.{timetabled}
 use Rattle.shortening.specs.Rule.{cancels, without, Shortens, shortened}
 use Rattle.shortening.specs.Shortener.{shortenedOf}
 use Rattle.shortening.specs.Theorems.{Shorter}
-use Rattle.shortening.proofs.LookingLaws.{bytes-fewer}
+use Rattle.cancelling.proofs.LookingLaws.{bytes-fewer}
 use Rattle.shortening.proofs.RuleLaws.{partner-unique, shortens-unique, shortened-rule, shortens-none, shortens-length}
 use Rattle.shortening.proofs.RuleLaws.{shortens-again}
 use Rattle.shortening.proofs.RemovalLaws.{removal-leads, shortens-leads}

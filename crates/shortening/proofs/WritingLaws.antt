@@ -21,13 +21,13 @@ use Rattle.field.specs.Listed.{moveSize, units, allUnits}
 use Rattle.field.specs.Packing.{packPositions, putPositions}
 use Rattle.field.proofs.ListedLaws.{put-behind-listed}
 use Rattle.field.proofs.WritingLaws.{written-none}
-use Rattle.shortening.specs.Stack.{laid}
+use Rattle.cancelling.specs.Stack.{laid}
 use Rattle.motion.proofs.Test.{equal?}
 use Rattle.sets.specs.Sets.{Has}
 use Rattle.sets.proofs.SetLaws.{has-none}
-use Rattle.shortening.specs.Looking.{listedOf, Kept, stackOf, GoesAhead, Packed}
+use Rattle.cancelling.specs.Looking.{listedOf, Kept, stackOf, GoesAhead, Packed}
 use Rattle.shortening.proofs.StackLaws.{laid-append, laid-length}
-use Rattle.shortening.proofs.MarkLaws.{kept?, stack-kept, stack-skipped}
+use Rattle.cancelling.proofs.MarkLaws.{kept?, stack-kept, stack-skipped}
 
 pub packed-none : (named : Bool) (B : List ℕ) → Packed named B [] 0 B
 packed-none named B = record { counted = refl; packed = unfold allUnits packPositions in sym (written-none B 0) }

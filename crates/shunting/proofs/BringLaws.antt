@@ -28,10 +28,10 @@ use Rattle.graph.specs.Connected.{Except, Robust}
 use Rattle.graph.specs.Rows.{row, Edge, Rows}
 use Rattle.graph.specs.Nearest.{Nearest}
 use Rattle.graph.proofs.NearestLaws.{nearest-found, nearest-short}
-use Rattle.shunting.specs.declared.State.{State}
-use Rattle.shunting.specs.Journey.{Fits, Joins, Journey, JourneyOn}
-use Rattle.shunting.proofs.JourneyLaws.{journey-none, journey-append, journey-more, fits-less, fits-then}
-use Rattle.shunting.specs.Turned.{Movable, Passed}
+use Rattle.moving.specs.declared.State.{State}
+use Rattle.moving.specs.Journey.{Fits, Joins, Journey, JourneyOn}
+use Rattle.moving.proofs.JourneyLaws.{journey-none, journey-append, journey-more, fits-less, fits-then}
+use Rattle.moving.specs.OnePlace.{Movable, Passed}
 use Rattle.shunting.specs.Distance.{Reaches, AtMost}
 use Rattle.shunting.proofs.DistanceLaws.{at-most-less, at-most-except, shortest-few, distance-same, distance-few, reaches-back}
 use Rattle.shunting.specs.Cleared.{Inside, Vacancy, Cleared, RoomToClear, Clears}

@@ -27,12 +27,12 @@ use Rattle.graph.proofs.WalkLaws.{walk-first, walk-inside, walk-reverse, path-w
 use Rattle.graph.specs.Rows.{row, Edge, Rows}
 use Rattle.graph.specs.Nearest.{Nearest}
 use Rattle.graph.proofs.NearestLaws.{nearest-short, nearest-inner}
-use Rattle.shunting.specs.declared.State.{State}
+use Rattle.moving.specs.declared.State.{State}
 use Rattle.shunting.specs.declared.Clearing.{Clearing}
-use Rattle.shunting.specs.Journey.{Fits, Joins, Along, JourneyIn, JourneyOn, JourneyAlong}
-use Rattle.shunting.proofs.JourneyLaws.{journey-in-none, journey-in-append, journey-in-more, journey-in-less, journey-in-one}
-use Rattle.shunting.proofs.JourneyLaws.{fits-less}
-use Rattle.shunting.specs.Turned.{Movable, Passed, Simple, Shiftable, Shifted}
+use Rattle.moving.specs.Journey.{Fits, Joins, Along, JourneyIn, JourneyOn, JourneyAlong}
+use Rattle.moving.proofs.JourneyLaws.{journey-in-none, journey-in-append, journey-in-more, journey-in-less, journey-in-one}
+use Rattle.moving.proofs.JourneyLaws.{fits-less}
+use Rattle.moving.specs.OnePlace.{Movable, Passed, Simple, Shiftable, Shifted}
 use Rattle.shunting.specs.Distance.{Unheld, WayFrom, NoWay, Distance, Reaches, AtMost}
 use Rattle.shunting.proofs.DistanceLaws.{way-same, distance-same, distance-one, distance-way, distance-few}
 use Rattle.shunting.specs.Cleared.{VacantBelow, Cleared, RoomToClear, Clears, Outcome}

@@ -14,7 +14,7 @@ use native.Mathlib.Omega.{arith}
 use lib.Dec.{lit<, lit≤}
 use lib.ListN.{replicate}
 use Rattle.graph.specs.Rows.{row}
-use Rattle.shunting.specs.Table.{Table}
+use Rattle.moving.specs.Table.{Table}
 
 abbrev pub corners : ℕ → ℕ → List ℕ
 corners x y = x ∷ 0 ∷ 0 ∷ y ∷ replicate 60 0

@@ -28,10 +28,10 @@ use Rattle.sets.specs.Sets.{Has}
 use Rattle.graph.specs.Walk.{Walk}
 use Rattle.graph.specs.Connected.{Except}
 use Rattle.graph.specs.Rows.{row, Edge}
-use Rattle.shunting.specs.Went.{Move}
-use Rattle.shunting.specs.Journey.{Fits, Journey, JourneyIn}
+use Rattle.moving.specs.Went.{Move}
+use Rattle.moving.specs.Journey.{Fits, Journey, JourneyIn}
 use Rattle.shunting.specs.Distance.{NoWay, Distance, AtMost}
-use Rattle.shunting.specs.declared.State.{State}
+use Rattle.moving.specs.declared.State.{State}
 use Rattle.shunting.specs.declared.Clearing.{Clearing}
 
 abbrev pub VacantBelow : ℕ → (ℕ → ℕ) → ℕ → Type 0

@@ -1,7 +1,2 @@
-pub mod Went
-pub mod Journey
-pub mod Turned
-pub mod Undone
 pub mod Distance
 pub mod Cleared
-pub mod Table

@@ -24,20 +24,20 @@ use Rattle.graph.specs.Rows.{row, Edge, Rows}
 use Rattle.graph.proofs.Examples.{floorF, floorF-rows}
 use Rattle.breakdown.specs.Answer.{BreaksDown}
 use Rattle.breakdown.proofs.Examples.{floorF-breakdown, floorF-biConnected}
-use Rattle.shunting.specs.Went.Went.{stay}
-use Rattle.shunting.proofs.WentLaws.{same-refl}
-use Rattle.shunting.specs.declared.State.{State}
-use Rattle.shunting.specs.Journey.{onto, Room, Space, made, Trip}
-use Rattle.shunting.specs.Journey.Trail.{start as begun}
-use Rattle.shunting.proofs.JourneyLaws.{moved-trip, trip-append}
-use Rattle.shunting.specs.Turned.{Movable}
-use Rattle.shunting.specs.Table.{Table}
+use Rattle.moving.specs.Went.Went.{stay}
+use Rattle.moving.proofs.WentLaws.{same-refl}
+use Rattle.moving.specs.declared.State.{State}
+use Rattle.moving.specs.Journey.{onto, Room, Space, made, Trip}
+use Rattle.moving.specs.Journey.Trail.{start as begun}
+use Rattle.moving.proofs.JourneyLaws.{moved-trip, trip-append}
+use Rattle.moving.specs.OnePlace.{Movable}
+use Rattle.moving.specs.Table.{Table}
 use Rattle.shunting.proofs.TableExamples.{none-after, start, goal, start-table, goal-table}
 use Rattle.breakdown.specs.Part.{placeFrom}
 use Rattle.base_ring.specs.Circle.{Open}
 use Rattle.base_ring.specs.From.{round, circleOf}
 use Rattle.handles.proofs.Examples.{log, tail, state, space, four-long, breakdown}
-use Rattle.handles.specs.Moves.{placeMoves}
+use Rattle.lane.specs.Moves.{placeMoves}
 use Rattle.base_ring.specs.Moves.{exchangeMoves}
 use Rattle.solving.specs.Moves.{shiftMoves, settleMoves, solveMoves}
 use Rattle.solving.specs.Shift.{aimed, TwoPositions, Shift}

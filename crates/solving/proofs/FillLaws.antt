@@ -18,7 +18,7 @@ use Rattle.sets.specs.Sets.{Has}
 use Rattle.sets.proofs.SetLaws.{has-or, has-only, has-none, has-or-not}
 use Rattle.sets.proofs.CountLaws.{ones-least, ones-most, ones-push, ones-pair, ones-third, ones-subset}
 use Rattle.graph.specs.Rows.{row}
-use Rattle.shunting.specs.Table.{Table}
+use Rattle.moving.specs.Table.{Table}
 use Rattle.solving.specs.Placed.{Placed, Filled, fillFrom, withStandIns}
 
 -- The positions that are vacant or hold a rack above r, as a set.

@@ -26,9 +26,9 @@ use Rattle.motion.proofs.MoveLaws.{onFloor-parts, legal-parts, move-length, mov
 use Rattle.motion.proofs.Lawful.{Leads, replayMoves-ended}
 use Rattle.motion.proofs.Lawful.Lawful.{still, _then_}
 use Rattle.motion.specs.Replay.{ended, replayMoves, listed}
-use Rattle.shunting.specs.Went.{Same, Move, Went}
-use Rattle.shunting.specs.Went.Went.{stay, real, stand-in}
-use Rattle.shunting.proofs.JourneyLaws.{went-written}
+use Rattle.moving.specs.Went.{Same, Move, Went}
+use Rattle.moving.specs.Went.Went.{stay, real, stand-in}
+use Rattle.moving.proofs.JourneyLaws.{went-written}
 
 pub record HeldBy (A : Arrangement) (f : ℕ → ℕ) : Type 0 where
   pub racks : (i : ℕ) → i < length A → f (getD A i 0) ≡ suc i

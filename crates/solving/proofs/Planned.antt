@@ -20,11 +20,11 @@ use Rattle.order.specs.Floor.{Floor, joined}
 use Rattle.motion.specs.Arrangement.{Arrangement}
 use Rattle.motion.specs.Replay.{ended, replayMoves, listed}
 use Rattle.graph.specs.Rows.{row, Edge}
-use Rattle.shunting.specs.Went.{Same}
-use Rattle.shunting.proofs.WentLaws.{went-from, went-to}
-use Rattle.shunting.proofs.BackLaws.{kept, kept-real, kept-stand-in, kept-same, went-kept}
-use Rattle.shunting.specs.declared.State.{State}
-use Rattle.shunting.specs.Journey.{Trip}
+use Rattle.moving.specs.Went.{Same}
+use Rattle.moving.proofs.WentLaws.{went-from, went-to}
+use Rattle.turning.proofs.BackLaws.{kept, kept-real, kept-stand-in, kept-same, went-kept}
+use Rattle.moving.specs.declared.State.{State}
+use Rattle.moving.specs.Journey.{Trip}
 use Rattle.solving.specs.Placed.{Placed, Filled}
 use Rattle.solving.proofs.Held.{HeldBy, went-replayed, went-listed}
 

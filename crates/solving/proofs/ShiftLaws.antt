@@ -17,17 +17,17 @@ use Rattle.graph.specs.Walk.{Symmetric}
 use Rattle.graph.proofs.WalkLaws.{walk-inside}
 use Rattle.graph.specs.Connected.{BiConnected}
 use Rattle.graph.specs.Rows.{row, Edge, Rows}
-use Rattle.shunting.specs.Went.{Went}
-use Rattle.shunting.specs.Went.Went.{stay, real, stand-in}
-use Rattle.shunting.specs.declared.State.{State}
-use Rattle.shunting.specs.Journey.{packedOn, Trip, Journey}
-use Rattle.shunting.specs.Journey.Trail.{start}
-use Rattle.shunting.proofs.JourneyLaws.{journey-append}
+use Rattle.moving.specs.Went.{Went}
+use Rattle.moving.specs.Went.Went.{stay, real, stand-in}
+use Rattle.moving.specs.declared.State.{State}
+use Rattle.moving.specs.Journey.{packedOn, Trip, Journey}
+use Rattle.moving.specs.Journey.Trail.{start}
+use Rattle.moving.proofs.JourneyLaws.{journey-append}
 use Rattle.shunting.specs.Distance.{Reaches, AtMost}
 use Rattle.shunting.proofs.DistanceLaws.{at-most-inside, at-most-more, at-most-without, reaches-back}
 use Rattle.shunting.specs.Cleared.{Cleared}
-use Rattle.shunting.specs.Table.{Table}
-use Rattle.shunting.proofs.TableLaws.{table-went, table-other}
+use Rattle.moving.specs.Table.{Table}
+use Rattle.moving.proofs.TableLaws.{table-went, table-other}
 use Rattle.solving.specs.Shift.{aimed, TwoPositions, Shift}
 
 module _ {n : ℕ} (g : List ℕ) (symmetric : Symmetric (Edge g)) (bi : BiConnected n (Edge g)) {x y : ℕ} (two : TwoPositions n x y) (all : ℕ)

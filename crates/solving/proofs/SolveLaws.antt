@@ -21,15 +21,15 @@ use Rattle.graph.specs.Walk.{Symmetric}
 use Rattle.graph.specs.Rows.{row, Edge, Rows}
 use Rattle.breakdown.specs.Answer.{BreaksDown}
 use Rattle.breakdown.specs.declared.Breakdown.{Breakdown}
-use Rattle.shunting.specs.declared.State.{State}
-use Rattle.shunting.specs.Went.{Same}
-use Rattle.shunting.specs.Went.Back.{done}
-use Rattle.shunting.proofs.WentLaws.{same-refl}
-use Rattle.shunting.proofs.BackLaws.{back-went, back-from}
-use Rattle.shunting.specs.Undone.{Undoing}
-use Rattle.shunting.specs.Journey.{onto, Room, Space, Trip}
-use Rattle.shunting.proofs.JourneyLaws.{trip-append, trip-more, trip-written, real-named}
-use Rattle.shunting.specs.Table.{Table}
+use Rattle.moving.specs.declared.State.{State}
+use Rattle.moving.specs.Went.{Same}
+use Rattle.moving.specs.Went.Back.{done}
+use Rattle.moving.proofs.WentLaws.{same-refl}
+use Rattle.turning.proofs.BackLaws.{back-went, back-from}
+use Rattle.turning.specs.Undone.{Undoing}
+use Rattle.moving.specs.Journey.{onto, Room, Space, Trip}
+use Rattle.moving.proofs.JourneyLaws.{trip-append, trip-more, trip-written, real-named}
+use Rattle.moving.specs.Table.{Table}
 use Rattle.base_ring.specs.declared.Circle.{Circle}
 use Rattle.base_ring.specs.Circle.{place, On, BaseRing, Open, RestSettled}
 use Rattle.base_ring.specs.From.{circleOf}
@@ -37,8 +37,8 @@ use Rattle.base_ring.specs.Moves.{ringMoves}
 use Rattle.base_ring.proofs.RingLaws.{held-open}
 use Rattle.base_ring.proofs.ExchangeLaws.{exchange-most}
 use Rattle.base_ring.proofs.FromLaws.{circle-right, circle-same}
-use Rattle.handles.specs.Lane.{Agreed, Filled}
-use Rattle.handles.proofs.FetchLaws.{place-most}
+use Rattle.lane.specs.Lane.{Agreed, Filled}
+use Rattle.lane.proofs.FetchLaws.{place-most}
 use Rattle.solving.specs.Moves.{shiftMoves, settleMoves, solveMoves}
 use Rattle.solving.specs.Shift.{aimed, TwoPositions, Shift}
 

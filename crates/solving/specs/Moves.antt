@@ -5,7 +5,7 @@
 --     solveMoves n        all: the goal's shift is taken back too
 -- Assumes nothing.
 use Prim.Native.Nat.{ℕ, _+_, _-_, _*_}
-use Rattle.handles.specs.Moves.{placeMoves}
+use Rattle.lane.specs.Moves.{placeMoves}
 use Rattle.base_ring.specs.Moves.{ringMoves}
 
 abbrev pub shiftMoves : ℕ → ℕ

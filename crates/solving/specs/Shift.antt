@@ -12,10 +12,10 @@ use mathlib.Core.List.{List, []}
 use mathlib.Core.Logic.{_≢_}
 use lib.ListN.{length}
 use Rattle.graph.specs.Rows.{row, Edge}
-use Rattle.shunting.specs.Went.{Went}
-use Rattle.shunting.specs.Journey.{onto, Trail}
-use Rattle.shunting.specs.Table.{Table}
-use Rattle.shunting.specs.declared.State.{State}
+use Rattle.moving.specs.Went.{Went}
+use Rattle.moving.specs.Journey.{onto, Trail}
+use Rattle.moving.specs.Table.{Table}
+use Rattle.moving.specs.declared.State.{State}
 use Rattle.solving.specs.Moves.{shiftMoves}
 
 abbrev pub aimed : List ℕ → State

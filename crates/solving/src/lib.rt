@@ -2,17 +2,17 @@
 // to the other in at most 4 × n × n × n moves.
 use base_ring::Circle;
 use breakdown::Breakdown;
-use shunting::Log;
-use shunting::State;
+use moving::Log;
+use moving::State;
 ghost use mathlib.Core.Path.{_≡_};
 ghost use Prim.Native.Nat.{_+_, _-_, _*_, _≤_};
 ghost use lib.ListN.{length};
 ghost use Rattle.graph.specs.Connected.{BiConnected};
 ghost use Rattle.graph.specs.Rows.{row, Edge, Rows};
 ghost use Rattle.breakdown.specs.Answer.{BreaksDown};
-ghost use Rattle.shunting.specs.Went.{Same};
-ghost use Rattle.shunting.specs.Journey.{Room, Space, Trip};
-ghost use Rattle.shunting.specs.Table.{Table};
+ghost use Rattle.moving.specs.Went.{Same};
+ghost use Rattle.moving.specs.Journey.{Room, Space, Trip};
+ghost use Rattle.moving.specs.Table.{Table};
 ghost use Rattle.base_ring.specs.Circle.{Open};
 ghost use Rattle.base_ring.specs.From.{circleOf};
 ghost use Rattle.solving.specs.Shift.{aimed, TwoPositions, Shift};
@@ -114,7 +114,7 @@ pub fn solve(
 {
     let circle = base_ring::circle_of(breakdown, n);
     let at = circle.at;
-    let mut back = [0u16; shunting::LOG];
+    let mut back = [0u16; moving::LOG];
     let shifted = shift_goal(
         rows,
         n,
@@ -127,5 +127,5 @@ pub fn solve(
     let racks = shifted.racks;
     let settled = settle(rows, n, breakdown, circle, &racks, state, tail);
     let logged = shifted.logged;
-    shunting::undo(0, logged, settled, &back, tail)
+    turning::undo(0, logged, settled, &back, tail)
 }

@@ -10,7 +10,7 @@ use native.Mathlib.Omega.{arith}
 use native.Mathlib.Nat.{lt-of-not-le}
 use native.Mathlib.Decide.{decLe}
 use lib.ListN.{length}
-use Rattle.field.proofs.FrontLaws.{whole-is, whole-none}
+use Rattle.recording.proofs.FrontLaws.{whole-is, whole-none}
 use Rattle.field.specs.Units.{recordLength}
 use Rattle.order.specs.RecordLength.{orderLength, wholeOrderLength}
 use Rattle.text.specs.Split.{orderEnd}

@@ -12,7 +12,7 @@ use native.Mathlib.Nat.{sub-zero, add-zero}
 use lib.ListN.{length, getD, drop}
 use lib.Seq.{drop-drop, getD-drop}
 use Rattle.field.specs.Bits.{field}
-use Rattle.field.proofs.FrontLaws.{whole-as, whole-none}
+use Rattle.recording.proofs.FrontLaws.{whole-as, whole-none}
 use Rattle.timetable.specs.Timetable.{stepLength, stepCount}
 use Rattle.timetable.proofs.StepLaws.{stepLength-some}
 use Rattle.timetable.specs.RecordLength.{stepsLength, timetableLength, wholeTimetableLength}

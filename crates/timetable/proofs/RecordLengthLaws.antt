@@ -11,7 +11,7 @@ use borrow.Author.Tests.{ltb-false, le-ltb, eqb-true, eq-eqb, not-false}
 use lib.ListN.{length, getD, drop, length-drop}
 use lib.Seq.{drop-append-le}
 use lib.Dec.{ltb}
-use Rattle.field.proofs.FrontLaws.{field-front, LengthFound, length-found}
+use Rattle.recording.proofs.FrontLaws.{field-front, LengthFound, length-found}
 use Rattle.field.proofs.UnitLaws.{or-left, or-right}
 use Rattle.timetable.specs.Timetable.{stepLength, stepCount, wrongSteps, wrongTimetableLength}
 use Rattle.timetable.proofs.StepLaws.{stepLength-some}

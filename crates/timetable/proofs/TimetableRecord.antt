@@ -25,7 +25,7 @@ use lib.Dec.{ltb, eqb, lit<}
 use Rattle.field.specs.Bits.{bits, bitsOf, field, bytes, toBytes}
 use Rattle.field.proofs.BitLaws.{Bits, below-append, below-take, below-drop, length-bits, length-bitsOf, field-lt, bits-field, field-at}
 use Rattle.field.specs.Bytes.{Bytes, none, BelowPairs}
-use Rattle.field.proofs.HeadLaws.{headBits, headBits-are, length-headBits}
+use Rattle.recording.proofs.HeadLaws.{headBits, headBits-are, length-headBits}
 use Rattle.field.proofs.RecordLaws.{toBytes-are, toBytes-from, pairs-lt}
 use Rattle.field.proofs.UnitLaws.{or-left, or-right}
 use Rattle.field.proofs.WholeBytes.{bitsOf-append, padded-whole, toBytes-whole, length-whole, toBytes-append}

@@ -1,23 +1,10 @@
--- The timetable checker's answers above the reading, on tables, and its verdict as document 01's answer.
+-- The verdict on a timetable as document 01's answer.
 --
---     tableAnswer s e m t v   42 and 43, else accepted with the counts v, where s is the order from its fourth byte on and t the timetable
 --     answerOfCheck r         the verdict r on a timetable, on its structure alone or for an order, as an answer
 -- Assumes nothing.
-use Prim.Native.Nat.{ℕ, _+_, _*_}
-use mathlib.Core.List.{List, [], _∷_}
-use lib.ListN.{replicate}
+use mathlib.Core.List.{[], _∷_}
 use Rattle.answers.specs.Answer.{Answer, accepted, refusedBy}
-use Rattle.field.specs.Bits.{pairs, positions}
-use Rattle.order.specs.Tables.{marked, placed}
-use Rattle.tables.specs.Tables.{judgedOn}
-use Rattle.trains.specs.StepsOn.{replayStepsOn}
-use Rattle.timetable.specs.Timetable.{stepsOf}
 use Rattle.timetable.specs.declared.TimetableVerdict.{TimetableVerdict}
-
-unfoldable pub tableAnswer : List ℕ → ℕ → ℕ → List ℕ → List ℕ → Answer
-tableAnswer s e m t v =
-    judgedOn 43 (positions s (6 * (2 * e + m)) m) v
-    (replayStepsOn (marked (replicate 4096 0) (pairs s 0 e)) (placed (replicate 64 0) 1 (positions s (6 * (2 * e)) m)) (stepsOf t))
 
 abbrev pub answerOfCheck : TimetableVerdict → Answer
 answerOfCheck (TimetableVerdict.Accepted steps moves) = accepted (steps ∷ moves ∷ [])

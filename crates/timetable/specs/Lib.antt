@@ -2,5 +2,3 @@ pub mod Timetable
 pub mod Reading
 pub mod RecordLength
 pub mod Checking
-pub mod Solutions
-pub mod ByteString

@@ -8,7 +8,7 @@
 use Prim.Native.Nat.{ℕ, zero, suc, _+_}
 use mathlib.Core.List.{List}
 use lib.ListN.{getD, drop}
-use Rattle.field.specs.Front.{wholeLength}
+use Rattle.recording.specs.Front.{wholeLength}
 use Rattle.timetable.specs.Timetable.{stepLength, stepCount}
 
 -- "each step is one byte c, then c moves, then pad". Past the end of t a count byte is 0, and such a step one byte: the sum is then more

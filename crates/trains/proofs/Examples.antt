@@ -43,7 +43,7 @@ use Rattle.tables.proofs.TablesLaws.{Holds}
 use Rattle.tables.proofs.TableLaws.{placed-holds}
 use Rattle.tables.proofs.MovesOnLaws.{matrixOf, tableOf}
 use Rattle.tables.specs.Simulation.{Each, each-none, each-more}
-use Rattle.trains.specs.StepOn.{ledOn, soundMoves, allLed, legalStepOn, takenUp, putDown, stepOn, ranOn}
+use Rattle.chains.specs.StepOn.{ledOn, soundMoves, allLed, legalStepOn, takenUp, putDown, stepOn, ranOn}
 use Rattle.trains.specs.StepsOn.{stepFaultOn, replayStepsOn}
 use Rattle.trains.proofs.StepsOnLaws.{steps-judged}
 

@@ -20,8 +20,8 @@ use Rattle.tables.proofs.TablesLaws.{Holds}
 use Rattle.tables.proofs.TableLaws.{held-occupied}
 use Rattle.tables.proofs.MatrixLaws.{matrix-joined, onFloor-joined}
 use Rattle.tables.proofs.MovesOnLaws.{matrixOf}
-use Rattle.trains.specs.StepOn.{ledOn, soundMoves, allLed, legalStepOn}
-use Rattle.trains.proofs.ChainLaws.{led-same}
+use Rattle.chains.specs.StepOn.{ledOn, soundMoves, allLed, legalStepOn}
+use Rattle.chains.proofs.ChainLaws.{led-same}
 
 pub every-same : {X : Type 0} (f g : X → Bool) → ((x : X) → f x ≡ g x) → (l : List X) → every f l ≡ every g l
 unfolding every

@@ -1,9 +1,4 @@
-pub mod Moves
-pub mod Noting
-pub mod Following
 pub mod Running
-pub mod ChainLaws
-pub mod ChainsLaws
 pub mod Examples
 pub mod LegalOn
 pub mod StepHolds

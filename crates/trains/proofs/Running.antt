@@ -23,10 +23,10 @@ use Rattle.motion.proofs.StepTestsLaws.{ascends-iff, every-iff, leaves-iff, goe
 use Rattle.tables.specs.Tables.{edgeAt, heldAt}
 use Rattle.tables.proofs.TableLaws.{passed}
 use Rattle.tables.specs.Simulation.{Each, each-none, each-more}
-use Rattle.trains.specs.StepOn.{soundMoves, allLed, legalStepOn, stepOn, ranOn}
-use Rattle.trains.specs.Chains.{noted, Targets, Taking}
-use Rattle.trains.proofs.ChainLaws.{noted-targets}
-use Rattle.trains.proofs.Noting.{too-many}
+use Rattle.chains.specs.StepOn.{soundMoves, allLed, legalStepOn, stepOn, ranOn}
+use Rattle.chains.specs.Chains.{noted, Targets, Taking}
+use Rattle.chains.proofs.ChainLaws.{noted-targets}
+use Rattle.chains.proofs.Noting.{too-many}
 
 each-member : {X : Type 0} {P : X → Type 0} (l : List X) → ((x : X) → List·Memᴰ x l → P x) → Each P l
 each-member [] f = each-none

@@ -28,7 +28,7 @@ use Rattle.motion.specs.LegalStep.{Train, leader, follows, LegalStep}
 use Rattle.motion.proofs.ListLaws.{by-member, pairwise-rel}
 use Rattle.motion.proofs.Test.{equal?, decided}
 use Rattle.tables.proofs.TablesLaws.{Holds}
-use Rattle.trains.specs.StepOn.{takenUp, putDown, stepOn}
+use Rattle.chains.specs.StepOn.{takenUp, putDown, stepOn}
 
 pub takenUp-length : (h : List ℕ) (ms : List (ℕ × ℕ)) → length (takenUp h ms) ≡ length h
 unfolding takenUp

@@ -32,7 +32,7 @@ use Rattle.tables.proofs.TableLaws.{placed-holds}
 use Rattle.tables.proofs.MovesOnLaws.{matrixOf, tableOf, Kept}
 use Rattle.tables.specs.Simulation.{Each, each-none, each-more}
 use Rattle.tables.proofs.SimulationLaws.{Alike, replay-alike, judged-on}
-use Rattle.trains.specs.StepOn.{stepOn}
+use Rattle.chains.specs.StepOn.{stepOn}
 use Rattle.trains.proofs.LegalOn.{legal-step-on}
 use Rattle.trains.proofs.StepHolds.{step-holds}
 use Rattle.trains.specs.StepsOn.{stepFaultOn, replayStepsOn}

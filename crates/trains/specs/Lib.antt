@@ -1,3 +1,1 @@
-pub mod StepOn
-pub mod Chains
 pub mod StepsOn

@@ -7,7 +7,7 @@ use Prim.Native.Nat.{ℕ}
 use mathlib.Core.Bool.{cond}
 use mathlib.Core.List.{List}
 use Rattle.motion.specs.Replay.{Replayed, replayFrom}
-use Rattle.trains.specs.StepOn.{legalStepOn, stepOn}
+use Rattle.chains.specs.StepOn.{legalStepOn, stepOn}
 
 unfoldable pub stepFaultOn : List ℕ → List ℕ → List (ℕ × ℕ) → ℕ
 stepFaultOn g h ms = cond (legalStepOn g h ms) 0 42

@@ -11,35 +11,60 @@ use std::path::Path;
 
 const C_INTERFACE: &str = "crates/controller/src/lib.rt";
 
-/// The contracts that a C caller or a user of the programs relies on, and demand 3's: every definition that these files
+/// Where a promise comes from: document 01, or a request of document 02 by its letter.
+pub const SOURCES: [&str; 10] = ["document 01", "(a)", "(d)", "(e)", "(g)", "(h)", "(k)", "(l)", "(m)", "(n)"];
+
+/// The functions of the C interface, each with its source.
+const FUNCTIONS: &[(&str, &str)] = &[
+    ("document 01", "wichteab_order_check"),
+    ("document 01", "wichteab_floor_check"),
+    ("document 01", "wichteab_plan_make"),
+    ("document 01", "wichteab_plan_check"),
+    ("document 01", "wichteab_timetable_check"),
+    ("document 01", "wichteab_timetable_make"),
+    ("document 01", "wichteab_timetable_step"),
+    ("document 01", "wichteab_order_length"),
+    ("document 01", "wichteab_timetable_length"),
+    ("(a)", "wichteab_order_expand"),
+    ("(e)", "wichteab_plan_shorten"),
+    ("(h)", "wichteab_plan_convert"),
+    ("(k)", "wichteab_floor_open"),
+    ("(k)", "wichteab_floor_read"),
+    ("(k)", "wichteab_floor_run"),
+    ("(k)", "wichteab_floor_take_back"),
+    ("(l)", "wichteab_season_report"),
+    ("(m)", "wichteab_dearest_carry"),
+    ("(n)", "wichteab_one_vacancy"),
+];
+
+/// The other contracts that somebody relies on, demand 3's and those of the programs: every definition that these files
 /// cite. Of the timetable program's crate and of the season program's it is the program's own contract.
-const CONTRACTS: [(&str, &[&str]); 6] = [
-    (C_INTERFACE, &[]),
-    ("crates/delivery/src/lib.rt", &[]),
-    ("crates/order_program/src/lib.rt", &[]),
-    ("crates/plan_program/src/lib.rt", &[]),
-    ("crates/text/src/lib.rt", &["programText", "Wrote"]),
-    ("crates/season_program/src/lib.rt", &["seasonText", "Wrote"]),
+const CONTRACTS: &[(&str, &str, &[&str])] = &[
+    ("document 01", "crates/delivery/src/lib.rt", &[]),
+    ("document 01", "crates/plan_program/src/lib.rt", &[]),
+    ("document 01", "crates/text/src/lib.rt", &["programText", "Wrote"]),
+    ("(a)", "crates/order_program/src/lib.rt", &[]),
+    ("(l)", "crates/season_program/src/lib.rt", &["seasonText", "Wrote"]),
 ];
 
 /// The records that the main theorems state; of a file without names, all of it.
-const THEOREMS: &[(&str, &[&str])] = &[
-    ("crates/order/specs/Theorems.antt", &[]),
-    ("crates/models/specs/Theorems.antt", &[]),
-    ("crates/parity/specs/Theorems.antt", &[]),
-    ("crates/plan/specs/Solutions.antt", &[]),
-    ("crates/timetable/specs/Solutions.antt", &[]),
-    ("crates/motion/specs/LegalStep.antt", &[]),
-    ("crates/floor/specs/Plannable.antt", &[]),
-    ("crates/scheduling/specs/Maker.antt", &["Timetabled"]),
-    ("crates/optimality/specs/Shortest.antt", &[]),
-    ("crates/planner/specs/Rings.antt", &[]),
-    ("crates/shortening/specs/Theorems.antt", &[]),
-    ("crates/converting/specs/Theorems.antt", &[]),
-    ("crates/live/specs/Picture.antt", &["LegalHere"]),
-    ("crates/live/specs/Theorems.antt", &[]),
-    ("crates/season/specs/Theorems.antt", &[]),
-    ("crates/carry/specs/Theorems.antt", &[]),
+const THEOREMS: &[(&str, &str, &[&str])] = &[
+    ("document 01", "crates/order/specs/Theorems.antt", &[]),
+    ("document 01", "crates/plan_check/specs/Solutions.antt", &[]),
+    ("document 01", "crates/timetable_check/specs/Solutions.antt", &[]),
+    ("document 01", "crates/motion/specs/LegalStep.antt", &[]),
+    ("document 01", "crates/floor/specs/Plannable.antt", &[]),
+    ("document 01", "crates/scheduling/specs/Maker.antt", &["Timetabled"]),
+    ("(a)", "crates/models/specs/Theorems.antt", &[]),
+    ("(d)", "crates/planner/specs/Rings.antt", &[]),
+    ("(e)", "crates/shortening/specs/Theorems.antt", &[]),
+    ("(g)", "crates/optimality/specs/Shortest.antt", &[]),
+    ("(h)", "crates/converting/specs/Theorems.antt", &[]),
+    ("(k)", "crates/live/specs/Picture.antt", &["LegalHere"]),
+    ("(k)", "crates/live/specs/Theorems.antt", &[]),
+    ("(l)", "crates/season/specs/Theorems.antt", &[]),
+    ("(m)", "crates/carry/specs/Theorems.antt", &[]),
+    ("(n)", "crates/parity/specs/Theorems.antt", &[]),
 ];
 
 /// A decision carries the proof that it decides: what it decides stands in its type, and nobody has to believe the rest.
@@ -61,16 +86,26 @@ pub struct Believed {
 }
 
 impl Believed {
+    /// What all the promises rest on.
     pub fn of(repository: &Path) -> Believed {
+        Believed::of_sources(repository, &SOURCES)
+    }
+
+    /// What the promises of some sources rest on.
+    pub fn of_sources(repository: &Path, sources: &[&str]) -> Believed {
         let modules = read_modules(repository);
         let mut wanted: Vec<(String, String)> = Vec::new();
-        for (file, names) in CONTRACTS {
+        let mut exported = source::exported(&read(&repository.join(C_INTERFACE)));
+        assert_eq!(exported.len(), FUNCTIONS.len(), "every function of the C interface has a source");
+        exported.retain(|(name, _)| FUNCTIONS.iter().any(|(from, known)| known == name && sources.contains(from)));
+        wanted.extend(exported.into_iter().flat_map(|(_, cited)| cited));
+        for &(_, file, names) in CONTRACTS.iter().filter(|(from, _, _)| sources.contains(from)) {
             let cited = source::cited(&read(&repository.join(file)));
             wanted.extend(
                 cited.into_iter().filter(|(_, name)| names.is_empty() || names.contains(&name.as_str())),
             );
         }
-        for &(file, names) in THEOREMS {
+        for &(_, file, names) in THEOREMS.iter().filter(|(from, _, _)| sources.contains(from)) {
             let all = modules[file].blocks.iter().map(|block| block.name.as_str());
             let names: Vec<&str> = if names.is_empty() { all.collect() } else { names.to_vec() };
             wanted.extend(names.iter().map(|name| (file.to_string(), name.to_string())));

@@ -67,8 +67,8 @@ pub fn print_shortest() {
         let mut order = || orders::order_on(&mut random, &floor, floor.n - 2).record();
         let orders: Vec<Vec<u8>> = (0..100).map(|_| order()).collect();
         let made = mean_length(&orders, planned);
-        let least =
-            orders.iter().map(|order| fewest_moves(order)).sum::<usize>() as f64 / orders.len() as f64;
+        let least = by_shares(&orders, |share| share.iter().map(|order| fewest_moves(order)).sum::<usize>());
+        let least = least.iter().sum::<usize>() as f64 / orders.len() as f64;
         println!(
             "{rows} by {columns}      2 {:>7} | {:>6.1} {least:>6.1} {:>6.2}",
             orders.len(),
@@ -213,19 +213,24 @@ impl std::fmt::Display for Length {
 /// The mean length of the plans that are made for the orders. The checker has to accept them. The orders are shared out
 /// among the cores; an order's seconds are those on its own core.
 fn mean_length(orders: &[Vec<u8>], plan: impl Fn(&[u8]) -> Vec<u8> + Sync) -> Length {
-    let cores = thread::available_parallelism().map_or(1, usize::from);
-    let shares = orders.chunks(orders.len().div_ceil(cores));
-    let plan = &plan;
-    let sums: Vec<(u32, u32, f64)> = thread::scope(|scope| {
-        let running: Vec<_> = shares.map(|share| scope.spawn(move || total_length(share, plan))).collect();
-        running.into_iter().map(|share| share.join().expect("every plan is accepted")).collect()
-    });
+    let sums: Vec<(u32, u32, f64)> = by_shares(orders, |share| total_length(share, &plan));
     let mean = |sum: f64| sum / orders.len() as f64;
     Length {
         moves: mean(sums.iter().map(|sum| f64::from(sum.0)).sum()),
         steps: mean(sums.iter().map(|sum| f64::from(sum.1)).sum()),
         seconds: mean(sums.iter().map(|sum| sum.2).sum()),
     }
+}
+
+/// What comes of the orders, a share of them on each core.
+fn by_shares<T: Send>(orders: &[Vec<u8>], work: impl Fn(&[Vec<u8>]) -> T + Sync) -> Vec<T> {
+    let cores = thread::available_parallelism().map_or(1, usize::from);
+    let shares = orders.chunks(orders.len().div_ceil(cores));
+    let work = &work;
+    thread::scope(|scope| {
+        let running: Vec<_> = shares.map(|share| scope.spawn(move || work(share))).collect();
+        running.into_iter().map(|share| share.join().expect("every plan is accepted")).collect()
+    })
 }
 
 /// The moves and the steps of the orders' plans, and the seconds that it took to plan, check and timetable them.

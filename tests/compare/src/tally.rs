@@ -41,6 +41,13 @@ impl Tally {
         self.met[(second & 0xFF) as usize] += 1;
     }
 
+    /// Counts another tally's cases too.
+    pub fn add(&mut self, other: &Tally) {
+        for (met, also) in self.met.iter_mut().zip(&other.met) {
+            *met += also;
+        }
+    }
+
     /// The number of cases so far.
     pub fn cases(&self) -> u64 {
         self.met.iter().sum()

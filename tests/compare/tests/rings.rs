@@ -72,14 +72,29 @@ fn record(floor: &Floor, starts: &[u8], goals: &[u8]) -> Vec<u8> {
     Order { n: floor.n, edges: floor.edges.clone(), starts, goals, spare: 0, pad: 0 }.record()
 }
 
-/// Every order of m racks on a ring: what is refused is refused with the number that the search gives, and leaves the
-/// buffer alone; every plan is judged.
+/// Every order of m racks on a ring, from half of its starts on each of two threads.
 fn judge_every_order(tally: &mut Tally, floor: &Floor, m: usize) {
     let all = arrangements(floor.n, m);
+    let (some, others) = all.split_at(all.len() / 2);
+    std::thread::scope(|scope| {
+        let aside = scope.spawn(|| {
+            let mut tally = Tally::new("rings, every order from half of the starts");
+            judge_every_goal(&mut tally, floor, some, &all);
+            tally
+        });
+        judge_every_goal(tally, floor, others, &all);
+        tally.add(&aside.join().expect("no order failed"));
+    });
+}
+
+/// Every order from some starts to any goals on a ring: what is refused is refused with the number that the search
+/// gives, and leaves the buffer alone; every plan is judged.
+fn judge_every_goal(tally: &mut Tally, floor: &Floor, some: &[Vec<u8>], all: &[Vec<u8>]) {
+    let m = all[0].len();
     let nowhere = vec![0; m];
     let to: Vec<Vec<u8>> = all.iter().map(|goals| record(floor, &nowhere, goals)).collect();
     let (mut buffer, mut untouched) = (vec![0x55; enough(floor.n)], vec![0x55; enough(floor.n)]);
-    for starts in &all {
+    for starts in some {
         let ways = reached(floor, starts);
         let from = record(floor, starts, &nowhere);
         for (goals, to) in all.iter().zip(&to) {

@@ -6,12 +6,12 @@ use native.Mathlib.Omega.{arith}
 use borrow.Author.Needs.{needs}
 use Rattle.sets.specs.Sets.{Has}
 use Rattle.graph.specs.Rows.{row}
-use Rattle.shunting.specs.Journey.{Journey}
+use Rattle.moving.specs.Journey.{Journey}
 use Rattle.shunting.specs.Cleared.{RoomToBring}
 use Rattle.shunting.proofs.BringLaws.{brought-few}
-use Rattle.shunting.specs.Table.{Table}
-use Rattle.shunting.proofs.JourneyLaws.{journey-append, fits-less, fits-then}
-use Rattle.shunting.proofs.TableLaws.{table-went}
+use Rattle.moving.specs.Table.{Table}
+use Rattle.moving.proofs.JourneyLaws.{journey-append, fits-less, fits-then}
+use Rattle.moving.proofs.TableLaws.{table-went}
 use Rattle.base_ring.proofs.RingLaws.{circle-below, circle-places, ring-below, ring-robust, ring-few}
 use Rattle.base_ring.proofs.ExchangeLaws.{aside-movable, aside-on, aside-bringable, aside-again, aside-done}
 use Rattle.base_ring.proofs.bring_aside.Statement.{statement}

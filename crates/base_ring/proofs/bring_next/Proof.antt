@@ -5,10 +5,10 @@ use native.Mathlib.Omega.{arith}
 use borrow.Author.Needs.{needs}
 use Rattle.sets.specs.Sets.{Has}
 use Rattle.shunting.specs.Cleared.{RoomToBring}
-use Rattle.shunting.proofs.JourneyLaws.{journey-append, fits-less, fits-then}
+use Rattle.moving.proofs.JourneyLaws.{journey-append, fits-less, fits-then}
 use Rattle.shunting.proofs.ClearLaws.{clear-room, clear-few}
 use Rattle.shunting.proofs.BringLaws.{brought-few}
-use Rattle.shunting.proofs.TableLaws.{table-went}
+use Rattle.moving.proofs.TableLaws.{table-went}
 use Rattle.base_ring.proofs.RingLaws.{circle-below, circle-small, circle-places, held-same, ring-below, ring-robust}
 use Rattle.base_ring.proofs.RingLaws.{ring-few, ring-few-without, ring-few-last, ring-reaches-without, ring-reaches-last}
 use Rattle.base_ring.proofs.ExchangeLaws.{next-bringable, next-outside, next-held-still, next-outside-still, next-done}

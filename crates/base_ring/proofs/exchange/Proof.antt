@@ -5,10 +5,10 @@ use mathlib.Core.List.{List}
 use native.Mathlib.Omega.{arith}
 use borrow.Author.Needs.{needs}
 use Rattle.graph.specs.Rows.{row}
-use Rattle.shunting.specs.Journey.{relogged, Fits}
-use Rattle.shunting.specs.Table.{Table}
-use Rattle.shunting.proofs.JourneyLaws.{journey-append, fits-then}
-use Rattle.shunting.proofs.TableLaws.{table-went}
+use Rattle.moving.specs.Journey.{relogged, Fits}
+use Rattle.moving.specs.Table.{Table}
+use Rattle.moving.proofs.JourneyLaws.{journey-append, fits-then}
+use Rattle.moving.proofs.TableLaws.{table-went}
 use Rattle.base_ring.specs.Circle.{OnRing}
 use Rattle.base_ring.specs.Moves.{asideMoves, nextMoves}
 use Rattle.base_ring.proofs.ExchangeLaws.{aside-rest, rack-on, exchange-swappable, exchange-fits, Swapping, exchange-made}

@@ -3,9 +3,9 @@
 use mathlib.Core.Path.{_∙_}
 use native.Mathlib.Omega.{arith}
 use borrow.Author.Needs.{needs}
-use Rattle.shunting.proofs.JourneyLaws.{trip-append, trip-anew, fits-then, fits-anew}
+use Rattle.moving.proofs.JourneyLaws.{trip-append, trip-anew, fits-then, fits-anew}
 use Rattle.shunting.proofs.ClearLaws.{clear-room, clear-few}
-use Rattle.shunting.proofs.TableLaws.{table-went}
+use Rattle.moving.proofs.TableLaws.{table-went}
 use Rattle.base_ring.specs.Moves.{openMoves}
 use Rattle.base_ring.proofs.RingLaws.{circle-small, circle-places, ring-below, ring-few, ring-few-without}
 use Rattle.base_ring.proofs.RingLaws.{ring-reaches, ring-reaches-without}

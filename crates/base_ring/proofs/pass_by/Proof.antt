@@ -2,7 +2,7 @@
 -- Assumes nothing.
 use mathlib.Core.Path.{sym, _∙_}
 use borrow.Author.Needs.{needs}
-use Rattle.shunting.proofs.JourneyLaws.{journey-append, fits-move}
+use Rattle.moving.proofs.JourneyLaws.{journey-append, fits-move}
 use Rattle.base_ring.proofs.MoveLaws.{passed-by}
 use Rattle.base_ring.proofs.pass_by.Statement.{statement}
 use Rattle.base_ring.proofs.pass_by.Tie as tie

@@ -3,8 +3,8 @@
 use mathlib.Core.Path.{refl}
 use native.Mathlib.Omega.{arith}
 use borrow.Author.Needs.{needs}
-use Rattle.shunting.proofs.JourneyLaws.{trip-none, trip-more}
-use Rattle.shunting.proofs.TableLaws.{table-went}
+use Rattle.moving.proofs.JourneyLaws.{trip-none, trip-more}
+use Rattle.moving.proofs.TableLaws.{table-went}
 use Rattle.base_ring.proofs.SettleLaws.{place-goal, place-held, place-same, place-done}
 use Rattle.base_ring.proofs.settle_place.Statement.{statement}
 use Rattle.base_ring.proofs.settle_place.Tie as tie

@@ -5,7 +5,7 @@ use mathlib.Core.Path.{_∙_}
 use native.Mathlib.Omega.{arith}
 use lib.ListN.{length-replicate}
 use Rattle.graph.specs.Rows.{row}
-use Rattle.shunting.proofs.JourneyLaws.{trip-append, space-room, space-then, space-less}
+use Rattle.moving.proofs.JourneyLaws.{trip-append, space-room, space-then, space-less}
 use Rattle.base_ring.specs.Moves.{exchangeMoves}
 use Rattle.base_ring.proofs.SettleLaws.{Settling, settling-begin, settling-room, settling-next, settling-end}
 use Rattle.base_ring.proofs.settle_ring.Statement.{statement}

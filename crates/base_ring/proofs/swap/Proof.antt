@@ -1,7 +1,7 @@
 -- `base_ring::swap` meets its contract.
 -- Assumes nothing.
 use borrow.Author.Needs.{needs}
-use Rattle.shunting.proofs.JourneyLaws.{journey-append, fits-less}
+use Rattle.moving.proofs.JourneyLaws.{journey-append, fits-less}
 use native.Mathlib.Omega.{arith}
 use Rattle.base_ring.proofs.MoveLaws.{swap-first, swap-second, swap-third, swap-done, fits-by}
 use Rattle.base_ring.proofs.swap.Statement.{statement}

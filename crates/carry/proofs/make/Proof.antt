@@ -20,8 +20,9 @@ use Rattle.carry.proofs.Making.{Found, way-nearest, places-below, moves
 use Rattle.carry.proofs.make.Statement.{statement}
 use Rattle.carry.proofs.make.Tie as tie
 
+-- the entry, before the rows and the racks' tables are lent to the order reader
 abbrev start : tie.After-decode → tie.Start
-start c = c .before .before .before .before .before .before
+start called = let rows-lent = called .before .before .before in rows-lent .before .before .before
 
 -- the order reader accepted
 module _ (c : tie.After-known-told) where
@@ -62,8 +63,11 @@ module _ (c : tie.Else1) where
 
 -- the dearest pair is found, and a way between its positions
 module _ (c : tie.After-search) where
+  abbrev all : tie.After-below2
+  all = c .before .before
+
   abbrev pair : tie.After-dearest
-  pair = c .before .before .before .before
+  pair = all .before .before
 
   abbrev fits : tie.Else2
   fits = pair .before .before
@@ -81,8 +85,8 @@ module _ (c : tie.After-search) where
         room = fits .if2 .left;
         dear = pair .dearest .ensures;
         size = c .search .result .size;
-        way = way-nearest (counts k .positions) (c .before .before .below2 .result) (c .before .only .result) _ _ _ (g k)
-            (c .search .result .at) (c .before .before .below2 .ensures) (c .before .only .ensures) (c .search .ensures);
+        way = way-nearest (counts k .positions) (all .below2 .result) (c .before .only .result) _ _ _ (g k)
+            (c .search .result .at) (all .below2 .ensures) (c .before .only .ensures) (c .search .ensures);
       }
 
 returns : tie.Need-returns
@@ -126,7 +130,7 @@ dearest-requires c κs =
     (omega (arith, some-there e), rows-right (at e), whole e)
 
 below-requires : tie.Need-below-requires
-below-requires c κs = few-there (c .before .before .before .before)
+below-requires c κs = let found = c .before in few-there (found .before .before .before)
 
 only-requires : tie.Need-only-requires
 only-requires c κs =
@@ -142,14 +146,19 @@ search-requires c κs =
 list-way-requires : tie.Need-list-way-requires
 list-way-requires c κs = let f = found (c .before .before .before) in (places-below f, moves-room f)
 
+-- the search for the way that is listed
+abbrev searching : tie.After-list-way → tie.After-search
+searching listed = let lent = listed .before in lent .before .before .before
+
 put-head-requires : tie.Need-put-head-requires
-put-head-requires c κs = part-back (found (c .before .before .before .before .before .before .before)) _
+put-head-requires c κs = let listed = c .before .before .before in part-back (found (searching listed)) _
 
 returns-4 : tie.Need-returns-4
 returns-4 c =
     let put = c .before .before in
-    let listed = put .before .before .before .before in
-    carry-made (found (listed .before .before .before .before)) (listed .list-way .ensures) (put .put-head .ensures)
+    let given-back = put .before .before in
+    let listed = given-back .before .before in
+    carry-made (found (searching listed)) (listed .list-way .ensures) (put .put-head .ensures)
 
 pub make-spec : {M : Type 1} → statement M
 make-spec =

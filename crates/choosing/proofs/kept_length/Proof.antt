@@ -2,7 +2,7 @@
 use Prim.Native.Nat.{_<_}
 use native.Mathlib.Omega.{arith}
 use borrow.Author.Needs.{needs}
-use Rattle.choosing.proofs.Improving.{positions-below, cubes}
+use Rattle.comparing.proofs.Improving.{positions-below, cubes}
 use Rattle.choosing.proofs.kept_length.Statement.{statement}
 use Rattle.choosing.proofs.kept_length.Tie as tie
 

@@ -9,9 +9,6 @@ use Rattle.circling.specs.Needs.{Aimed}
 use Rattle.circling.proofs.NeedsLaws.{aimed-at}
 use Rattle.circling.proofs.aim.Statement.{statement}
 use Rattle.circling.proofs.aim.Tie as tie
-use Rattle.circling.proofs.aim.Reads as reads
-use Rattle.circling.proofs.aim.Lts as lts
-use Rattle.circling.proofs.cost.Reads as cost-reads
 
 abbrev Inv-loop : tie.InvT-loop
 Inv-loop n m from p g to₀ best₀ least₀ lap₀ to best least lap =
@@ -25,6 +22,10 @@ at-first j n = omega arith
 
 up : (n lap : ℕ) → 0 < lap → n * (lap - 1) + n ≡ n * lap
 up n lap some = sym (mul-suc n (lap - 1)) ∙ ap (λ (x : ℕ). n * x) (omega arith)
+
+-- the entry, behind the cost of the first number and its reading
+abbrev entry : tie.At-loop Inv-loop μ-loop → tie.Start Inv-loop μ-loop
+entry at-loop = at-loop .before .before .before
 
 first-aim : (e : tie.Start Inv-loop μ-loop)
     → Aimed (e .args .n) (e .args .from) (row (e .args .g .now) 1) (row (e .args .g .now) 1)
@@ -40,12 +41,12 @@ next-aim e lap some few =
     (e .pre .1 .0 .0)
     (e .pre .1 .0 .1) (e .pre .1 .1 .0) (omega arith) (omega arith)
 
-next-is-aimed : (c : lts.In-loop (cost-reads.Asked, cost-reads.Learnt) reads.Pre reads.Post Inv-loop μ-loop)
-    → Aimed (c .before .before .before .before .args .n) (c .before .before .before .before .args .from)
-    (row (c .before .before .before .before .args .g .now) 1) (c .before .loop .to + c .before .before .before .before .args .n)
+next-is-aimed : (c : tie.In-loop Inv-loop μ-loop)
+    → Aimed (entry (c .before) .args .n) (entry (c .before) .args .from) (row (entry (c .before) .args .g .now) 1)
+    (c .before .loop .to + entry (c .before) .args .n)
 next-is-aimed c =
     let at-loop = c .before in
-    let e = at-loop .before .before .before in
+    let e = entry at-loop in
     let l = at-loop .loop in
     subst (Aimed (e .args .n) (e .args .from) (row (e .args .g .now) 1))
     (let w = l .inv .2 in let u = up (e .args .n) (l .lap) (l .inv .0) in omega arith)
@@ -67,7 +68,7 @@ loop-holds c =
 add-to : tie.Need-add-to Inv-loop μ-loop
 add-to c =
     let at-loop = c .before in
-    let e = at-loop .before .before .before in
+    let e = entry at-loop in
     let l = next-aim e (at-loop .loop .lap) (at-loop .loop .inv .0) (c .loop-test .taken) .there .second in
     let w = at-loop .loop .inv .2 in
     let u = up (e .args .n) (at-loop .loop .lap) (at-loop .loop .inv .0) in
@@ -76,14 +77,14 @@ add-to c =
 cost-requires-2 : tie.Need-cost-requires-2 Inv-loop μ-loop
 cost-requires-2 c κs =
     let at-loop = c .before in
-    let e = at-loop .before .before .before in
+    let e = entry at-loop in
     (e .pre .0, (next-is-aimed c .there, e .pre .1 .1 .1))
 
 loop-again : tie.Need-loop-again Inv-loop μ-loop
 loop-again c =
     let in-loop = c .before .before in
     let at-loop = in-loop .before in
-    let e = at-loop .before .before .before in
+    let e = entry at-loop in
     let l = at-loop .loop in (
       omega arith,
       omega arith,

@@ -12,6 +12,10 @@ Inv-loop n m from p to g sum₀ r₀ sum r = (0 < r) × (r ≤ m + 1) × (sum �
 abbrev μ-loop : tie.MeasureT-loop
 μ-loop n m from p to g sum₀ r₀ sum r = m + 1 - r
 
+-- the entry, behind a turn in which both numbers of a rack were read
+abbrev entry : tie.After-reach2 Inv-loop μ-loop → tie.Start Inv-loop μ-loop
+entry second = let first = second .before in first .before .before .before
+
 loop-holds : tie.Need-loop-holds Inv-loop μ-loop
 loop-holds c = (omega arith, omega arith, omega arith)
 
@@ -31,24 +35,24 @@ reach-requires-2 c κs =
 add-sum : tie.Need-add-sum Inv-loop μ-loop
 add-sum c =
     let second = c .before in
-    let e = second .before .before .before .before in
+    let e = entry second in
     omega (arith, e .pre .0, e .pre .1 .0 .second, second .reach2 .ensures .lap)
 
 add-sum-2 : tie.Need-add-sum-2 Inv-loop μ-loop
 add-sum-2 c =
     let second = c .before in
     let first = second .before in
-    let e = first .before .before .before in
+    let e = entry second in
     omega (arith, e .pre .0, e .pre .1 .0 .first, first .reach .ensures .lap)
 
 add-r : tie.Need-add-r Inv-loop μ-loop
-add-r c = let e = c .before .before .before .before .before in omega (arith, e .pre .0)
+add-r c = omega (arith, entry (c .before) .pre .0)
 
 loop-again : tie.Need-loop-again Inv-loop μ-loop
 loop-again c =
     let second = c .before in
     let first = second .before in
-    let e = first .before .before .before in
+    let e = entry second in
     let x : first .reach .result ≤ 384 = omega (arith, e .pre .0, e .pre .1 .0 .first, first .reach .ensures .lap) in
     let y : second .reach2 .result ≤ 384 = omega (arith, e .pre .0, e .pre .1 .0 .second, second .reach2 .ensures .lap) in
     (omega arith, omega arith, ⊎-elim (λ w. omega (arith, w .1)) (λ w. omega (arith, w .1)) (c .if1 .came))

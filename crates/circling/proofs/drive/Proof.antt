@@ -6,8 +6,8 @@ use lib.ListN.{set}
 use Rattle.ring.specs.Circle.{next}
 use Rattle.graph.specs.Rows.{row}
 use Rattle.ring.proofs.CircleLaws.{next-below}
-use Rattle.shunting.specs.Journey.{unlogged}
-use Rattle.shunting.proofs.JourneyLaws.{space-less}
+use Rattle.moving.specs.Journey.{unlogged}
+use Rattle.moving.proofs.JourneyLaws.{space-less}
 use Rattle.circling.specs.Lands.{total}
 use Rattle.circling.specs.Drive.{Circled, Ready}
 use Rattle.circling.proofs.DriveLaws.{Driving, driving-first, driving-small, driving-space, driving-movable, driving-rack}
@@ -28,7 +28,7 @@ abbrev Turn : Type 0
 Turn = tie.Else1 Inv-loop μ-loop
 
 abbrev at : Turn → tie.At-loop Inv-loop μ-loop
-at turn = turn .before .before .before .before
+at turn = let found = turn .before in found .before .before .before
 
 abbrev entry : Turn → tie.Start Inv-loop μ-loop
 entry turn = at turn .before .before
@@ -49,6 +49,10 @@ ready : (turn : Turn) → Ready (entry turn .args .n) (row (entry turn .args .ci
     (at turn .loop .racks)) (place turn)
 ready turn = turn .before .find .ensures .ready (turn .if1 .left)
 
+-- the turn in which the rack to drive was read
+abbrev turn-of : tie.After-rack Inv-loop μ-loop → Turn
+turn-of read = let asked = read .before .before in asked .before .before
+
 b-small : (c : tie.After-next Inv-loop μ-loop) → row (entry (c .before .before) .args .circle .now)
     (c .next .result) < 64
 b-small c =
@@ -56,10 +60,10 @@ b-small c =
     subst (λ (x : ℕ). row (entry turn .args .circle .now) x < 64) (sym (c .next .ensures))
     (driving-movable (state turn) (circled turn) _ (turn .if1 .left) (ready turn) .enters)
 
-rack-small : (c : tie.After-rack Inv-loop μ-loop) → row (at (c .before .before .before .before) .loop .racks) (row (entry
-    (c .before .before .before .before) .args .circle .now) (place (c .before .before .before .before))) < 64
+rack-small : (c : tie.After-rack Inv-loop μ-loop)
+    → row (at (turn-of c) .loop .racks) (row (entry (turn-of c) .args .circle .now) (place (turn-of c))) < 64
 rack-small c =
-    let turn = c .before .before .before .before in
+    let turn = turn-of c in
     driving-rack (state turn) (circled turn) (place turn) (turn .if1 .left) (ready turn)
 
 loop-holds : tie.Need-loop-holds Inv-loop μ-loop
@@ -73,7 +77,8 @@ find-requires c κs =
 
 same-length : tie.Need-same-length Inv-loop μ-loop
 same-length c =
-    let at-loop = c .before .before .before .before in
+    let found = c .before in
+    let at-loop = found .before .before .before in
     let e = at-loop .before .before in
     at-loop .loop .inv .trip (e .pre .0 .0) (e .pre .0 .1) .tail
 
@@ -86,7 +91,7 @@ returns c =
     driving-last (at-loop .loop .inv) (e .pre .0) (f .none (let m = f .most in omega arith))
 
 element-copy-out-a : tie.Need-element-copy-out-a Inv-loop μ-loop
-element-copy-out-a c = let at-loop = c .before .before .before .before in let few = at-loop .before .before .pre .1 .0 .few in omega arith
+element-copy-out-a c = let few = entry c .pre .1 .0 .few in omega arith
 
 cast-a : tie.Need-cast-a Inv-loop μ-loop
 cast-a c = let w = driving-movable (state (c .before)) (circled (c .before)) _ (omega arith) (ready (c .before)) .leaves in omega arith
@@ -114,7 +119,7 @@ array-read-need : tie.Need-array-read-need Inv-loop μ-loop
 array-read-need c = rack-small c
 
 sub-need : tie.Need-sub-need Inv-loop μ-loop
-sub-need c = let turn = c .before .before .before .before in let w = ready turn .needs in omega arith
+sub-need c = let w = ready (turn-of c) .needs in omega arith
 
 mul-need-2 : tie.Need-mul-need-2 Inv-loop μ-loop
 mul-need-2 c = let w = rack-small c in omega arith
@@ -125,7 +130,7 @@ array-write-need c = rack-small c
 move-rack-requires : tie.Need-move-rack-requires Inv-loop μ-loop
 move-rack-requires c κs =
     let held = c .before .before in
-    let turn = held .before .before .before .before in
+    let turn = turn-of held in
     let movable = driving-movable (state turn) (circled turn) _ (omega arith) (ready turn) in (
       (movable .leaves, b-small (held .before .before), movable .held),
       space-less 1 (driving-more (state turn) (circled turn) (place turn) (omega arith) (ready turn))
@@ -134,8 +139,9 @@ move-rack-requires c κs =
 
 loop-less : tie.Need-loop-less Inv-loop μ-loop
 loop-less c =
-    let held = c .before .before .before .before .before in
-    let turn = held .before .before .before .before in
+    let moved = c .before .before in
+    let held = moved .before .before .before in
+    let turn = turn-of held in
     driving-less (state turn) (circled turn) (place turn) (omega arith) (ready turn)
 
 loop-again : tie.Need-loop-again Inv-loop μ-loop

@@ -19,6 +19,13 @@ Inv-loop circle n need racks i₀ i = (i ≤ n) × Tried n (row circle) (row nee
 abbrev μ-loop : tie.MeasureT-loop
 μ-loop circle n need racks i₀ i = n - i
 
+-- In a turn: behind the rack that was read the next place on the circle was asked for, and behind that the turn began.
+abbrev asked : tie.After-rack Inv-loop μ-loop → tie.After-next Inv-loop μ-loop
+asked read = read .before .before
+
+abbrev begun : tie.After-next Inv-loop μ-loop → tie.At-loop Inv-loop μ-loop
+begun after-next = after-next .before .before .before
+
 loop-holds : tie.Need-loop-holds Inv-loop μ-loop
 loop-holds c = (omega arith, tried-none _ _ _ _)
 
@@ -31,53 +38,55 @@ cast-a c = let at-loop = c .before .before in let e = at-loop .before in
 
 element-copy-out-b : tie.Need-element-copy-out-b Inv-loop μ-loop
 element-copy-out-b c =
-    let at-loop = c .before .before .before in
+    let at-loop = begun c in
     let e = at-loop .before in
     omega (arith, e .pre .0, c .next .ensures, next-below (e .args .n) (at-loop .loop .i) (omega arith))
 
 cast-b : tie.Need-cast-b Inv-loop μ-loop
 cast-b c =
-    let at-loop = c .before .before .before .before in
+    let after-next = c .before in
+    let at-loop = begun after-next in
     let e = at-loop .before in
     omega (
       arith,
       e .pre .0,
-      e .pre .1 .0 (c .before .next .result)
-          (omega (arith, c .before .next .ensures, next-below (e .args .n) (at-loop .loop .i) (omega arith))),
+      e .pre .1 .0 (after-next .next .result)
+          (omega (arith, after-next .next .ensures, next-below (e .args .n) (at-loop .loop .i) (omega arith))),
     )
 
 element-copy-out-rack : tie.Need-element-copy-out-rack Inv-loop μ-loop
-element-copy-out-rack c = let at-loop = c .before .before .before .before in let e = at-loop .before in
+element-copy-out-rack c = let at-loop = begun (c .before) in let e = at-loop .before in
     omega (arith, e .pre .0, e .pre .1 .0 (at-loop .loop .i) (omega arith))
 
 cast-rack : tie.Need-cast-rack Inv-loop μ-loop
-cast-rack c = let at-loop = c .before .before .before .before .before in let e = at-loop .before in
+cast-rack c = let at-loop = begun (asked c) in let e = at-loop .before in
     omega (arith, e .pre .1 .1 (at-loop .loop .i) (omega arith))
 
 element-copy-out-if1 : tie.Need-element-copy-out-if1 Inv-loop μ-loop
 element-copy-out-if1 c =
-    let at-loop = c .before .before .before .before .before in
+    let after-next = asked c in
+    let at-loop = begun after-next in
     let e = at-loop .before in
     omega (
       arith,
       e .pre .0,
-      e .pre .1 .0 (c .before .before .next .result)
-          (omega (arith, c .before .before .next .ensures, next-below (e .args .n) (at-loop .loop .i) (omega arith))),
+      e .pre .1 .0 (after-next .next .result)
+          (omega (arith, after-next .next .ensures, next-below (e .args .n) (at-loop .loop .i) (omega arith))),
     )
 
 mul-if2 : tie.Need-mul-if2 Inv-loop μ-loop
-mul-if2 c = let at-loop = c .before .before .before .before .before .before .before in let e = at-loop .before in
+mul-if2 c = let at-loop = begun (asked (c .before .before)) in let e = at-loop .before in
     omega (arith, e .pre .1 .1 (at-loop .loop .i) (omega arith))
 
 element-copy-out-if2 : tie.Need-element-copy-out-if2 Inv-loop μ-loop
-element-copy-out-if2 c = let at-loop = c .before .before .before .before .before .before .before in let e = at-loop .before in
+element-copy-out-if2 c = let at-loop = begun (asked (c .before .before)) in let e = at-loop .before in
     e .pre .1 .1 (at-loop .loop .i) (omega arith)
 
 returns : tie.Need-returns Inv-loop μ-loop
 returns c =
     let vacant = c .before .before in
-    let after-next = vacant .before .before .before .before in
-    let at-loop = after-next .before .before .before in
+    let after-next = asked (vacant .before .before) in
+    let at-loop = begun after-next in
     let a = at-loop .before .args in
     record {
       most = omega arith;
@@ -90,8 +99,8 @@ returns c =
 
 loop-again : tie.Need-loop-again Inv-loop μ-loop
 loop-again c =
-    let after-next = c .before .before .before .before in
-    let at-loop = after-next .before .before .before in
+    let after-next = asked (c .before .before) in
+    let at-loop = begun after-next in
     let a = at-loop .before .args in (
       omega arith,
       tried-next _ _ _ _ (at-loop .loop .i)

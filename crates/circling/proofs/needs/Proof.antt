@@ -18,6 +18,10 @@ Inv-loop n m from p to g need₀ r₀ need r = Needing n m from (row p) to (row 
 abbrev μ-loop : tie.MeasureT-loop
 μ-loop n m from p to g need₀ r₀ need r = m + 1 - r
 
+-- the entry, behind a turn in which both numbers of a rack were read
+abbrev entry : tie.After-reach2 Inv-loop μ-loop → tie.Start Inv-loop μ-loop
+entry second = let first = second .before in first .before .before .before
+
 loop-holds : tie.Need-loop-holds Inv-loop μ-loop
 loop-holds c = needing-first _ _ _ _ _ _
 
@@ -37,17 +41,17 @@ reach-requires-2 c κs =
 cast-need : tie.Need-cast-need Inv-loop μ-loop
 cast-need c =
     let second = c .before in
-    let e = second .before .before .before .before in
+    let e = entry second in
     omega (arith, e .pre .0, e .pre .1 .0 .second, second .reach2 .ensures .lap)
 
 mul-need : tie.Need-mul-need Inv-loop μ-loop
-mul-need c = let at-loop = c .before .before .before .before in omega (arith, at-loop .before .pre .0)
+mul-need c = omega (arith, entry (c .before) .pre .0)
 
 array-write-need : tie.Need-array-write-need Inv-loop μ-loop
-array-write-need c = let at-loop = c .before .before .before .before in omega (arith, at-loop .before .pre .0)
+array-write-need c = omega (arith, entry (c .before) .pre .0)
 
 add-r : tie.Need-add-r Inv-loop μ-loop
-add-r c = let e = c .before .before .before .before .before in omega (arith, e .pre .0)
+add-r c = omega (arith, entry (c .before) .pre .0)
 
 loop-again : tie.Need-loop-again Inv-loop μ-loop
 loop-again c =

@@ -26,10 +26,10 @@ loop-holds c = let a = c .before .args .circle .now in (
 )
 
 element-copy-out-back-2 : tie.Need-element-copy-out-back-2 Inv-loop μ-loop
-element-copy-out-back-2 c = let l = c .before .before .before .pre in omega arith
+element-copy-out-back-2 c = let few = c .before .before .before .pre in omega arith
 
 array-write-back-2 : tie.Need-array-write-back-2 Inv-loop μ-loop
-array-write-back-2 c = let l = c .before .before .before .before .pre in omega arith
+array-write-back-2 c = let at-loop = c .before .before in let few = at-loop .before .before .pre in omega arith
 
 loop-again : tie.Need-loop-again Inv-loop μ-loop
 loop-again c =

@@ -9,7 +9,7 @@ use Rattle.ring.specs.Order.{SameOrder}
 use Rattle.ring.specs.Standing.{StandAt}
 use Rattle.ring.proofs.CircleLaws.{circle-same}
 use Rattle.ring.proofs.StandingLaws.{standing-of, stand-at}
-use Rattle.shunting.proofs.JourneyLaws.{trip-more, trip-append, trip-anew, trip-logged, space-less, space-then, space-relogged}
+use Rattle.moving.proofs.JourneyLaws.{trip-more, trip-append, trip-anew, trip-logged, space-less, space-then, space-relogged}
 use Rattle.circling.specs.Lands.{Lands, total}
 use Rattle.circling.specs.Drive.{Driveable}
 use Rattle.circling.specs.Needs.{Needs, roundMoves}
@@ -22,7 +22,7 @@ abbrev Found : Type 0
 Found = tie.After-places2
 
 abbrev entry : Found → tie.Start
-entry q = q .before .before .before .before .before
+entry q = let racks-lent = q .before .before in racks-lent .before .before .before
 
 abbrev circle-at : Found → ℕ → ℕ
 circle-at q = row (entry q .args .circle .now)
@@ -61,14 +61,18 @@ places-of a = a .before .before .before
 abbrev Needed : Type 0
 Needed = tie.After-needs2
 
+-- where the needs on are known, and behind it the aim
+abbrev needed-on : Needed → tie.After-needs
+needed-on d = d .before .before .before
+
 abbrev aim-of : Needed → Aiming
-aim-of d = d .before .before .before .before .before .before
+aim-of d = needed-on d .before .before .before
 
 abbrev found : Needed → Found
 found d = places-of (aim-of d)
 
 abbrev ons : (d : Needed) → List ℕ
-ons d = d .before .before .before .needs .result
+ons d = needed-on d .needs .result
 
 abbrev backs : (d : Needed) → List ℕ
 backs d = d .needs2 .result
@@ -78,7 +82,7 @@ target d = aim-of d .aim .result
 
 forth : (d : Needed) → Needs (entry (found d) .args .n) (entry (found d) .args .state .real) (base (found d)) (stood (found d)) (target d)
     (goals (found d)) (ons d)
-forth d = d .before .before .before .needs .ensures
+forth d = needed-on d .needs .ensures
 
 back : (d : Needed) → Needs (entry (found d) .args .n) (entry (found d) .args .state .real) (target d) (goals (found d)) (base (found d))
     (stood (found d)) (backs d)
@@ -141,7 +145,7 @@ places-requires c κs = let e = c .before .before .before in
     (e .pre .1 .0 .1 .inside)
 
 places-requires-2 : tie.Need-places-requires-2
-places-requires-2 c κs = let e = c .before .before .before .before in
+places-requires-2 c κs = let racks-lent = c .before in let e = racks-lent .before .before .before in
     standing-of (e .pre .1 .1 .1 .1 .0) (omega (arith, e .pre .0)) (e .pre .0 .1) (omega (arith, e .pre .0, e .pre .1 .1 .0))
     (e .pre .1 .0 .1 .inside)
 
@@ -158,17 +162,18 @@ aim-requires c κs =
 
 needs-requires : tie.Need-needs-requires
 needs-requires c κs =
-    let a = c .before .before in
-    let q = places-of a in
+    let aimed = c .before .before in
+    let q = places-of aimed in
     let e = entry q in
-    ((e .pre .0 .1, e .pre .1 .1 .0), (a .aim .ensures .there, (start q .places, end q .places)))
+    ((e .pre .0 .1, e .pre .1 .1 .0), (aimed .aim .ensures .there, (start q .places, end q .places)))
 
 needs-requires-2 : tie.Need-needs-requires-2
 needs-requires-2 c κs =
-    let a = c .before .before .before .before .before in
-    let q = places-of a in
+    let on = c .before .before in
+    let aimed = on .before .before .before in
+    let q = places-of aimed in
     let e = entry q in
-    ((e .pre .0 .1, e .pre .1 .1 .0), (a .aim .ensures .back, (end q .places, start q .places)))
+    ((e .pre .0 .1, e .pre .1 .1 .0), (aimed .aim .ensures .back, (end q .places, start q .places)))
 
 drive-requires : tie.Need-drive-requires
 drive-requires c κs =
@@ -204,7 +209,8 @@ drive-requires-2 c κs =
 returns : tie.Need-returns
 returns c =
     let w = c .before .before in
-    let r = w .before .before .before .before in
+    let other-lent = w .before .before .before in
+    let r = other-lent .before in
     let v = half r in
     let d = needed v in
     let q = found d in

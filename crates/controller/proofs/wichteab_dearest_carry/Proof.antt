@@ -9,15 +9,19 @@ use borrow.Author.Needs.{needs}
 use Rattle.controller.proofs.wichteab_dearest_carry.Statement.{statement}
 use Rattle.controller.proofs.wichteab_dearest_carry.Tie as tie
 
+-- the call of the dearest carry, from where the buffer is back on
+abbrev answered : tie.After-slice-known2 → tie.After-make
+answered back = back .before .before
+
 start-goal-moves-requires : tie.Need-start-goal-moves-requires
 start-goal-moves-requires c κs =
-    let call = c .before .before .before .before .before in
+    let call = answered (c .before .before .before) in
     room-of start-goal-moves-pack (carry-sized _ _) (ap answerOf (sym (c .before .carry .given .1)) ∙ call .make .ensures .0)
 
 returns : tie.Need-returns
 returns c =
     let carry = c .before .before in
-    let done = carry .before .before .before .before .make .ensures in (
+    let done = answered (carry .before .before) .make .ensures in (
       tells start-goal-moves-pack (carry-sized _ _)
           (c .start-goal-moves .ensures ∙ ap (packed startGoalMoves) (ap answerOf (sym (carry .carry .given .1)) ∙ done .0)),
       done .1,
@@ -26,7 +30,7 @@ returns c =
 returns-2 : tie.Need-returns-2
 returns-2 c =
     let fault = c .before .before in
-    let done = fault .before .before .before .before .make .ensures in (
+    let done = answered (fault .before .before) .make .ensures in (
       tells start-goal-moves-pack (carry-sized _ _)
           (c .refusal .ensures ∙ ap (packed startGoalMoves) (ap answerOf (sym (fault .fault .given .1)) ∙ done .0)),
       done .1,

@@ -8,22 +8,26 @@ use borrow.Author.Needs.{needs}
 use Rattle.controller.proofs.wichteab_order_expand.Statement.{statement}
 use Rattle.controller.proofs.wichteab_order_expand.Tie as tie
 
+-- the call of the expander, from where the buffer is back on
+abbrev answered : tie.After-slice-known2 → tie.After-expand
+answered back = back .before .before
+
 one-count-requires : tie.Need-one-count-requires
 one-count-requires c κs =
-    let call = c .before .before .before .before .before in
+    let call = answered (c .before .before .before) in
     room-of record-length-packs (expand-sized _ _) (ap answerOf (sym (c .before .length .given .1)) ∙ call .expand .ensures .0)
 
 returns : tie.Need-returns
 returns c =
     let found = c .before .before in
-    let made = found .before .before .before .before .expand .ensures in
+    let made = answered (found .before .before) .expand .ensures in
     let is = ap answerOf (sym (found .length .given .1)) ∙ made .0 in
     (tells record-length-packs (expand-sized _ _) (c .one-count .ensures ∙ ap (packed oneCount) is), made .1)
 
 returns-2 : tie.Need-returns-2
 returns-2 c =
     let found = c .before .before in
-    let made = found .before .before .before .before .expand .ensures in
+    let made = answered (found .before .before) .expand .ensures in
     let is = ap answerOf (sym (found .fault .given .1)) ∙ made .0 in
     (tells record-length-packs (expand-sized _ _) (c .refusal .ensures ∙ ap (packed oneCount) is), made .1)
 

@@ -14,20 +14,24 @@ use Rattle.controller.proofs.wichteab_plan_make.Tie as tie
 made-as : {o B B′ : List ℕ} {v w : PlannerVerdict} → v ≡ w → PlanMade o B (answerOf v) B′ → PlanMade o B (answerOf w) B′
 made-as {o} {B} {B′} e h = subst (λ (v : PlannerVerdict). PlanMade o B (answerOf v) B′) e h
 
+-- the call of the planner, from where the buffer is back on
+abbrev answered : tie.After-slice-known2 → tie.After-make
+answered back = back .before .before
+
 one-count-requires : tie.Need-one-count-requires
 one-count-requires c κs =
-    let make = c .before .before .before .before .before in
+    let make = answered (c .before .before .before) in
     room-of plan-moves-pack (made-sized (made-as (c .before .moves .given .1) (make .make .ensures))) refl
 
 returns : tie.Need-returns
 returns c =
-    let moves = c .before .before in let make = moves .before .before .before .before in
+    let moves = c .before .before in let make = answered (moves .before .before) in
     let made = made-as (moves .moves .given .1) (make .make .ensures) in
     (_, tells plan-moves-pack (made-sized made) (c .one-count .ensures), made)
 
 returns-2 : tie.Need-returns-2
 returns-2 c =
-    let fault = c .before .before in let buffer = fault .before .before .before in let make = buffer .before in
+    let fault = c .before .before in let make = answered (fault .before .before) in
     let made = made-as (fault .fault .given .1) (make .make .ensures) in
     (_, tells plan-moves-pack (made-sized made) (c .refusal .ensures), made)
 

@@ -9,12 +9,16 @@ use Rattle.answers.specs.Answer.{accepted}
 use Rattle.answers.proofs.AnswerLaws.{passed-up}
 use Rattle.plan.specs.Plan.{planAnswer}
 use Rattle.plan.specs.Verdict.{answerOf as planAnswerOf}
-use Rattle.plan.proofs.Accepted.{gave, count-below, head-there, order-there, tail-fits}
+use Rattle.plan_check.proofs.Accepted.{gave, count-below, head-there, order-there, tail-fits}
 use Rattle.converting.proofs.Converting.{converter-refused, converter-short, racks-held, part-back, moves-room}
 use Rattle.converting.proofs.Converting.{converter-made}
 use borrow.Author.Needs.{needs}
 use Rattle.converting.proofs.convert.Statement.{statement}
 use Rattle.converting.proofs.convert.Tie as tie
+
+-- the entry, which lent the slices of the plan checker's call
+abbrev start : tie.After-check → tie.Start
+start checked = let lent = checked .before in lent .before .before .before
 
 -- what the plan checker's acceptance tells
 module _ (told : tie.After-known-told) where
@@ -22,7 +26,7 @@ module _ (told : tie.After-known-told) where
   checked = told .before .before .before
 
   abbrev entry : tie.Start
-  entry = checked .before .before .before .before
+  entry = start checked
 
   abbrev o : List ℕ
   o = entry .args .order .now
@@ -43,7 +47,7 @@ returns : tie.Need-returns
 returns c =
     let told = c .before in
     let call = told .before .before in
-    let entry = call .before .before .before .before .args in
+    let entry = start call .args in
     converter-refused (entry .order .now) (entry .plan .now) (entry .buffer .now) _ _ _ _ (call .check .ensures)
     (ap planAnswerOf (told .enum-told .given .1)) (passed-up (c .passed-up .ensures))
 
@@ -64,25 +68,8 @@ returns-2 c =
 counts-of-requires : tie.Need-counts-of-requires
 counts-of-requires c κs = let t = c .before .before .before in order-there (o t) (p t) (k t) (read t)
 
-sub-place-racks : tie.Need-sub-place-racks
-sub-place-racks c = let t = c .before .before .before .before in order-there (o t) (p t) (k t) (read t)
-
-part-place-racks-start : tie.Need-part-place-racks-start
-part-place-racks-start c = let t = c .before .before .before .before in order-there (o t) (p t) (k t) (read t)
-
-place-racks-requires : tie.Need-place-racks-requires
-place-racks-requires c κs =
-    let counted = c .before .before .before in
-    let t = counted .before .before .before .before in
-    let g = gave (o t) (p t) (k t) (read t) .order-gives in
-    let n = counted .counts-of .ensures in
-    (omega (arith, n .racks-are, g .few-racks), omega (arith, n .edges-are, n .racks-are, g .room))
-
--- the racks are placed
-module _ (placed : tie.After-place-racks) where
-  abbrev counted : tie.After-counts-of
-  counted = placed .before .before .before .before
-
+-- the buffer has room for the plan's other edition, and the order's counts are read
+module _ (counted : tie.After-counts-of) where
   abbrev fits : tie.Else1
   fits = counted .before
 
@@ -95,35 +82,59 @@ module _ (placed : tie.After-place-racks) where
   abbrev known : tie.After-known-told
   known = edition .before
 
+  -- the head has room
+  head-room : 3 ≤ length (B known)
+  head-room = omega (arith, fits .if1 .left)
+
+sub-place-racks : tie.Need-sub-place-racks
+sub-place-racks c = let t = known c in order-there (o t) (p t) (k t) (read t)
+
+part-place-racks-start : tie.Need-part-place-racks-start
+part-place-racks-start c = let t = known c in order-there (o t) (p t) (k t) (read t)
+
+place-racks-requires : tie.Need-place-racks-requires
+place-racks-requires c κs =
+    let counted = c .before .before .before in
+    let t = known counted in
+    let g = gave (o t) (p t) (k t) (read t) .order-gives in
+    let n = counted .counts-of .ensures in
+    (omega (arith, n .racks-are, g .few-racks), omega (arith, n .edges-are, n .racks-are, g .room))
+
+-- the calls one before the other: the head's spare bits, the moves, the racks' places, the order's counts
+abbrev listing : tie.After-spare-bits → tie.After-list-moves
+listing spare = let given-back = spare .before .before in given-back .before .before
+
+abbrev placing : tie.After-list-moves → tie.After-place-racks
+placing listed = let lent = listed .before in lent .before .before .before
+
+abbrev counting : tie.After-place-racks → tie.After-counts-of
+counting placed = let lent = placed .before in lent .before .before .before
+
 sub-list-moves : tie.Need-sub-list-moves
-sub-list-moves c = let t = known c in head-there (o t) (p t) (k t) (read t)
+sub-list-moves c = let t = known (counting c) in head-there (o t) (p t) (k t) (read t)
 
 part-list-moves-start : tie.Need-part-list-moves-start
-part-list-moves-start c = let t = known c in head-there (o t) (p t) (k t) (read t)
-
--- the head has room
-module _ (placed : tie.After-place-racks) where
-  head-room : 3 ≤ length (B (known placed))
-  head-room = omega (arith, fits placed .if1 .left)
+part-list-moves-start c = let t = known (counting c) in head-there (o t) (p t) (k t) (read t)
 
 sub-list-moves-2 : tie.Need-sub-list-moves-2
-sub-list-moves-2 c = head-room (c .before .before)
+sub-list-moves-2 c = head-room (counting (c .before .before))
 
 part-list-moves-start-2 : tie.Need-part-list-moves-start-2
-part-list-moves-start-2 c = head-room (c .before .before)
+part-list-moves-start-2 c = head-room (counting (c .before .before))
 
 list-moves-requires : tie.Need-list-moves-requires
 list-moves-requires c κs =
     let placed = c .before .before .before in
-    let t = known placed in
-    let n = edition placed in
-    let counts = counted placed .counts-of in
+    let counted = counting placed in
+    let t = known counted in
+    let n = edition counted in
+    let counts = counted .counts-of in
     let of = n .names-racks .ensures in (
       (count-below (o t) (p t) (k t) (read t), tail-fits (o t) (p t) (k t) (read t) (n .names-racks .result) of),
       (
         moves-room (o t) (p t) (B t) (k t) (read t) (n .names-racks .result) of _ _ (counts .ensures .edges-are)
-            (counts .ensures .racks-are) _ (placed .place-racks .ensures) (sized placed .units .result) (sized placed .units .ensures .0)
-            (fits placed .if1 .left),
+            (counts .ensures .racks-are) _ (placed .place-racks .ensures) (sized counted .units .result) (sized counted .units .ensures .0)
+            (fits counted .if1 .left),
         racks-held (o t) (p t) (B t) (k t) (read t) (n .names-racks .result) of _ _ (counts .ensures .edges-are)
             (counts .ensures .racks-are) _ (placed .place-racks .ensures),
       ),
@@ -131,14 +142,14 @@ list-moves-requires c κs =
 
 put-head-requires : tie.Need-put-head-requires
 put-head-requires c κs =
-    let listed = c .before .before .before .before in
-    let placed = listed .before .before .before .before in
-    let t = known placed in
-    let n = edition placed in
-    let counts = counted placed .counts-of in (
+    let placed = placing (listing c) in
+    let counted = counting placed in
+    let t = known counted in
+    let n = edition counted in
+    let counts = counted .counts-of in (
       part-back (o t) (p t) (B t) (k t) (read t) (n .names-racks .result) (n .names-racks .ensures) _ _ (counts .ensures .edges-are)
-          (counts .ensures .racks-are) _ (placed .place-racks .ensures) (sized placed .units .result) (sized placed .units .ensures .0)
-          (fits placed .if1 .left) _,
+          (counts .ensures .racks-are) _ (placed .place-racks .ensures) (sized counted .units .result) (sized counted .units .ensures .0)
+          (fits counted .if1 .left) _,
       count-below (o t) (p t) (k t) (read t),
       c .spare-bits .ensures .1,
     )
@@ -147,14 +158,15 @@ returns-3 : tie.Need-returns-3
 returns-3 c =
     let put = c .before .before in
     let spare = put .before in
-    let listed = spare .before .before .before .before in
-    let placed = listed .before .before .before .before in
-    let t = known placed in
-    let n = edition placed in
-    let counts = counted placed .counts-of in
+    let listed = listing spare in
+    let placed = placing listed in
+    let counted = counting placed in
+    let t = known counted in
+    let n = edition counted in
+    let counts = counted .counts-of in
     converter-made (o t) (p t) (B t) (k t) (read t) (n .names-racks .result) (n .names-racks .ensures) _ _ (counts .ensures .edges-are)
-    (counts .ensures .racks-are) _ (placed .place-racks .ensures) (sized placed .units .result) (sized placed .units .ensures .0)
-    (fits placed .if1 .left) _ (listed .list-moves .ensures) (spare .spare-bits .result) (spare .spare-bits .ensures .0) _
+    (counts .ensures .racks-are) _ (placed .place-racks .ensures) (sized counted .units .result) (sized counted .units .ensures .0)
+    (fits counted .if1 .left) _ (listed .list-moves .ensures) (spare .spare-bits .result) (spare .spare-bits .ensures .0) _
     (put .put-head .ensures)
 
 pub convert-spec : {M : Type 1} → statement M

@@ -31,9 +31,13 @@ move-at-requires c κs =
 element-copy-out-rack : tie.Need-element-copy-out-rack Inv-loop μ-loop
 element-copy-out-rack c = omega (arith, c .move-at .ensures .first-below)
 
+-- the call that read the move, before its rack's number is widened
+abbrev reading : tie.After-wide Inv-loop μ-loop → tie.After-move-at Inv-loop μ-loop
+reading widened = widened .before .before .before
+
 put-listed-requires : tie.Need-put-listed-requires Inv-loop μ-loop
 put-listed-requires c κs =
-    let read = c .before .before .before in
+    let read = reading c in
     let turn = read .before .before in
     let entry = turn .before .before .before in
     let a = entry .args in
@@ -47,19 +51,19 @@ put-listed-requires c κs =
 
 element-write-racks : tie.Need-element-write-racks Inv-loop μ-loop
 element-write-racks c =
-    let read = c .before .before .before .before .before .before in
-    omega (arith, read .move-at .ensures .first-below)
+    let put = c .before .before in
+    omega (arith, reading (put .before) .move-at .ensures .first-below)
 
 element-write-racks-2 : tie.Need-element-write-racks-2 Inv-loop μ-loop
 element-write-racks-2 c =
-    let read = c .before .before .before .before .before .before in
-    omega (arith, read .move-at .ensures .second-below)
+    let put = c .before .before in
+    omega (arith, reading (put .before) .move-at .ensures .second-below)
 
 loop-again : tie.Need-loop-again Inv-loop μ-loop
 loop-again c =
     let put = c .before .before in
     let widened = put .before in
-    let read = widened .before .before .before in
+    let read = reading widened in
     let turn = read .before .before in
     let entry = turn .before .before .before in
     let a = entry .args in

@@ -8,9 +8,13 @@ use Rattle.field.proofs.Sextets.{sextet-0, sextet-2, sextet-4, sextet-6
 use Rattle.field.proofs.pair_number.Statement.{statement}
 use Rattle.field.proofs.pair_number.Tie as tie
 
+-- the entry, before the two bytes of the pair are read
+abbrev entry : tie.After-wide2 → tie.Start
+entry second-read = let first-read = second-read .before .before in first-read .before .before .before
+
 returns : tie.Need-returns
 returns c =
-    let a = c .before .before .before .before .before .before .args in
+    let a = entry (c .before) .args in
     let at = a .j + a .j / 2 in
     let first = sextet-0 (a .s .now) (12 * a .j) at (omega arith) (omega arith) (omega arith) in
     let second = sextet-6 (a .s .now) (12 * a .j + 6) at (at + 1) refl (omega arith) (omega arith) (omega arith) in
@@ -18,7 +22,7 @@ returns c =
 
 returns-2 : tie.Need-returns-2
 returns-2 c =
-    let a = c .before .before .before .before .before .before .args in
+    let a = entry (c .before) .args in
     let at = a .j + a .j / 2 in
     let first = sextet-4 (a .s .now) (12 * a .j) at (at + 1) refl (omega arith) (omega arith) (omega arith) in
     let second = sextet-2 (a .s .now) (12 * a .j + 6) (at + 1) (omega arith) (omega arith) in

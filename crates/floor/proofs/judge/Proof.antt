@@ -20,8 +20,9 @@ use borrow.Author.Needs.{needs}
 use Rattle.floor.proofs.judge.Statement.{statement}
 use Rattle.floor.proofs.judge.Tie as tie
 
+-- the order as it came in, before the tables are lent to the order reader
 abbrev bytes : tie.After-decode → List ℕ
-bytes c = c .before .before .before .before .before .args .order .now
+bytes called = let rows-lent = called .before .before .before in rows-lent .before .before .args .order .now
 
 -- the order reader accepted: the call, the counts that it gave, and what that tells
 module _ (c : tie.After-known-told) where
@@ -84,13 +85,17 @@ returns-2 c =
     let down = ring-full (gave k) (is-a v (c .before .if1 .taken)) (c .if2 .taken) in
     (down, (refused-too (bytes (called k)) 20 0 down, called k .decode .ensures .1))
 
+-- the ring with a vacancy, of which it is asked whether the racks come round in the same order
+abbrev vacant-ring : tie.After-same-round-arg3 → tie.Else2
+vacant-ring lent = lent .before .before .before
+
 same-round-requires : tie.Need-same-round-requires
-same-round-requires c κs = let w = c .before .before .before in (bytes (called (on w)), tables w)
+same-round-requires c κs = let w = vacant-ring c in (bytes (called (on w)), tables w)
 
 returns-3 : tie.Need-returns-3
 returns-3 c =
     let asked = c .before in
-    let w = asked .before .before .before .before in
+    let w = vacant-ring (asked .before) in
     let k = on w in
     let o = bytes (called k) in
     let down = ring-other (gave k) (is-a (w .before .before) (w .before .if1 .taken)) (w .if2 .left)
@@ -101,7 +106,7 @@ returns-3 c =
 returns-4 : tie.Need-returns-4
 returns-4 c =
     let asked = c .before in
-    let w = asked .before .before .before .before in
+    let w = vacant-ring (asked .before) in
     let k = on w in
     let o = bytes (called k) in
     let up = ring-plain (gave k) (is-a (w .before .before) (w .before .if1 .taken)) (w .if2 .left)
@@ -133,7 +138,8 @@ returns-6 c =
 
 is-four-sided-requires : tie.Need-is-four-sided-requires
 is-four-sided-requires c κs =
-    let k = off (c .before .before .before .before) in
+    let searched = c .before .before in
+    let k = off (searched .before .before) in
     filled-rows (gave k) (called k .decode .ensures .1 .0)
 
 returns-7 : tie.Need-returns-7

@@ -10,21 +10,25 @@ use Rattle.floor.proofs.RoundTables.{rows, starts-on, goals-on, ring-sa
 use Rattle.floor.proofs.same_round.Statement.{statement}
 use Rattle.floor.proofs.same_round.Tie as tie
 
+-- the racks' places on the circle are listed, first those at the start and then those at the goal
 abbrev Placed : Type 0
 Placed = tie.After-places2
 
+abbrev starts-placed : Placed → tie.After-places
+starts-placed q = q .before .before
+
 abbrev made : Placed → tie.After-circle
-made q = q .before .before .before .before
+made q = starts-placed q .before .before
 
 -- where the racks stand, at start and goal
 from-at : (q : Placed)
     → StandAt (made q .before .args .n) (made q .before .args .m) (row (made q .circle .result)) (row (made q .before .args .starts .now))
-    (row (q .before .before .places .result))
+    (row (starts-placed q .places .result))
 from-at q =
     let v = made q in
     let e = v .before in
     stand-at (starts-on (e .pre .1) (v .circle .result) (v .circle .ensures .0) (v .circle .ensures .1))
-    (row (q .before .before .places .result)) (q .before .before .places .ensures .0)
+    (row (starts-placed q .places .result)) (starts-placed q .places .ensures .0)
 
 to-at : (q : Placed)
     → StandAt (made q .before .args .n) (made q .before .args .m) (row (made q .circle .result)) (row (made q .before .args .goals .now))
@@ -70,7 +74,7 @@ returns c =
     let e = v .before in
     λ o t.
     let says = ring-says t (v .circle .result) (v .circle .ensures .0) (v .circle .ensures .1)
-    (row (q .before .before .places .result)) (row (q .places2 .result)) (from-at q) (to-at q) in
+    (row (starts-placed q .places .result)) (row (q .places2 .result)) (from-at q) (to-at q) in
     says-same (says .0) (says .1) (c .same-order .ensures)
 
 pub same-round-spec : {M : Type 1} → statement M

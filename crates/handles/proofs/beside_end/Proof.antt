@@ -1,7 +1,7 @@
 -- `handles::beside_end` meets its contract.
 -- Assumes nothing.
 use native.Mathlib.Omega.{arith}
-use Rattle.handles.proofs.CycleLaws.{lane-floor, lane-places, left-below, right-below, beside-some, beside-is}
+use Rattle.lane.proofs.CycleLaws.{lane-floor, lane-places, left-below, right-below, beside-some, beside-is}
 use Rattle.handles.proofs.beside_end.Statement.{statement}
 use Rattle.handles.proofs.beside_end.Tie as tie
 

@@ -3,7 +3,7 @@
 use native.Mathlib.Omega.{arith}
 use lib.ListN.{length-replicate}
 use Prim.Native.Nat.{ℕ, _+_, _-_, _≤_}
-use Rattle.handles.proofs.CycleLaws.{lane-floor, lane-places, left-below, right-below, route-short, closed}
+use Rattle.lane.proofs.CycleLaws.{lane-floor, lane-places, left-below, right-below, route-short, closed}
 use Rattle.handles.proofs.close_cycle.Statement.{statement}
 use Rattle.handles.proofs.close_cycle.Tie as tie
 

@@ -5,8 +5,8 @@ use mathlib.Core.Path.{_≡_, _∙_}
 use native.Mathlib.Omega.{arith}
 use lib.ListN.{length, length-set}
 use Rattle.graph.specs.Rows.{row}
-use Rattle.handles.specs.Lane.{Copied}
-use Rattle.handles.proofs.StageLaws.{copied-none, copied-next, copied-all}
+use Rattle.lane.specs.Lane.{Copied}
+use Rattle.lane.proofs.StageLaws.{copied-none, copied-next, copied-all}
 use Rattle.handles.proofs.copy_places.Statement.{statement}
 use Rattle.handles.proofs.copy_places.Tie as tie
 

@@ -4,8 +4,8 @@ use Prim.Native.Nat.{ℕ, _-_, _≤_, _<_}
 use native.Mathlib.Omega.{arith}
 use Rattle.graph.proofs.Decision.{says-yes, says-no}
 use Rattle.graph.specs.Rows.{row}
-use Rattle.handles.specs.Lane.{Agreed}
-use Rattle.handles.proofs.StageLaws.{agreed-next}
+use Rattle.lane.specs.Lane.{Agreed}
+use Rattle.lane.proofs.StageLaws.{agreed-next}
 use Rattle.handles.proofs.is_settled.Statement.{statement}
 use Rattle.handles.proofs.is_settled.Tie as tie
 

@@ -4,9 +4,9 @@ use Prim.Native.Nat.{_-_}
 use mathlib.Core.Path.{refl}
 use native.Mathlib.Omega.{arith}
 use Rattle.graph.specs.Rows.{row}
-use Rattle.shunting.proofs.JourneyLaws.{trip-none, trip-more}
-use Rattle.handles.specs.Moves.{laneMoves}
-use Rattle.handles.proofs.StageLaws.{handle-places}
+use Rattle.moving.proofs.JourneyLaws.{trip-none, trip-more}
+use Rattle.lane.specs.Moves.{laneMoves}
+use Rattle.lane.proofs.StageLaws.{handle-places}
 use Rattle.handles.proofs.SettleLaws.{Settling, settling-begin, settling-room, settling-next, settling-trip, settling-end}
 use Rattle.handles.proofs.SettleLaws.{settled-already}
 use Rattle.handles.proofs.settle_handle.Statement.{statement}

@@ -6,9 +6,9 @@ use native.Mathlib.Omega.{arith}
 use lib.ListN.{length-replicate}
 use Rattle.graph.specs.Rows.{row, Edge}
 use Rattle.breakdown.specs.declared.Breakdown.{Breakdown as Parts}
-use Rattle.shunting.proofs.JourneyLaws.{space-room}
-use Rattle.handles.specs.Lane.{HandleOn}
-use Rattle.handles.proofs.CycleLaws.{left-below, right-below}
+use Rattle.moving.proofs.JourneyLaws.{space-room}
+use Rattle.lane.specs.Lane.{HandleOn}
+use Rattle.lane.proofs.CycleLaws.{left-below, right-below}
 use Rattle.handles.proofs.SettleLaws.{down-up, starts-from, starts-few, lane-of, Handling, handling-begin}
 use Rattle.handles.proofs.SettleLaws.{handling-placing, handling-room, handling-next, handling-trip, handling-end}
 use Rattle.handles.proofs.settle_handles.Statement.{statement}

@@ -19,7 +19,7 @@ module _ (c : tie.After-known-told) where
   called = c .before .before .before
 
   abbrev measured : tie.Else1
-  measured = called .before .before .before .before
+  measured = let lent = called .before .before .before in lent .before
 
   abbrev bytes : List ℕ
   bytes = measured .before .before .before .args .order .now
@@ -64,19 +64,25 @@ lay-out-requires c κs =
     let long = measured (known (c .before)) .if1 .left in
     (omega arith, omega arith)
 
+-- the buffer is back, with the breakdown laid out in it
+module _ (c : tie.After-slice-known2) where
+  abbrev laid : tie.After-lay-out
+  laid = c .before .before
+
+  abbrev tested : tie.Else2
+  tested = laid .before .before
+
 mul-result : tie.Need-mul-result
-mul-result c = omega (arith, few (c .before .before .before .before))
+mul-result c = omega (arith, few (tested c))
 
 add-result : tie.Need-add-result
-add-result c = omega (arith, few (c .before .before .before .before))
+add-result c = omega (arith, few (tested c))
 
 returns-4 : tie.Need-returns-4
 returns-4 c =
-    let laid = c .before .before in
-    let tested = laid .before .before in
-    let k = known tested in
-    found (gave k) (called k .decode .ensures .1 .0) (tested .before .break-down .ensures) (some tested) _ _ (measured k .if1 .left)
-    (laid .lay-out .ensures)
+    let k = known (tested c) in
+    found (gave k) (called k .decode .ensures .1 .0) (tested c .before .break-down .ensures) (some (tested c)) _ _
+    (measured k .if1 .left) (laid c .lay-out .ensures)
 
 pub wichteab-inspect-breakdown-spec : {M : Type 1} → statement M
 wichteab-inspect-breakdown-spec =

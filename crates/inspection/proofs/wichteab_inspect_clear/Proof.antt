@@ -44,17 +44,18 @@ asked c =
     let rows = c .before .before .before in
     rows .before .before
 
+abbrev tested : tie.After-copy-row → tie.Else3
+tested c =
+    let racks = c .before .before .before in
+    racks .before
+
 abbrev cleared : tie.After-copy-row → tie.After-clear
-cleared c =
-    let tested = c .before .before .before .before in
-    tested .before .before .before
+cleared c = tested c .before .before .before
 
 -- a way was found, and what is told of its moves
 module _ (c : tie.After-copy-row) where
   found : cleared c .clear .result .found ≡ true
-  found =
-      let racks = c .before .before .before in
-      sym (Bool·not-not (cleared c .clear .result .found)) ∙ ap not (racks .before .if3 .left)
+  found = sym (Bool·not-not (cleared c .clear .result .found)) ∙ ap not (tested c .if3 .left)
 
   abbrev start : tie.Start
   start = entry (called (asked (cleared c)))

@@ -31,8 +31,11 @@ module _ (c : tie.After-known-told) where
   abbrev checked : tie.After-check
   checked = c .before .before .before
 
+  abbrev let-in : tie.Else1
+  let-in = checked .before
+
   abbrev entry : tie.Start
-  entry = checked .before .before .before .before
+  entry = let-in .before .before .before
 
   is-accepted : accepted (c .before .checked .given .0 .0 ∷ c .before .checked .given .0 .1 .0 ∷ [])
       ≡ timetableAnswer (entry .args .order .now) (entry .args .timetable .now)
@@ -47,7 +50,7 @@ cast-t8 c =
 returns-3 : tie.Need-returns-3
 returns-3 c =
     let a = entry c .args in
-    gate-passed (a .allowed) (a .order .now) (a .timetable .now) (not-false _ (checked c .before .if1 .left)) _ _ (is-accepted c)
+    gate-passed (a .allowed) (a .order .now) (a .timetable .now) (not-false _ (let-in c .if1 .left)) _ _ (is-accepted c)
 
 pub admit-spec : {M : Type 1} → statement M
 admit-spec =

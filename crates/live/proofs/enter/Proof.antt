@@ -2,7 +2,7 @@
 use mathlib.Core.Path.{ap, _∙_}
 use mathlib.Core.Bool.{Bool}
 use Rattle.live.specs.Picture.{isOpen}
-use Rattle.live.specs.Judging.{gateAnswer}
+use Rattle.live.specs.Admitting.{gateAnswer}
 use borrow.Author.Needs.{needs}
 use Rattle.live.proofs.enter.Statement.{statement}
 use Rattle.live.proofs.enter.Tie as tie

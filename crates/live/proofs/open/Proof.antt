@@ -6,13 +6,13 @@ use mathlib.Core.List.{List}
 use native.Mathlib.Omega.{arith}
 use Rattle.order.specs.Order.{WellFormed}
 use Rattle.tables.specs.Accepted.{OrderGave}
-use Rattle.timetable.proofs.Leading.{accepted-leads}
+use Rattle.timetable_check.proofs.Leading.{accepted-leads}
 use Rattle.live.specs.Picture.{Picture}
 use Rattle.live.specs.Roles.{opening}
 use Rattle.live.specs.Calls.{allowed, answerOf}
-use Rattle.live.specs.Judging.{gateAnswer}
+use Rattle.live.specs.Admitting.{gateAnswer}
 use Rattle.live.proofs.Gate.{Admitted, let-in, turned-away, after}
-use Rattle.live.proofs.Lending.{order-head, order-gives}
+use Rattle.stepping.proofs.Lending.{order-head, order-gives}
 use Rattle.live.proofs.Driving.{opening-allowed, opened}
 use borrow.Author.Needs.{needs}
 use Rattle.live.proofs.open.Statement.{statement}
@@ -79,9 +79,13 @@ mul-place-racks c = let g = gave (c .before .before) in omega (arith, g .few-edg
 place-racks-requires : tie.Need-place-racks-requires
 place-racks-requires c κs = let g = gave (c .before .before .before) in (g .few-racks, omega (arith, g .room))
 
+-- the counts, from where the racks are placed on
+abbrev counts : tie.After-place-racks → tie.After-counts-of
+counts placed = let lent = placed .before in lent .before .before .before
+
 cast-t9 : tie.Need-cast-t9
 cast-t9 c =
-    let g = gave (c .before .before .before .before .before) in
+    let g = gave (counts (c .before)) in
     let few = g .placed-well .few-positions in
     let is = g .positions-are in
     omega (arith, few, is)
@@ -89,7 +93,7 @@ cast-t9 c =
 returns-2 : tie.Need-returns-2
 returns-2 c =
     let placed = c .before in
-    let counted = placed .before .before .before .before in
+    let counted = counts placed in
     let told = counted .before in
     opened (entry (gate told) .args .role) (P (gate told)) (o (gate told)) (t (gate told)) (is-in told) _ _ _ (gave counted) _
     (placed .place-racks .ensures)

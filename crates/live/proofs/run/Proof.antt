@@ -27,6 +27,10 @@ is-in c =
     let gate = c .before .before .before in
     let-in running (a .role) (a .floor) _ _ _ (gate .enter .ensures) _ (c .before .gate .given .1)
 
+-- the gate's acceptance, from where the racks are lent to the judge on: there is a step to run
+abbrev acceptance : tie.After-racks2 → tie.After-known-told
+acceptance lent = lent .before .before .before
+
 returns-2 : tie.Need-returns-2
 returns-2 c =
     let told = c .before .before in
@@ -34,21 +38,21 @@ returns-2 c =
 
 run-lent-requires : tie.Need-run-lent-requires
 run-lent-requires c κs =
-    let told = c .before .before .before in
+    let told = acceptance c in
     let a = start told .args in
     run-lent (a .role) (a .floor) (a .order .now) (a .timetable .now) (is-in told) (omega arith)
 
 returns-3 : tie.Need-returns-3
 returns-3 c =
     let judged = c .before .before in
-    let told = judged .before .before .before .before in
+    let told = acceptance (judged .before) in
     after (c .leave3 .ensures)
     (run-illegal _ _ _ _ (is-in told) (omega arith) (sym (not-true _ (c .before .if2 .taken)) ∙ judged .run-lent .ensures .0))
 
 returns-4 : tie.Need-returns-4
 returns-4 c =
     let judged = c .before in
-    let told = judged .before .before .before .before in
+    let told = acceptance (judged .before) in
     ran-on _ _ _ _ (is-in told) (omega arith) (sym (not-false _ (c .if2 .left)) ∙ judged .run-lent .ensures .0) _
     (judged .run-lent .ensures .1)
 

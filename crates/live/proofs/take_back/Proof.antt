@@ -27,6 +27,10 @@ is-in c =
     let gate = c .before .before .before in
     let-in takingBack (a .role) (a .floor) _ _ _ (gate .enter .ensures) _ (c .before .gate .given .1)
 
+-- the gate's acceptance, from where the racks are lent to the judge on: there is a step to take back
+abbrev acceptance : tie.After-racks2 → tie.After-known-told
+acceptance lent = let there = lent .before .before in there .before .before
+
 returns-2 : tie.Need-returns-2
 returns-2 c =
     let told = c .before .before in
@@ -39,14 +43,14 @@ returns-3 c =
 
 take-back-lent-requires : tie.Need-take-back-lent-requires
 take-back-lent-requires c κs =
-    let told = c .before .before .before .before in
+    let told = acceptance c in
     let a = start told .args in
     take-lent (a .role) (a .floor) (a .order .now) (a .timetable .now) (is-in told) (λ e. omega arith) (omega arith)
 
 returns-4 : tie.Need-returns-4
 returns-4 c =
     let judged = c .before .before in
-    let told = judged .before .before .before .before .before in
+    let told = acceptance (judged .before) in
     after (c .leave4 .ensures)
     (take-illegal _ _ _ _ (is-in told) (λ e. omega arith) (omega arith)
     (sym (not-true _ (c .before .if3 .taken)) ∙ judged .take-back-lent .ensures .0))
@@ -54,7 +58,7 @@ returns-4 c =
 returns-5 : tie.Need-returns-5
 returns-5 c =
     let judged = c .before in
-    let told = judged .before .before .before .before .before in
+    let told = acceptance (judged .before) in
     took-back _ _ _ _ (is-in told) (λ e. omega arith) (omega arith)
     (sym (not-false _ (c .if3 .left)) ∙ judged .take-back-lent .ensures .0) _ (judged .take-back-lent .ensures .1)
 

@@ -25,14 +25,14 @@ there : (c : tie.Else1) → 2 ≤ length (start c .args .short .now)
 there c = short-fits (start c .args .short .now) (right c) .head-there
 
 -- the model and the byte with m are read
+abbrev model : tie.After-wide2 → tie.After-wide
+model c = c .before .before
+
 abbrev tested : tie.After-wide2 → tie.Else1
-tested c = c .before .before .before .before
+tested c = model c .before .before
 
 abbrev lent : tie.After-wide2 → ℕ
 lent c = start (tested c) .args .lent
-
-abbrev model : tie.After-wide2 → tie.After-wide
-model c = c .before .before
 
 head : (c : tie.After-wide2) → ShortHead (start (tested c) .args .short .now) (model c .wide .result) (c .wide2 .result)
 head c = read-head (model c .wide .ensures) (c .wide2 .ensures)
@@ -45,9 +45,9 @@ known : (c : tie.Else3)
     → Known (start (tested (second c)) .args .short .now) (model (second c) .wide .result) (second c .wide2 .result / 2)
 known c = known-model 0 (right (tested (second c))) (head (second c)) (c .before .if2 .left) (c .if3 .left)
 
--- 14 is judged
-abbrev sized : tie.After-racks-sound → tie.After-size-of
-sized c = c .before .before .before .before .before
+-- the racks are lent to the judge of 14
+abbrev sized : tie.After-goals → tie.After-size-of
+sized c = let racks-lent = c .before .before in racks-lent .before .before
 
 returns : tie.Need-returns
 returns c =
@@ -78,14 +78,14 @@ part-racks-sound-start c = let l = there (tested (second (c .before .before))) i
 
 racks-sound-requires : tie.Need-racks-sound-requires
 racks-sound-requires c κs =
-    let size = c .before .before .before .before in
+    let size = sized c in
     let enough = racks-room 0 (known (size .before)) (size .size-of .ensures) in
     (enough .0, (enough .1, enough .2))
 
 returns-4 : tie.Need-returns-4
 returns-4 c =
     let called = c .before in
-    let size = sized called in
+    let size = sized (called .before) in
     judged-racks (lent (second (size .before))) (known (size .before)) (size .size-of .ensures) (called .racks-sound .ensures)
     (not-true _ (c .if4 .taken))
 
@@ -96,14 +96,14 @@ passed-14 c = not-false _ (c .if4 .left)
 returns-5 : tie.Need-returns-5
 returns-5 c =
     let passed = c .before .before in
-    let size = sized (passed .before) in
+    let size = sized (passed .before .before) in
     judged-short (lent (second (size .before))) (known (size .before)) (size .size-of .ensures) (passed .before .racks-sound .ensures)
     (passed-14 passed) (omega arith)
 
 returns-6 : tie.Need-returns-6
 returns-6 c =
     let passed = c .before .before in
-    let size = sized (passed .before) in
+    let size = sized (passed .before .before) in
     judged-sound (lent (second (size .before))) (known (size .before)) (size .size-of .ensures) (passed .before .racks-sound .ensures)
     (passed-14 passed) (omega arith)
 

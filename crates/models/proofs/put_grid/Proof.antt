@@ -41,7 +41,8 @@ put-below-requires c κs = let made = c .before .before .before in
 
 loop-again : tie.Need-loop-again Inv-loop μ-loop
 loop-again c = let lower = c .before .before in
-    let made = lower .before .before .before .before in
+    let lent = lower .before in
+    let made = lent .before .before .before in
     let turn = made .before .before in
     let at = turn .before in
     let start = at .before .before in

@@ -2,7 +2,7 @@
 use Prim.Native.Nat.{_+_, _*_, _/_, _%_}
 use native.Mathlib.Omega.{arith}
 use lib.ListN.{length-set}
-use Rattle.field.proofs.HeadLaws.{written-head}
+use Rattle.recording.proofs.HeadLaws.{written-head}
 use Rattle.models.specs.Writing.{orderHead}
 use borrow.Author.Needs.{needs}
 use Rattle.models.proofs.put_head.Statement.{statement}

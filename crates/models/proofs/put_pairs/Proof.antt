@@ -18,7 +18,9 @@ loop-holds c = let a = c .before .before .args in (omega arith, copy-first (a .j
 
 add-put-pair : tie.Need-add-put-pair Inv-loop μ-loop
 add-put-pair c =
-    let start = c .before .before .before .before .before .before in
+    let turn = c .before .before in
+    let at = turn .before in
+    let start = at .before .before .before in
     let a = start .args in
     let room = start .pre .1 .room in
     let many = length-pairs (a .from .now) 0 (a .m) in

@@ -15,9 +15,13 @@ put-grid-requires c κs = let start = c .before .before .before in
       room-front (gridEdges (a .rows) (a .columns)) (pairs (a .racks .now) 0 (a .m)) (start .pre .1),
     )
 
+-- the call, from where the grid's edges are put on
+abbrev entry : tie.After-put-grid → tie.Start
+entry made = let lent = made .before in lent .before .before .before
+
 put-pairs-requires : tie.Need-put-pairs-requires
 put-pairs-requires c κs = let made = c .before .before .before in
-    let start = made .before .before .before .before in
+    let start = entry made in
     let a = start .args in (
       omega arith,
       room-next (gridEdges (a .rows) (a .columns)) (pairs (a .racks .now) 0 (a .m)) (made .put-grid .ensures) (start .pre .1),
@@ -25,8 +29,9 @@ put-pairs-requires c κs = let made = c .before .before .before in
 
 returns : tie.Need-returns
 returns c = let racks = c .before .before in
-    let made = racks .before .before .before .before in
-    let a = made .before .before .before .before .args in
+    let lent = racks .before in
+    let made = lent .before .before .before in
+    let a = entry made .args in
     put-then (gridEdges (a .rows) (a .columns)) (pairs (a .racks .now) 0 (a .m)) (made .put-grid .ensures) (racks .put-pairs .ensures)
 
 pub put-tail-spec : {M : Type 1} → statement M

@@ -14,7 +14,7 @@ head-there c = short-fits (c .args .short .now) (c .pre .0 .0) .head-there
 
 -- the model is read
 abbrev entry : tie.After-wide → tie.Start
-entry c = c .before .before .before .before
+entry c = let order-known = c .before .before in order-known .before .before
 
 -- the byte with m is read
 abbrev model : tie.After-wide2 → tie.After-wide
@@ -76,7 +76,8 @@ put-head-requires c κs =
 returns : tie.Need-returns
 returns c =
     let headed = c .before .before in
-    let made = headed .before .before .before .before in
+    let lent = headed .before in
+    let made = lent .before .before .before in
     let sized = size made in
     out-written (begun (sized .before)) (sized .size-of .ensures) _ (made .put-tail .ensures) (headed .put-head .ensures)
 

@@ -30,20 +30,24 @@ sub-racks-sound c = tail-there (gave c .head)
 part-racks-sound-start : tie.Need-part-racks-sound-start
 part-racks-sound-start c = tail-there (gave c .head)
 
+-- the edge reader's counts, before the tables of the racks are lent
+abbrev known : tie.After-goals → tie.After-known-told
+known lent = lent .before .before .before
+
 racks-sound-requires : tie.Need-racks-sound-requires
 racks-sound-requires c κs =
-    let g = gave (c .before .before .before) .head in
+    let g = gave (known c) .head in
     (omega arith, (omega arith, tail-room g))
 
 returns-2 : tie.Need-returns-2
 returns-2 c =
     let judged = c .before in
-    racks-wrong (gave (judged .before .before .before .before)) (judged .racks-sound .ensures) (not-true _ (c .if1 .taken))
+    racks-wrong (gave (known (judged .before))) (judged .racks-sound .ensures) (not-true _ (c .if1 .taken))
 
 returns-3 : tie.Need-returns-3
 returns-3 c =
     let judged = c .before in
-    racks-right (gave (judged .before .before .before .before)) (judged .racks-sound .ensures) (not-false _ (c .if1 .left))
+    racks-right (gave (known (judged .before))) (judged .racks-sound .ensures) (not-false _ (c .if1 .left))
 
 pub read-spec : {M : Type 1} → statement M
 read-spec =

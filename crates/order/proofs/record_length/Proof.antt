@@ -2,7 +2,7 @@
 use mathlib.Core.Path.{sym}
 use native.Mathlib.Omega.{arith}
 use Rattle.field.specs.Units.{recordLength}
-use Rattle.field.proofs.FrontLaws.{whole-as, whole-none}
+use Rattle.recording.proofs.FrontLaws.{whole-as, whole-none}
 use Rattle.order.specs.Order.{unitCount}
 use Rattle.order.specs.RecordLength.{orderLength, wholeOrderLength}
 use borrow.Author.Needs.{needs}

@@ -19,13 +19,17 @@ use Rattle.parity.proofs.Layers.{order-refused, not-one, starts-stand, 
 use Rattle.parity.proofs.one_vacancy.Statement.{statement}
 use Rattle.parity.proofs.one_vacancy.Tie as tie
 
+-- the entry, before the rows and the racks' tables are lent to the order reader
+abbrev start : tie.After-decode → tie.Start
+start called = let rows-lent = called .before .before .before in rows-lent .before .before
+
 -- behind the order reader's acceptance: the call, the counts that it gave, and what that tells
 module _ (c : tie.After-known-told) where
   abbrev called : tie.After-decode
   called = c .before .before .before
 
   abbrev bytes : List ℕ
-  bytes = called .before .before .before .before .before .args .order .now
+  bytes = start called .args .order .now
 
   abbrev told : Counts
   told = c .before .below .given .0 .0
@@ -35,11 +39,14 @@ module _ (c : tie.After-known-told) where
 
 -- behind 21: the floor is bi-connected, and one position is vacant
 module _ (c : tie.Else2) where
+  abbrev vacant : tie.Else1
+  vacant = c .before .before .before
+
   abbrev known : tie.After-known-told
-  known = c .before .before .before .before
+  known = vacant .before
 
   one : told known .positions ≡ told known .racks + 1
-  one = c .before .before .before .if1 .left
+  one = vacant .if1 .left
 
   whole : BiConnected (told known .positions) (Edge (called known .decode .last .1 .0))
   whole = c .before .is-biconnected .ensures .0 (not-false _ (c .if2 .left))
@@ -83,7 +90,9 @@ returns-4 c =
 
 is-contrary-requires : tie.Need-is-contrary-requires
 is-contrary-requires c κs =
-    let joined = c .before .before .before .before .before .before in
+    let two = c .before .before in
+    let coloured = two .before .before in
+    let joined = coloured .before .before in
     let k = known joined in
     let racks = called k .decode .ensures .1 .1 in
     let three = whole joined .three in (
@@ -96,23 +105,25 @@ is-contrary-requires c κs =
 
 returns-5 : tie.Need-returns-5
 returns-5 c =
-    let two = c .before .before .before .before in
+    let asked = c .before in
+    let two = asked .before .before .before in
     let coloured = two .before .before in
     let joined = coloured .before .before in
     let k = known joined in
     let tables = called k .decode .ensures .1 in
     contrary (gave k) (one joined) (tables .0) (whole joined) (coloured .two-colours .ensures) (not-false _ (two .if3 .left))
-    (tables .1 .0) (tables .1 .1) (c .before .is-contrary .ensures) (c .if4 .taken)
+    (tables .1 .0) (tables .1 .1) (asked .is-contrary .ensures) (c .if4 .taken)
 
 returns-6 : tie.Need-returns-6
 returns-6 c =
-    let two = c .before .before .before .before in
+    let asked = c .before in
+    let two = asked .before .before .before in
     let coloured = two .before .before in
     let joined = coloured .before .before in
     let k = known joined in
     let tables = called k .decode .ensures .1 in
     agreeing (gave k) (one joined) (tables .0) (whole joined) (coloured .two-colours .ensures) (not-false _ (two .if3 .left))
-    (tables .1 .0) (tables .1 .1) (c .before .is-contrary .ensures) (c .if4 .left)
+    (tables .1 .0) (tables .1 .1) (asked .is-contrary .ensures) (c .if4 .left)
 
 pub one-vacancy-spec : {M : Type 1} → statement M
 one-vacancy-spec =

@@ -6,7 +6,7 @@ use native.Mathlib.Omega.{arith}
 use native.Mathlib.Nat.{div-le-self}
 use borrow.Author.Needs.{needs}
 use lib.ListN.{length}
-use Rattle.passing.specs.Rows.{KeepsLeft}
+use Rattle.window.specs.Rows.{KeepsLeft}
 use Rattle.passing.proofs.StretchLaws.{end-few, room-few}
 use Rattle.passing.proofs.Stretching.{Through, through-first, through-skip, through-early, through-pass, through-last}
 use Rattle.passing.proofs.pass_plan.Statement.{statement}
@@ -24,7 +24,7 @@ abbrev μ-loop : tie.MeasureT-loop
 -- a turn's arguments, and what is known of it
 module _ (turn : tie.At-loop Inv-loop μ-loop) where
   abbrev entry : tie.Start Inv-loop μ-loop
-  entry = turn .before .before .before .before
+  entry = let lent = turn .before in lent .before .before .before
 
   abbrev stretches : ℕ
   stretches = length (entry .args .due .now)
@@ -40,8 +40,11 @@ module _ (turn : tie.At-loop Inv-loop μ-loop) where
 
 -- the row copied out of the book
 module _ (copied : tie.After-copy-row Inv-loop μ-loop) where
+  abbrev due : tie.Then1 Inv-loop μ-loop
+  due = copied .before .before .before
+
   abbrev ended : tie.After-earlier Inv-loop μ-loop
-  ended = copied .before .before .before .before .before
+  ended = due .before .before
 
   abbrev turn : tie.At-loop Inv-loop μ-loop
   turn = ended .before .before
@@ -55,12 +58,17 @@ module _ (copied : tie.After-copy-row Inv-loop μ-loop) where
   row-size : length row ≡ 128
   row-size = copied .copy-row .ensures .size
 
--- the row that the pass over the stretch leaves
-abbrev copied : tie.After-fill Inv-loop μ-loop → tie.After-copy-row Inv-loop μ-loop
-copied filled = filled .before .before .before .before .before
+-- the row was copied, before it is lent to the pass over the stretch
+abbrev copied : tie.After-fill-arg2 Inv-loop μ-loop → tie.After-copy-row Inv-loop μ-loop
+copied lent = let row-lent = lent .before .before in row-lent .before .before
 
+-- the pass over the stretch, before its row is stored in the book
+abbrev filling : tie.After-copy-row2 Inv-loop μ-loop → tie.After-fill Inv-loop μ-loop
+filling stored = stored .before .before .before
+
+-- the row that the pass over the stretch leaves
 left-size : (filled : tie.After-fill Inv-loop μ-loop) → length (filled .fill .last .1 .1 .1 .1 .1 .0) ≡ 128
-left-size filled = filled .fill .ensures .0 .size ∙ row-size (copied filled)
+left-size filled = filled .fill .ensures .0 .size ∙ row-size (copied (filled .before))
 
 add-size : tie.Need-add-size Inv-loop μ-loop
 add-size c = let s = c .before .before .before .args in omega (arith, div-le-self (s .k) (length (s .due .now)))
@@ -89,7 +97,7 @@ add-earlier c =
 
 fill-requires : tie.Need-fill-requires Inv-loop μ-loop
 fill-requires c κs =
-    let out = c .before .before .before .before in
+    let out = copied c in
     let s = entry (turn out) .args in
     let l = turn out .loop in
     let end = ended out .earlier in (
@@ -108,17 +116,17 @@ slice-aggregate-copy-row-2 c = sym (left-size (c .before))
 
 copy-row-requires-2 : tie.Need-copy-row-requires-2 Inv-loop μ-loop
 copy-row-requires-2 c κs =
-    let round = turn (copied (c .before .before)) in
+    let round = turn (copied (c .before .before .before)) in
     (omega (arith, left-size (c .before .before)), omega (arith, through round .rows, round .loop .inv .0))
 
 mul-due : tie.Need-mul-due Inv-loop μ-loop
 mul-due c =
-    let round = turn (copied (c .before .before .before .before .before)) in
+    let round = turn (copied (filling (c .before .before) .before)) in
     omega (arith, through round .stretches)
 
 loop-again : tie.Need-loop-again Inv-loop μ-loop
 loop-again c =
-    let stored = c .before .before .before in let filled = stored .before .before .before in let out = copied filled in
+    let stored = c .before .before .before in let filled = filling stored in let out = copied (filled .before) in
     let s = entry (turn out) .args in
     let l = turn out .loop in (
       omega (arith, goes-on out),

@@ -31,8 +31,12 @@ without-requires c κs = let at-loop = c .before .before .before in let pre = at
     omega (arith, pre .0 .small, following-below (pre .0) (pre .1) (at-loop .loop .inv (pre .0) (pre .1)))
 
 add-k : tie.Need-add-k Inv-loop μ-loop
-add-k c = let at-loop = c .before .before .before .before in let pre = at-loop .before .before .pre in let small = pre .0 .small in omega
-    arith
+add-k c =
+    let found = c .before .before in
+    let at-loop = found .before .before in
+    let pre = at-loop .before .before .pre in
+    let small = pre .0 .small in
+    omega arith
 
 loop-again : tie.Need-loop-again Inv-loop μ-loop
 loop-again c =

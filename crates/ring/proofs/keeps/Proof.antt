@@ -52,7 +52,7 @@ returns c =
     omega (arith, c .if2 .taken, second .distance4 .ensures, to .distance2 .ensures))
 
 add-q : tie.Need-add-q Inv-loop μ-loop
-add-q c = let e = c .before .before .before .before .before .before in omega (arith, e .pre .0)
+add-q c = let at-loop = c .before .before .before in let e = at-loop .before .before .before in omega (arith, e .pre .0)
 
 loop-less : tie.Need-loop-less Inv-loop μ-loop
 loop-less c = omega (arith, c .before .before .loop-test .taken)

@@ -37,7 +37,7 @@ cast-rack : tie.Need-cast-rack Inv-loop μ-loop
 cast-rack c = let at-loop = c .before .before .before in omega (arith, at-loop .before .pre .small (at-loop .loop .i) (omega arith))
 
 cast-place : tie.Need-cast-place Inv-loop μ-loop
-cast-place c = let few = c .before .before .before .before .pre .few in omega arith
+cast-place c = let at-loop = c .before .before .before in let few = at-loop .before .pre .few in omega arith
 
 array-write-place : tie.Need-array-write-place Inv-loop μ-loop
 array-write-place c = let at-loop = c .before .before .before in at-loop .before .pre .small (at-loop .loop .i) (omega arith)

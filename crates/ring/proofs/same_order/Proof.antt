@@ -39,7 +39,7 @@ returns c =
     false≢true (sym (not-true _ (c .if1 .taken)) ∙ kept .keeps .ensures .1 all))
 
 add-r : tie.Need-add-r Inv-loop μ-loop
-add-r c = let e = c .before .before .before .before in omega (arith, e .pre .0)
+add-r c = let at-loop = c .before .before .before in omega (arith, at-loop .before .pre .0)
 
 loop-less : tie.Need-loop-less Inv-loop μ-loop
 loop-less c = omega (arith, c .before .before .loop-test .taken)

@@ -7,7 +7,7 @@ use Rattle.answers.specs.Answer.{accepted}
 use Rattle.answers.proofs.AnswerLaws.{passed-up}
 use Rattle.plan.specs.Plan.{planAnswer}
 use Rattle.plan.specs.Verdict.{answerOf as planAnswerOf}
-use Rattle.plan.proofs.Accepted.{count-below, head-there, tail-fits}
+use Rattle.plan_check.proofs.Accepted.{count-below, head-there, tail-fits}
 use Rattle.scheduling.proofs.Making.{steps-refused, steps-counted}
 use borrow.Author.Needs.{needs}
 use Rattle.scheduling.proofs.count_steps.Statement.{statement}

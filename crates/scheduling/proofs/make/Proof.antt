@@ -9,23 +9,25 @@ use Rattle.plan.specs.Plan.{planAnswer}
 use native.Mathlib.Omega.{arith}
 use Rattle.answers.proofs.AnswerLaws.{passed-up}
 use Rattle.plan.specs.Verdict.{answerOf as planAnswerOf}
-use Rattle.plan.proofs.Accepted.{count-below, head-there, tail-fits}
+use Rattle.plan_check.proofs.Accepted.{count-below, head-there, tail-fits}
 use Rattle.scheduling.proofs.Making.{maker-refused, maker-short, maker-room, head-room, maker-made}
 use borrow.Author.Needs.{needs}
 use Rattle.scheduling.proofs.make.Statement.{statement}
 use Rattle.scheduling.proofs.make.Tie as tie
 
+-- the call, from where its plan is checked on
+abbrev called : tie.After-check → tie.Start
+called checked = let known = checked .before in known .before .before .before
+
 returns : tie.Need-returns
 returns c =
-    let check = c .before .before .before in let shared-slice-known = check .before .before .before in
-    let entry = shared-slice-known .before in
+    let check = c .before .before .before in let entry = called check in
     maker-refused (entry .args .order .now) (entry .args .plan .now) (entry .args .buffer .now) _ _ _ _ (check .check .ensures)
     (ap planAnswerOf (c .before .enum-told .given .1)) (passed-up (c .passed-up .ensures))
 
 mul-if1 : tie.Need-mul-if1
 mul-if1 c =
-    let check = c .before .before .before in let shared-slice-known = check .before .before .before in
-    let entry = shared-slice-known .before in
+    let check = c .before .before .before in let entry = called check in
     omega (
       arith,
       count-below (entry .args .order .now) (entry .args .plan .now) (c .before .below .given .0 .0)
@@ -34,8 +36,7 @@ mul-if1 c =
 
 add-if1 : tie.Need-add-if1
 add-if1 c =
-    let check = c .before .before .before in let shared-slice-known = check .before .before .before in
-    let entry = shared-slice-known .before in
+    let check = c .before .before .before in let entry = called check in
     omega (
       arith,
       count-below (entry .args .order .now) (entry .args .plan .now) (c .before .below .given .0 .0)
@@ -44,8 +45,7 @@ add-if1 c =
 
 returns-2 : tie.Need-returns-2
 returns-2 c =
-    let below = c .before .before in let check = below .before .before in
-    let shared-slice-known = check .before .before .before in let entry = shared-slice-known .before in
+    let below = c .before .before in let check = below .before .before in let entry = called check in
     maker-short (entry .args .order .now) (entry .args .plan .now) (entry .args .buffer .now) (below .below .given .0 .0)
     (ap planAnswerOf (sym (below .below .given .1)) ∙ check .check .ensures) (omega arith)
 
@@ -58,7 +58,7 @@ module _ (fits : tie.Else1) where
   checked = below .before .before
 
   abbrev entry : tie.Start
-  entry = checked .before .before .before .before
+  entry = called checked
 
   abbrev o : List ℕ
   o = entry .args .order .now
@@ -107,7 +107,7 @@ put-head-requires c κs =
 returns-3 : tie.Need-returns-3
 returns-3 c =
     let put = c .before .before in
-    let made = put .before .before .before .before in
+    let lent = put .before in let made = lent .before .before .before in
     let named = made .before .before .before in
     let f = named .before in
     maker-made (o f) (p f) (B f) (k f) (accepted-is f) (named .names-racks .result) (named .names-racks .ensures) (f .if1 .left)

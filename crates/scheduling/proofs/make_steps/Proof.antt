@@ -5,8 +5,8 @@ use borrow.Author.Needs.{needs}
 use lib.Dec.{lit<}
 use Rattle.field.specs.Listed.{movesAt}
 use Rattle.field.proofs.ListedLaws.{length-moves}
-use Rattle.passing.specs.Filling.{latest}
-use Rattle.passing.proofs.FillingLaws.{latest-few}
+use Rattle.window.specs.Filling.{latest}
+use Rattle.window.proofs.FillingLaws.{latest-few}
 use Rattle.passing.proofs.Stretching.{begun-first, kept-first}
 use Rattle.scheduling.proofs.Windowing.{windows-none, windows-all}
 use Rattle.scheduling.proofs.make_steps.Statement.{statement}
@@ -23,14 +23,16 @@ returns c =
 
 make-windows-requires : tie.Need-make-windows-requires
 make-windows-requires c κs =
-    let some = c .before .before .before .before in let start = some .before .before .before in let s = start .args in (
+    let ordinary = c .before .before .before in let some = ordinary .before in
+    let start = some .before .before .before in let s = start .args in (
       (omega (arith, some .if1 .left), omega arith, omega arith, start .pre .2),
       (lit< tt, begun-first 1, kept-first (s .named) (s .tail .now) (s .k) 1),
     )
 
 make-windows-requires-2 : tie.Need-make-windows-requires-2
 make-windows-requires-2 c κs =
-    let some = c .before .before .before .before in let start = some .before .before .before in let s = start .args in (
+    let large = c .before .before .before in let some = large .before in
+    let start = some .before .before .before in let s = start .args in (
       (omega (arith, some .if1 .left), omega arith, omega arith, start .pre .2),
       (lit< tt, begun-first 128, kept-first (s .named) (s .tail .now) (s .k) 128),
     )

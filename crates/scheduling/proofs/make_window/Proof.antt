@@ -8,10 +8,10 @@ use mir.Syntax.{w64}
 use mir.Val.{Fits}
 use Rattle.field.specs.Listed.{movesAt}
 use Rattle.field.proofs.ListedLaws.{length-moves, moves-at-below}
-use Rattle.passing.specs.Filling.{latest}
+use Rattle.window.specs.Filling.{latest}
 use Rattle.passing.specs.Stretches.{Kept}
-use Rattle.passing.proofs.FillingLaws.{empty-is}
-use Rattle.passing.proofs.Leaving.{left-empty}
+use Rattle.window.proofs.FillingLaws.{empty-is}
+use Rattle.window.proofs.Leaving.{left-empty}
 use Rattle.scheduling.proofs.Windowing.{counted-latest, filled-few, filled-fit, filled-room, filled-wrote}
 use Rattle.scheduling.proofs.make_window.Statement.{statement}
 use Rattle.scheduling.proofs.make_window.Tie as tie
@@ -27,16 +27,24 @@ module _ (n : ℕ) (few : 4096 * n < 2 ^ 22) where
   next-steps : 4096 * n + 4096 ≡ 4096 * (n + 1)
   next-steps = omega arith
 
+-- the call, from where all that it is lent is known on
+abbrev called : tie.After-struct-known → tie.Start
+called known = let book-known = known .before .before .before in book-known .before .before
+
+-- what the call is lent, from where it lends the pass a window and a room for what leaves
+abbrev known : tie.After-leaving → tie.After-struct-known
+known lent = let window-lent = lent .before in window-lent .before .before .before
+
 mul-first : tie.Need-mul-first
-mul-first c = let start = c .before .before .before .before .before in step-fits (start .args .done .windows) (start .pre .0 .3)
+mul-first c = let start = called c in step-fits (start .args .done .windows) (start .pre .0 .3)
 
 -- what the pass has found
 module _ (counted : tie.After-later) where
   abbrev passed : tie.After-pass-plan
-  passed = counted .before .before .before .before .before
+  passed = let due-known = counted .before in let book-known = due-known .before .before in book-known .before .before
 
   abbrev entry : tie.Start
-  entry = passed .before .before .before .before .before .before .before .before .before .before
+  entry = called (known (passed .before))
 
   abbrev first : ℕ
   first = 4096 * entry .args .done .windows
@@ -68,7 +76,7 @@ module _ (counted : tie.After-later) where
 
 pass-plan-requires : tie.Need-pass-plan-requires
 pass-plan-requires c κs =
-    let start = c .before .before .before .before .before .before .before .before .before in
+    let start = called (known c) in
     let pre = start .pre in
     ((pre .0 .1, pre .0 .2, pre .0 .3), ((pre .1 .0 .0, pre .1 .0 .1), empty-is))
 
@@ -96,7 +104,7 @@ module _ (c : tie.After-struct-known2) where
   wrote = c .before .before .before
 
   abbrev sized : tie.After-rows-of
-  sized = wrote .before .before .before .before
+  sized = let lent = wrote .before in lent .before .before .before
 
   abbrev found : tie.After-later
   found = sized .before

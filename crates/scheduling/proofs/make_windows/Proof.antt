@@ -7,10 +7,10 @@ use native.Mathlib.Omega.{arith}
 use lib.ListN.{length}
 use Rattle.field.specs.Listed.{movesAt}
 use Rattle.field.proofs.ListedLaws.{length-moves}
-use Rattle.passing.specs.Filling.{latest}
+use Rattle.window.specs.Filling.{latest}
 use Rattle.passing.specs.Stretches.{Kept}
 use Rattle.scheduling.specs.Windows.{Counted}
-use Rattle.passing.proofs.FillingLaws.{latest-few}
+use Rattle.window.proofs.FillingLaws.{latest-few}
 use Rattle.scheduling.proofs.Windowing.{counted-first, counted-later, counted-on, counted-last, WroteWindows, windows-none}
 use Rattle.scheduling.proofs.Windowing.{windows-length, windows-room, windows-more, windows-all}
 use Rattle.scheduling.proofs.make_windows.Statement.{statement}
@@ -25,9 +25,13 @@ Inv-loop tail named k book₀ due₀ buffer₀ done₀ book due buffer done =
 abbrev μ-loop : tie.MeasureT-loop
 μ-loop tail named k book₀ due₀ buffer₀ done₀ book due buffer done = latest (movesAt named tail 0 k) / 4096 + 1 - done .windows
 
+-- the call, from where all that it is lent is known on
+abbrev called : tie.After-slice-known3 Inv-loop μ-loop → tie.Start Inv-loop μ-loop
+called known = let book-known = known .before .before in book-known .before .before
+
 module _ (turn : tie.At-loop Inv-loop μ-loop) where
   abbrev entry : tie.Start Inv-loop μ-loop
-  entry = turn .before .before .before .before .before
+  entry = called (turn .before)
 
   -- the plan's moves
   abbrev moves : List (ℕ × ℕ)
@@ -45,7 +49,7 @@ module _ (turn : tie.At-loop Inv-loop μ-loop) where
 
 loop-holds : tie.Need-loop-holds Inv-loop μ-loop
 loop-holds c =
-    let start = c .before .before .before .before in let s = start .args in
+    let start = called c in let s = start .args in
     let ms = movesAt (s .named) (s .tail .now) 0 (s .k) in (
       omega arith,
       counted-first ms (s .due .now) (start .pre .1 .1),
@@ -56,10 +60,18 @@ loop-holds c =
 mul-if1 : tie.Need-mul-if1 Inv-loop μ-loop
 mul-if1 c = omega (arith, c .before .loop .inv .0, few (c .before))
 
+-- the turn goes on with one more window, which is lent the buffers
+module _ (lent : tie.After-make-window-arg3 Inv-loop μ-loop) where
+  abbrev more : tie.Then1 Inv-loop μ-loop
+  more = lent .before .before .before
+
+  abbrev begun : tie.At-loop Inv-loop μ-loop
+  begun = more .before .before .before
+
 make-window-requires : tie.Need-make-window-requires Inv-loop μ-loop
 make-window-requires c κs =
-    let turn = c .before .before .before .before .before .before in let start = entry turn in
-    let going = c .before .before .before .if1 .taken in
+    let turn = begun c in let start = entry turn in
+    let going = more c .if1 .taken in
     let kept = turn .loop .inv .3 in (
       (omega arith, omega arith, omega arith, omega (arith, on turn going, few turn)),
       (
@@ -74,22 +86,23 @@ make-window-requires c κs =
 
 loop-less : tie.Need-loop-less Inv-loop μ-loop
 loop-less c =
-    let made = c .before .before .before .before .before .before in
-    let turn = made .before .before .before .before .before .before .before in
-    omega (arith, made .make-window .ensures .0 .0, on turn (made .before .before .before .before .if1 .taken))
+    let due-known = c .before .before in let book-known = due-known .before .before in
+    let made = book-known .before .before in
+    omega (arith, made .make-window .ensures .0 .0, on (begun (made .before)) (more (made .before) .if1 .taken))
 
 loop-again : tie.Need-loop-again Inv-loop μ-loop
 loop-again c =
-    let made = c .before .before .before .before .before .before in let more = made .make-window in
-    let turn = made .before .before .before .before .before .before .before in let start = entry turn in
-    let going = made .before .before .before .before .if1 .taken in
+    let due-known = c .before .before in let book-known = due-known .before .before in
+    let made = book-known .before .before in let make = made .make-window in
+    let turn = begun (made .before) in let start = entry turn in
+    let going = more (made .before) .if1 .taken in
     let kept = turn .loop .inv .3 in
-    rw (more .ensures .0 .0) (
+    rw (make .ensures .0 .0) (
       on turn going,
-      counted-later (moves turn) _ (more .result .steps) (turn .loop .done .windows) (more .ensures .0 .1),
+      counted-later (moves turn) _ (make .result .steps) (turn .loop .done .windows) (make .ensures .0 .1),
       windows-more (moves turn) (start .args .buffer .now) (start .pre .0 .3) (turn .loop .buffer) (turn .loop .done .next)
-          (turn .loop .done .windows) (turn .loop .inv .2) (on turn going) (more .result .next) _ (more .ensures .1),
-      rw (kept .stretches, more .ensures .0 .0) at (more .ensures .0 .2),
+          (turn .loop .done .windows) (turn .loop .inv .2) (on turn going) (make .result .next) _ (make .ensures .1),
+      rw (kept .stretches, make .ensures .0 .0) at (make .ensures .0 .2),
     )
 
 same-length : tie.Need-same-length Inv-loop μ-loop

@@ -5,6 +5,10 @@ use Rattle.season.proofs.SeasonLaws.{order-inside, no-order, no-timetab
 use Rattle.season.proofs.find_pair.Statement.{statement}
 use Rattle.season.proofs.find_pair.Tie as tie
 
+-- the order's length, which is asked for before the timetable's
+abbrev order-measured : tie.After-record-length2 → tie.After-record-length
+order-measured timetable-measured = timetable-measured .before .before .before
+
 returns : tie.Need-returns
 returns c = let order = c .before .record-length in no-order _ (order .result) (order .ensures) (search needs)
 
@@ -24,20 +28,20 @@ part-record-length-start c =
 returns-2 : tie.Need-returns-2
 returns-2 c =
     let timetable = c .before .record-length2 in
-    let order = c .before .before .before .before .record-length in
+    let order = order-measured (c .before) .record-length in
     no-timetable _ (order .result) (timetable .result) (order .ensures) (timetable .ensures) (search needs)
 
 add-t6 : tie.Need-add-t6
 add-t6 c =
     let timetable = c .before .record-length2 in
-    let order = c .before .before .before .before .record-length in
+    let order = order-measured (c .before) .record-length in
     let inside = within _ (order .result) (timetable .result) (order .ensures) (timetable .ensures) in
     search needs
 
 returns-3 : tie.Need-returns-3
 returns-3 c =
     let timetable = c .before .record-length2 in
-    let order = c .before .before .before .before .record-length in
+    let order = order-measured (c .before) .record-length in
     pair-found _ (order .result) (timetable .result) (order .ensures) (timetable .ensures) (search needs) (search needs)
 
 pub find-pair-spec : {M : Type 1} → statement M

@@ -37,8 +37,8 @@ slice-aggregate-count-pair c =
 
 loop-less : tie.Need-loop-less Inv-loop μ-loop
 loop-less c =
-    let else = c .before .before .before in
-    let found = else .before .find-pair .ensures in
+    let whole-pair = c .before .before .before in
+    let found = whole-pair .before .find-pair .ensures in
     let ordered = found .ordered in
     let inside = found .inside in
     omega arith
@@ -46,7 +46,8 @@ loop-less c =
 loop-again : tie.Need-loop-again Inv-loop μ-loop
 loop-again c =
     let counted = c .count-pair in
-    let find-pair = c .before .before .before .before in
+    let whole-pair = c .before .before .before in
+    let find-pair = whole-pair .before in
     let test = find-pair .before .before .before in
     next (test .before .loop .inv) (test .loop-test .taken) (find-pair .before .before .if1 .left) (find-pair .find-pair .ensures)
     (counted .result) (counted .ensures .1) (search needs) (counted .ensures .0)

@@ -7,12 +7,20 @@ use Rattle.answers.specs.Answer.{accepted}
 use Rattle.answers.proofs.AnswerLaws.{passed-up}
 use Rattle.plan.specs.Plan.{planAnswer}
 use Rattle.plan.specs.Verdict.{answerOf as planAnswerOf}
-use Rattle.plan.proofs.Accepted.{count-below, head-there, tail-fits}
+use Rattle.plan_check.proofs.Accepted.{count-below, head-there, tail-fits}
 use Rattle.shortening.proofs.ShortenerLaws.{shortener-refused, shortener-short}
 use Rattle.shortening.proofs.ShortenerLaws.{part-head, part-back, part-room, few-kept, shortener-made}
 use borrow.Author.Needs.{needs}
 use Rattle.shortening.proofs.shorten.Statement.{statement}
 use Rattle.shortening.proofs.shorten.Tie as tie
+
+-- the entry, behind the plan checker and what is known of the slices
+abbrev started : tie.After-check → tie.Start
+started call = let slices-known = call .before in slices-known .before .before .before
+
+-- where the kept moves are written, behind the buffer that comes back
+abbrev moves-written : tie.After-spare-bits → tie.After-shorten-moves
+moves-written spare = let buffer-back = spare .before .before in buffer-back .before .before
 
 -- what is known once the plan is accepted
 
@@ -20,7 +28,7 @@ abbrev checked : tie.After-known-told → tie.After-check
 checked c = c .before .before .before
 
 abbrev start : tie.After-known-told → tie.Start
-start c = checked c .before .before .before .before
+start c = started (checked c)
 
 abbrev order : tie.After-known-told → List ℕ
 order c = start c .args .order .now
@@ -41,7 +49,7 @@ returns : tie.Need-returns
 returns c =
     let told = c .before in
     let call = told .before .before in
-    let entry = call .before .before .before .before .args in
+    let entry = started call .args in
     shortener-refused (entry .order .now) (entry .plan .now) (entry .buffer .now) _ _ _ _ (call .check .ensures)
     (ap planAnswerOf (told .enum-told .given .1)) (passed-up (c .passed-up .ensures))
 
@@ -86,7 +94,7 @@ shorten-moves-requires c κs =
 
 put-head-requires : tie.Need-put-head-requires
 put-head-requires c κs =
-    let wrote = c .before .before .before .before in
+    let wrote = moves-written c in
     let named = wrote .before .before .before in
     let else = named .before in
     let told = else .before in
@@ -98,7 +106,7 @@ returns-3 : tie.Need-returns-3
 returns-3 c =
     let put = c .before .before in
     let spare = put .before in
-    let wrote = spare .before .before .before .before in
+    let wrote = moves-written spare in
     let named = wrote .before .before .before in
     let else = named .before in
     let told = else .before in

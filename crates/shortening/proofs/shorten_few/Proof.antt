@@ -1,6 +1,6 @@
 -- `shortening::shorten_few` meets its contract: its tables have room for the moves, and mark none at first. Assumes nothing.
 use native.Mathlib.Omega.{arith}
-use Rattle.shortening.proofs.MarkLaws.{none-kept, room-for}
+use Rattle.cancelling.proofs.MarkLaws.{none-kept, room-for}
 use borrow.Author.Needs.{needs}
 use Rattle.shortening.proofs.shorten_few.Statement.{statement}
 use Rattle.shortening.proofs.shorten_few.Tie as tie

@@ -4,9 +4,9 @@ use mathlib.Core.List.{[]}
 use mathlib.Core.Path.{_≡_, refl, _∙_}
 use native.Mathlib.Omega.{arith}
 use lib.ListN.{length}
-use Rattle.shortening.specs.Stack.{laid}
-use Rattle.shortening.specs.Looking.{listedOf, stackOf, Packed}
-use Rattle.shortening.proofs.LookingLaws.{room-fewer, bytes-fewer}
+use Rattle.cancelling.specs.Stack.{laid}
+use Rattle.cancelling.specs.Looking.{listedOf, stackOf, Packed}
+use Rattle.cancelling.proofs.LookingLaws.{room-fewer, bytes-fewer}
 use Rattle.shortening.proofs.WritingLaws.{packed-none, packed-few, stack-ahead}
 use Rattle.shortening.proofs.write_kept.Statement.{statement}
 use Rattle.shortening.proofs.write_kept.Tie as tie
@@ -18,13 +18,17 @@ Inv-loop tail named k marks room₀ count₀ i₀ room count i =
 abbrev μ-loop : tie.MeasureT-loop
 μ-loop tail named k marks room₀ count₀ i₀ room count i = k - i
 
+-- the entry, behind what is known of the slices
+abbrev started : tie.At-loop Inv-loop μ-loop → tie.Start Inv-loop μ-loop
+started turn = let room-known = turn .before in room-known .before .before .before
+
 loop-holds : tie.Need-loop-holds Inv-loop μ-loop
 loop-holds c = (omega arith, refl, unfold laid stackOf in packed-none _ (c .before .before .before .args .room .now))
 
 write-one-requires : tie.Need-write-one-requires Inv-loop μ-loop
 write-one-requires c κs =
     let turn = c .before .before in
-    let start = turn .before .before .before .before in
+    let start = started turn in
     let entry = start .args in
     let moves = listedOf (entry .named) (entry .tail .now) in
     let next = turn .loop .i + 1 in
@@ -41,7 +45,7 @@ loop-again : tie.Need-loop-again Inv-loop μ-loop
 loop-again c =
     let wrote = c .before .before .before in
     let turn = wrote .before .before .before in
-    let entry = turn .before .before .before .before .args in
+    let entry = started turn .args in
     let moves = listedOf (entry .named) (entry .tail .now) in
     let inv = turn .loop .inv in
     let on = c .ahead .ensures in
@@ -57,7 +61,7 @@ same-length c = c .before .loop .inv .1
 returns : tie.Need-returns Inv-loop μ-loop
 returns c =
     let turn = c .before in
-    let entry = turn .before .before .before .before .args in
+    let entry = started turn .args in
     let all : turn .loop .i ≡ entry .k = omega arith in
     rw all at (turn .loop .inv .2)
 

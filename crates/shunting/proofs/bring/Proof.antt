@@ -4,7 +4,7 @@ use Prim.Native.Nat.{_-_}
 use native.Mathlib.Omega.{arith}
 use Rattle.sets.specs.Sets.{Has}
 use Rattle.graph.specs.Rows.{row}
-use Rattle.shunting.proofs.JourneyLaws.{fits-less}
+use Rattle.moving.proofs.JourneyLaws.{fits-less}
 use Rattle.shunting.proofs.BringLaws.{Bringing, BringingBy, Sought, bring-short, bring-small, bringing-begin, bringing-begun}
 use Rattle.shunting.proofs.BringLaws.{bring-free, bring-reaches, bring-room, bring-fits, bring-movable}
 use Rattle.shunting.proofs.BringLaws.{bringing-step, bringing-on, brought, brought-by}

@@ -11,7 +11,8 @@ use Rattle.shunting.proofs.clear.Tie as tie
 abbrev entry : tie.After-search → tie.Start
 entry k =
     let counted = k .before .before .before in
-    counted .before .before .before .before
+    let racks-lent = counted .before in
+    racks-lent .before .before .before
 
 found : (k : tie.After-search)
     → Found (entry k .args .n) (entry k .args .rows .now) (row (entry k .args .state .racks)) (row (k .search .result .at))
@@ -40,7 +41,8 @@ shift-requires c κs =
 returns-2 : tie.Need-returns-2
 returns-2 c =
     let after-shift = c .before .before in
-    let branch = after-shift .before .before .before .before in
+    let lent = after-shift .before in
+    let branch = lent .before .before .before in
     let k = branch .before .before in
     let e = after-shift .shift .ensures in
     cleared (found k) (omega arith) (e .0) (e .1 .0) (e .1 .1)

@@ -6,8 +6,8 @@ use mathlib.Core.Path.{_≡_, refl, _∙_}
 use native.Mathlib.Omega.{arith}
 use lib.ListN.{length}
 use Rattle.graph.specs.Rows.{row}
-use Rattle.shunting.specs.Journey.{stateOf, Fits}
-use Rattle.shunting.proofs.JourneyLaws.{fits-less, fits-move}
+use Rattle.moving.specs.Journey.{stateOf, Fits}
+use Rattle.moving.proofs.JourneyLaws.{fits-less, fits-move}
 use Rattle.shunting.proofs.ClearLaws.{Shifting, shifting-begin, shifting-movable, shifting-step, shifting-end}
 use Rattle.shunting.proofs.ClearLaws.{Shifts, shifts-begin, shifts-step, shifts-end}
 use Rattle.shunting.proofs.shift.Statement.{statement}

@@ -5,10 +5,10 @@ use mathlib.Core.Path.{subst}
 use native.Mathlib.Omega.{arith}
 use borrow.Author.Needs.{needs}
 use Rattle.graph.specs.Rows.{row}
-use Rattle.shunting.proofs.JourneyLaws.{trip-append, space-less, space-then}
+use Rattle.moving.proofs.JourneyLaws.{trip-append, space-less, space-then}
 use Rattle.base_ring.specs.declared.Circle.{Circle}
 use Rattle.base_ring.specs.Circle.{Open}
-use Rattle.handles.specs.Moves.{placeMoves}
+use Rattle.lane.specs.Moves.{placeMoves}
 use Rattle.solving.proofs.SolveLaws.{goal-filled, ring-met, ring-space, ring-trip}
 use Rattle.solving.proofs.settle.Statement.{statement}
 use Rattle.solving.proofs.settle.Tie as tie

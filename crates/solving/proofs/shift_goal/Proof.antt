@@ -3,8 +3,8 @@
 use Prim.Native.Nat.{_-_}
 use native.Mathlib.Omega.{arith}
 use borrow.Author.Needs.{needs}
-use Rattle.shunting.proofs.JourneyLaws.{fits-anew, fits-then}
-use Rattle.shunting.proofs.TableLaws.{table-went}
+use Rattle.moving.proofs.JourneyLaws.{fits-anew, fits-then}
+use Rattle.moving.proofs.TableLaws.{table-went}
 use Rattle.shunting.proofs.ClearLaws.{clear-room, clear-few}
 use Rattle.solving.specs.Moves.{shiftMoves}
 use Rattle.solving.proofs.ShiftLaws.{reaches-first, reaches-second, few-all, few-rest, shifted}

@@ -1,8 +1,8 @@
 -- `trains::judge_entries` meets its contract: the two passes, one after the other. Assumes nothing.
 use mathlib.Core.Path.{sym, _∙_}
 use borrow.Author.Tests.{not-true, not-false}
-use Rattle.trains.specs.StepOn.{entries}
-use Rattle.trains.proofs.Moves.{entries-below}
+use Rattle.chains.specs.StepOn.{entries}
+use Rattle.chains.proofs.Moves.{entries-below}
 use Rattle.trains.proofs.Running.{sound-targets, sound-taking, not-sound, sound}
 use borrow.Author.Needs.{needs}
 use Rattle.trains.proofs.judge_entries.Statement.{statement}

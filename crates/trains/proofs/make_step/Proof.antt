@@ -2,7 +2,7 @@
 use mathlib.Core.Path.{ap, _∙_}
 use mathlib.Core.List.{List}
 use Prim.Native.Nat.{ℕ}
-use Rattle.trains.specs.StepOn.{entries, putDown, stepOn}
+use Rattle.chains.specs.StepOn.{entries, putDown, stepOn}
 use borrow.Author.Needs.{needs}
 use Rattle.trains.proofs.make_step.Statement.{statement}
 use Rattle.trains.proofs.make_step.Tie as tie

@@ -2,8 +2,8 @@
 use Prim.Native.Nat.{_≤_, _-_}
 use mathlib.Core.Path.{refl}
 use native.Mathlib.Omega.{arith}
-use Rattle.trains.specs.StepOn.{entries, putDown}
-use Rattle.trains.proofs.Moves.{Left, left-first, left-next, left-last, entriesFrom, entries-first, entries-at, entries-last}
+use Rattle.chains.specs.StepOn.{entries, putDown}
+use Rattle.chains.proofs.Moves.{Left, left-first, left-next, left-last, entriesFrom, entries-first, entries-at, entries-last}
 use Rattle.trains.proofs.put_down.Statement.{statement}
 use Rattle.trains.proofs.put_down.Tie as tie
 

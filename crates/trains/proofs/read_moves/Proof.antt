@@ -4,7 +4,7 @@ use mathlib.Core.Path.{sym}
 use mathlib.Core.Bool.{false≢true}
 use native.Mathlib.Omega.{arith}
 use borrow.Author.Tests.{le-leb, lt-leb}
-use Rattle.trains.proofs.Moves.{Kept, kept-first, kept-next, kept-two, kept-all}
+use Rattle.chains.proofs.Moves.{Kept, kept-first, kept-next, kept-two, kept-all}
 use Rattle.trains.proofs.read_moves.Statement.{statement}
 use Rattle.trains.proofs.read_moves.Tie as tie
 

@@ -1,7 +1,7 @@
 -- `trains::run_entries` meets its contract: judged, then made. Assumes nothing.
 use mathlib.Core.Path.{sym, _∙_}
 use borrow.Author.Tests.{not-true, not-false}
-use Rattle.trains.specs.StepOn.{entries}
+use Rattle.chains.specs.StepOn.{entries}
 use Rattle.trains.proofs.Running.{stays, ran}
 use borrow.Author.Needs.{needs}
 use Rattle.trains.proofs.run_entries.Statement.{statement}

@@ -4,7 +4,7 @@ use mathlib.Core.Path.{sym, _∙_, ap}
 use mathlib.Core.List.{List}
 use borrow.Author.Tests.{not-true, not-false, leb-true, leb-false}
 use Rattle.field.specs.Bits.{pairs}
-use Rattle.trains.specs.StepOn.{legalStepOn, ranOn}
+use Rattle.chains.specs.StepOn.{legalStepOn, ranOn}
 use Rattle.trains.proofs.Running.{not-read, stays}
 use borrow.Author.Needs.{needs}
 use Rattle.trains.proofs.run_step.Statement.{statement}

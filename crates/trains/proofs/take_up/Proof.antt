@@ -2,8 +2,8 @@
 use Prim.Native.Nat.{_≤_, _-_}
 use mathlib.Core.Path.{refl}
 use native.Mathlib.Omega.{arith}
-use Rattle.trains.specs.StepOn.{entries, takenUp}
-use Rattle.trains.proofs.Moves.{Left, left-first, left-next, left-last, entriesFrom, entries-first, entries-at, entries-last}
+use Rattle.chains.specs.StepOn.{entries, takenUp}
+use Rattle.chains.proofs.Moves.{Left, left-first, left-next, left-last, entriesFrom, entries-first, entries-at, entries-last}
 use Rattle.trains.proofs.take_up.Statement.{statement}
 use Rattle.trains.proofs.take_up.Tie as tie
 

@@ -1,0 +1,2 @@
+pub mod StepOn
+pub mod Chains

@@ -1,0 +1,4 @@
+pub mod SameLaws
+pub mod MovesLaws
+pub mod RingLaws
+pub mod OrderTables

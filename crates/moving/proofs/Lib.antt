@@ -1,0 +1,3 @@
+pub mod JourneyLaws
+pub mod WentLaws
+pub mod TableLaws

@@ -1,0 +1,4 @@
+pub mod Went
+pub mod Journey
+pub mod OnePlace
+pub mod Table

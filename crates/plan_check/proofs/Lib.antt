@@ -1,0 +1,9 @@
+pub mod Turns
+pub mod Layers
+pub mod Examples
+pub mod Limits
+pub mod SizeLaws
+pub mod Replayed
+pub mod SolutionsLaws
+pub mod Stopped
+pub mod Accepted

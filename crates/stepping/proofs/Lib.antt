@@ -1,0 +1,4 @@
+pub mod Knowing
+pub mod Lending
+pub mod Steps
+pub mod Turning

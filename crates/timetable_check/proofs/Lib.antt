@@ -1,0 +1,9 @@
+pub mod Turns
+pub mod Layers
+pub mod Inhabited
+pub mod Leading
+pub mod Limits
+pub mod SizeLaws
+pub mod Replayed
+pub mod SolutionsLaws
+pub mod Still

@@ -1,0 +1,4 @@
+pub mod TurnLaws
+pub mod UndoLaws
+pub mod BackLaws
+pub mod Examples
