@@ -22,7 +22,7 @@ use borrow.Author.Tests.{leb-false, eqb-false, le-leb, lt-leb, eq-eqb, ne-eqb, l
 use lib.Dec.{leb, eqb, ltb}
 use lib.ListN.{length, take}
 use lib.Seq.{length-take-le, take-take}
-use Rattle.answers.specs.Answer.{Answer, accepted, refused, refuse}
+use Rattle.answers.specs.Answer.{Answer, accepted, refused, refuse, holds}
 use Rattle.answers.proofs.AnswerLaws.{refuse-not, refuse-else, passUp-low, passUp-high}
 use Rattle.field.proofs.UnitLaws.{or-left}
 use Rattle.order.specs.Order.{floorOf, startsOf}
@@ -37,7 +37,7 @@ use Rattle.timetable_check.proofs.Leading.{LeadingTimetable, accepted-leads}
 use Rattle.live.specs.Picture.{Picture}
 use Rattle.live.specs.Roles.{Kind, opening, reading, running, takingBack}
 use Rattle.live.specs.HereDecision.{legalHere?}
-use Rattle.live.specs.Calls.{allowed, holds, cannotRun, cannotTakeBack, ownAnswer, callAnswer, changed, byAnswer}
+use Rattle.live.specs.Calls.{allowed, cannotRun, cannotTakeBack, ownAnswer, callAnswer, changed, byAnswer}
 use Rattle.stepping.specs.Judging.{stepNumbered}
 use Rattle.live.specs.Calls.{pictureAfter}
 use Rattle.live.specs.Theorems.{Call, answerTo, onward, after, keptBy, kept, Lends, Replayed, CanGoOn, ByViewer, NotBySupervisor}

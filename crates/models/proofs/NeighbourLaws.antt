@@ -14,7 +14,7 @@ use mir.Facts.{and-yes}
 use borrow.Author.Tests.{eq-eqb, ne-eqb, ltb-true, eqb-true}
 use lib.Dec.{T, ltb, eqb}
 use Rattle.order.specs.Floor.{Floor, isPair, joined}
-use Rattle.order.specs.EdgeSets.{IsRelation, pairOf, listed, isEdge, floorFrom}
+use Rattle.order.specs.EdgeSets.{IsRelation, listed, isEdge, floorFrom}
 use Rattle.order.proofs.EdgeLaws.{isPair-is, and-left}
 use Rattle.order.proofs.EdgeSetsLaws.{floorFrom-joined}
 use Rattle.tables.proofs.TableLaws.{passed}

@@ -16,7 +16,11 @@ use lib.Dec.{ltb}
 use Rattle.order.specs.Floor.{some, isPair, joined}
 use Rattle.order.specs.Order.{badEdge, ascending, wrongEdges}
 use Rattle.order.proofs.EdgeLaws.{place, bad-is, precedes-is, isPair-same, isPair-is, and-left, and-right, good-edge}
-use Rattle.order.specs.EdgeSets.{IsRelation, pairOf, listed, isEdge, floorFrom}
+use Rattle.order.specs.EdgeSets.{IsRelation, listed, isEdge, floorFrom}
+
+-- the pair that has place i in the order of edges
+abbrev pairOf : ℕ → ℕ × ℕ
+pairOf i = (i / 64, i % 64)
 
 same-place : (i a b : ℕ) → b < 64 → i ≡ a * 64 + b → pairOf i ≡ (a, b)
 same-place i a b h e = ap₂ (λ (x y : ℕ). (x, y)) first second

@@ -1,7 +1,6 @@
 -- Every set of edges has its ascending list: the floor of a relation on n positions.
 --
 --     IsRelation n E          E joins positions below n, in both directions, and none to itself
---     pairOf i                the pair at place i of the order of edges
 --     isEdge n E i            it is lower first, below n and joined by E
 --     listed test i k         the pairs at the places i to i + k - 1 of the order of edges that pass the test
 --     floorFrom n E           the floor of n positions whose edges are the pairs that E joins
@@ -18,13 +17,9 @@ pub record IsRelation (n : ℕ) (E : ℕ → ℕ → Bool) : Type 0 where
   pub not-itself : (a : ℕ) → E a a ≡ false
   pub inside : (a b : ℕ) → E a b ≡ true → a < n
 
--- the pair at a place of the order of edges
-abbrev pub pairOf : ℕ → ℕ × ℕ
-pairOf i = (i / 64, i % 64)
-
 unfoldable pub listed : (ℕ → Bool) → ℕ → ℕ → List (ℕ × ℕ)
 listed test i zero = []
-listed test i (suc k) = cond (test i) (pairOf i ∷ listed test (suc i) k) (listed test (suc i) k)
+listed test i (suc k) = cond (test i) ((i / 64, i % 64) ∷ listed test (suc i) k) (listed test (suc i) k)
 
 -- the pair at place i is an edge of E, lower first
 unfoldable pub isEdge : ℕ → (ℕ → ℕ → Bool) → ℕ → Bool

@@ -38,7 +38,7 @@ use Rattle.motion.specs.Move.{goesTo, after, afterMove}
 use Rattle.motion.specs.Replay.{replayMoves, listed as listedFrom}
 use Rattle.sets.specs.First.{firstFrom}
 use Rattle.ring.specs.Circle.{placeIn, roundOf, follow, onward}
-use Rattle.floor.specs.FloorAnswer.{biConnected?, ring?, roundPlace, disordered?, floorAnswer}
+use Rattle.floor.specs.FloorAnswer.{biConnected?, ring?, roundPlace, sameRound?, floorAnswer}
 use Rattle.floor.specs.RoundDecision.{rack?, inTurn?, sameOrder?}
 use Rattle.floor.specs.Plannable.{Plannable}
 use Rattle.floor.specs.Sides.{countOf, fourSided?}
@@ -87,7 +87,7 @@ pub refusals-met :
     × (refusals allOfSixteen 65536 ≡ refused 26 0)
     × (refusals twoRacks 65536 ≡ accepted [])
 unfolding refusals allOfSixteen orderRecord orderBits floorFrom listed isEdge bits pairBits positionBits toBytes padded pad bytes
-    floorAnswer biConnected? ring? fourSided? countOf disordered? roundPlace sameOrder? rack? inTurn? placeIn roundOf follow onward
+    floorAnswer biConnected? ring? fourSided? countOf sameRound? roundPlace sameOrder? rack? inTurn? placeIn roundOf follow onward
     firstFrom stands joined some isPair orderAnswer wrongLength misfits recordLength unitCount wrongPositions paddingSet padSet unclean
     wrongEdges badEdge precedes ascending wrongRacks wrongPlaces repeats orderOf floorOf startsOf goalsOf counts positionCount edgeCount
     rackCount field number bitsOf pairs positions

@@ -14,7 +14,8 @@ use lib.ListN.{take}
 use Rattle.answers.specs.Answer.{Answer, accepted, refused}
 use Rattle.recording.specs.Front.{wholeLength}
 use Rattle.order.specs.RecordLength.{orderLength, wholeOrderLength}
-use Rattle.timetable.specs.RecordLength.{stepsLength, timetableLength, wholeTimetableLength}
+use Rattle.timetable.specs.Timetable.{stepsLength, timetableLength}
+use Rattle.timetable.specs.RecordLength.{wholeTimetableLength}
 use Rattle.timetable_check.proofs.Inhabited.{order₁, timetable₁, timetable-open}
 use Rattle.season.specs.Season.{orderPart, behindOrder, timetablePart, behindPair, cutShort, nothing, counted, parallelism}
 use Rattle.season.specs.Season.{seasonFrom, seasonAnswer}
