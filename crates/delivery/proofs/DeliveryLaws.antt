@@ -43,7 +43,8 @@ use Rattle.method.specs.Moves.{Solves}
 use Rattle.planner.specs.Planner.{refusals, PlanMade, turned-down, made}
 use Rattle.planner.proofs.PlannerLaws.{unrefused, moves-read, count-read, edition-read, plan-accepted}
 use Rattle.delivery.specs.Theorems.{timetableAlone, TimetableMade, Delivered, Delivers}
-use Rattle.delivery.specs.Delivery.{answered, Answers, planLength, planAlone, Called, unplanned, untimed, checked, Timed, DeliversBy}
+use Rattle.delivery.specs.Delivery.{answered, Answers, planLength, planAlone, Called, unplanned, untimed, checked}
+use Rattle.delivery.specs.Delivery.{TimetableCalled, DeliversBy}
 
 -- how long a plan buffer 23 asks for
 abbrev pub planRoom : List ℕ → ℕ
@@ -127,7 +128,7 @@ module _ (o p : List ℕ) (k : ℕ) (right : planAnswer o p ≡ accepted (k ∷ 
   -- what was answered is what holds of the plan
   told : (s : ℕ) (c : Answer) (T′ : List ℕ) → makerAnswer o p (length T) ≡ accepted (s ∷ []) → T′ ≡ bufferAfter o p T
       → c ≡ timetableAnswer o (timetableAlone T′)
-      → Timed o p k T (answered (accepted (s ∷ []))) (answered c) T′
+      → TimetableCalled o p k T (answered (accepted (s ∷ []))) (answered c) T′
   unfolding timetable-made
   told s c T′ a e ec = record {
     timetable = timetable-made;

@@ -5,7 +5,7 @@
 --     planLength k              the length in bytes of a plan of k moves, in edition two
 --     planAlone k P             the plan of k moves at the front of the buffer P, alone
 --     Called o P T a P′ T′      on the order o and the buffers P and T the three calls may answer a and leave P′ and T′ behind
---     Timed o p k T m c T′      the maker and the checker have answered, and left, what holds of the plan p of k moves
+--     TimetableCalled o p k T m c T′    the maker and the checker have answered, and left, what holds of the plan p of k moves
 --     DeliveredBy o P T a P′ T′    the order is delivered, and the calls have answered so
 --     DeliversBy o P T a P′ T′  every order that can be planned is delivered by the three calls, given such a buffer
 --     callOfMaker, callOfCheck, answersOf    what the code answers, as these
@@ -65,7 +65,7 @@ pub data Called (o P T : List ℕ) : Answers → List ℕ → List ℕ → Type 
       → Called o P T (record { planner = accepted (k ∷ []); maker = answered (accepted (s ∷ [])); checker = answered c }) P′ T′
 
 -- the maker's answer, the checker's, and the buffer that the maker left
-pub record Timed (o p : List ℕ) (k : ℕ) (T : List ℕ) (m c : Call) (T′ : List ℕ) : Type 0 where
+pub record TimetableCalled (o p : List ℕ) (k : ℕ) (T : List ℕ) (m c : Call) (T′ : List ℕ) : Type 0 where
   pub timetable : TimetableMade o p k T
   pub made : m ≡ answered (accepted (timetable .steps ∷ []))
   pub left : T′ ≡ bufferAfter o p T
@@ -73,7 +73,7 @@ pub record Timed (o p : List ℕ) (k : ℕ) (T : List ℕ) (m c : Call) (T′ : 
 
 pub record DeliveredBy (o P T : List ℕ) (a : Answers) (P′ T′ : List ℕ) : Type 0 where
   pub delivered : Delivered o P (a .planner) P′
-  pub then : 3 * delivered .moves + 3 ≤ length T → Timed o (delivered .plan) (delivered .moves) T (a .maker) (a .checker) T′
+  pub then : 3 * delivered .moves + 3 ≤ length T → TimetableCalled o (delivered .plan) (delivered .moves) T (a .maker) (a .checker) T′
 
 abbrev pub DeliversBy : List ℕ → List ℕ → List ℕ → Answers → List ℕ → List ℕ → Type 0
 DeliversBy o P T a P′ T′ =

@@ -40,7 +40,8 @@ pub record TimetableMade (o p : List ℕ) (k : ℕ) (T : List ℕ) : Type 0 wher
   pub accepts : timetableAnswer o (timetableAlone (bufferAfter o p T)) ≡ accepted (steps ∷ k ∷ [])
 
 -- "the planner writes a plan of at most 8 × n × n × n one-rack moves: replayed from the starts, every move is legal at its turn, and after
--- the last one every rack stands at its goal." Request (h): "The planner writes edition two", with 18 bits to a move.
+-- the last one every rack stands at its goal." Request (h): "The planner writes edition two", with 18 bits to a move. Handed
+-- on alone the plan is the bytes of that length that the buffer begins with.
 pub record Delivered (o P : List ℕ) (a : Answer) (P′ : List ℕ) : Type 0 where
   pub moves : ℕ
   pub plan : List ℕ
