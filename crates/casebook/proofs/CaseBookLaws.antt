@@ -21,7 +21,7 @@ use Rattle.scheduling.proofs.MakerCases.{maker-open}
 use Rattle.scheduling.specs.Maker.{madeOf, makerAnswer, bufferAfter}
 use Rattle.motion.specs.Arrangement.{stands}
 use Rattle.sets.specs.First.{firstFrom}
-use Rattle.ring.specs.Circle.{placeIn, roundOf, follow, onward}
+use Rattle.ring.specs.Circle.{placeOn, roundOf, follow, onward}
 use Rattle.floor.specs.FloorAnswer.{biConnected?, ring?, roundPlace, sameRound?, floorAnswer}
 use Rattle.floor.specs.Sides.{countOf, fourSided?}
 use Rattle.floor.specs.RoundDecision.{rack?, inTurn?, sameOrder?}
@@ -100,7 +100,7 @@ agrees-claims (plan-made order buffer a) t = let e = same-answer (refusals order
 -- the one computed test
 all-agree : T (every agrees starred)
 unfolding starred every agrees sameAnswer sameList refusals floorAnswer biConnected? ring? fourSided? countOf sameRound? roundPlace
-    sameOrder? rack? inTurn? placeIn roundOf follow onward firstFrom stands maker-open timetable-open
+    sameOrder? rack? inTurn? placeOn roundOf follow onward firstFrom stands maker-open timetable-open
 all-agree = tt
 
 -- the one lemma

@@ -52,7 +52,7 @@ use Rattle.timetable_check.proofs.SizeLaws.{count-small, timetable-moves-small,
 use Rattle.converting.specs.Converter.{convertedOf, converterAnswer}
 use Rattle.shortening.specs.Shortener.{shortenerAnswer}
 use Rattle.shortening.proofs.ShortenerLaws.{moves-small}
-use Rattle.season.specs.Season.{orderPart, timetablePart, behindPair, cutShort, counted, seasonFrom, seasonAnswer}
+use Rattle.season.specs.Season.{pairOrder, pairTimetable, behindPair, cutShort, counted, seasonFrom, seasonAnswer}
 use Rattle.season.specs.declared.Totals.{Totals}
 use Rattle.scheduling.specs.Maker.{makerAnswer}
 use Rattle.scheduling.proofs.SizeLaws.{steps-small}
@@ -251,7 +251,7 @@ pairs-sized (suc k) q few t [] = accepts tt
 pairs-sized (suc k) q few t (b ∷ s) =
     let l = b ∷ s in
     refuse-sized (cutShort l) 46 (suc q) _ tt tt (omega arith)
-    (λ _. pairs-sized k (suc q) (omega arith) (counted t (timetableAnswer (orderPart l) (timetablePart l))) (behindPair l))
+    (λ _. pairs-sized k (suc q) (omega arith) (counted t (timetableAnswer (pairOrder l) (pairTimetable l))) (behindPair l))
 
 pub season-sized : (s : List ℕ) → Sized Any (seasonAnswer s)
 unfolding seasonAnswer

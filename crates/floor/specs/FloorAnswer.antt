@@ -25,7 +25,7 @@ use Rattle.order.specs.Floor.{Floor, joined}
 use Rattle.order.specs.Order.{positionCount, rackCount, floorOf, startsOf, goalsOf, orderAnswer}
 use Rattle.motion.specs.Arrangement.{Arrangement, stands}
 use Rattle.graph.specs.Connected.{BiConnected, Ring}
-use Rattle.ring.specs.Circle.{roundOf, placeIn}
+use Rattle.ring.specs.Circle.{roundOf, placeOn}
 use Rattle.ring.specs.Order.{SameOrder}
 use Rattle.floor.specs.WayDecision.{alike?, both?, not?, decideBiConnected}
 use Rattle.floor.specs.RoundDecision.{sameOrder?}
@@ -52,7 +52,7 @@ ring? F =
 
 -- the n positions of a ring are read round it from position 0 on, towards the lower of its two neighbours (crates/ring, Circle)
 unfoldable pub roundPlace : Floor → Arrangement → ℕ → ℕ
-roundPlace F A r = placeIn (roundOf (F .positions) (joined F)) (stands A r)
+roundPlace F A r = placeOn (roundOf (F .positions) (joined F)) (stands A r)
 
 -- "whenever the racks stand in the same order round it at start and goal"
 abbrev pub SameRound : Floor → ℕ → Arrangement → Arrangement → Type 0

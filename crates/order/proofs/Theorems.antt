@@ -21,7 +21,7 @@ use Rattle.order.specs.Order.{wrongPlaces, WellFormed}
 use Rattle.order.proofs.RecordOf.{record-of}
 use Rattle.order.proofs.EdgeLaws.{edge-joined, same-set, and-left}
 use Rattle.order.proofs.OrderLaws.{right-order}
-use Rattle.order.specs.EdgeSets.{IsRelation, listed, isEdge, floorFrom}
+use Rattle.order.specs.EdgeSets.{IsRelation, edgesListed, isEdge, floorFrom}
 use Rattle.order.proofs.EdgeSetsLaws.{floorFrom-right, floorFrom-joined}
 use Rattle.order.proofs.Written.{SoundOrder, record-read, record-sound}
 use Rattle.order.specs.Theorems.{Same, RecordFor, Choice}
@@ -121,7 +121,7 @@ an-order =
       some-position = lit≤ tt;
       few-positions = lit≤ tt;
       relation = all-of-four;
-      few-edges = unfold floorFrom listed isEdge in lit≤ tt;
+      few-edges = unfold floorFrom edgesListed isEdge in lit≤ tt;
       a-goal-each = refl;
       starts-right = unfold wrongPlaces some repeats in refl;
       goals-right = unfold wrongPlaces some repeats in refl;

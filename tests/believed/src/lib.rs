@@ -12,7 +12,8 @@ use std::path::Path;
 const C_INTERFACE: &str = "crates/controller/src/lib.rt";
 
 /// Where a promise comes from: document 01, or a request of document 02 by its letter.
-pub const SOURCES: [&str; 10] = ["document 01", "(a)", "(d)", "(e)", "(g)", "(h)", "(k)", "(l)", "(m)", "(n)"];
+pub const SOURCES: [&str; 10] =
+    ["document 01", "(a)", "(d)", "(e)", "(g)", "(h)", "(k)", "(l)", "(m)", "(n)"];
 
 /// The functions of the C interface, each with its source.
 const FUNCTIONS: &[(&str, &str)] = &[
@@ -88,7 +89,9 @@ impl Believed {
         let mut wanted: Vec<(String, String)> = Vec::new();
         let mut exported = source::exported(&read(&repository.join(C_INTERFACE)));
         assert_eq!(exported.len(), FUNCTIONS.len(), "every function of the C interface has a source");
-        exported.retain(|(name, _)| FUNCTIONS.iter().any(|(from, known)| known == name && sources.contains(from)));
+        exported.retain(|(name, _)| {
+            FUNCTIONS.iter().any(|(from, known)| known == name && sources.contains(from))
+        });
         wanted.extend(exported.into_iter().flat_map(|(_, cited)| cited));
         for &(_, file, names) in CONTRACTS.iter().filter(|(from, _, _)| sources.contains(from)) {
             let cited = source::cited(&read(&repository.join(file)));
