@@ -23,7 +23,7 @@ use Rattle.order.specs.Floor.{Floor, joined}
 use Rattle.order.specs.Order.{floorOf, orderAnswer}
 use Rattle.graph.specs.Connected.{Below, Connected}
 use Rattle.floor.specs.FloorAnswer.{Joins, passes?}
-use Rattle.floor.specs.WayDecision.{whole?}
+use Rattle.graph.proofs.WayDecision.{whole?}
 use Rattle.carry.specs.Carry.{longest, dearestStart, dearestGoal, carryRecord}
 use Rattle.carry.specs.declared.CarryVerdict.{CarryVerdict}
 use Rattle.carry.specs.declared.CarryVerdict.the-variants.{Found, Refused}

@@ -24,7 +24,7 @@ use Rattle.sets.specs.First.{firstFrom}
 use Rattle.ring.specs.Circle.{placeOn, roundOf, follow, onward}
 use Rattle.floor.specs.FloorAnswer.{biConnected?, ring?, roundPlace, sameRound?, floorAnswer}
 use Rattle.floor.specs.Sides.{countOf, fourSided?}
-use Rattle.floor.specs.RoundDecision.{rack?, inTurn?, sameOrder?}
+use Rattle.ring.proofs.RoundDecision.{rack?, inTurn?, sameOrder?}
 use Rattle.planner.specs.Planner.{refusals, PlanMade}
 use Rattle.planner.proofs.PlannerLaws.{never-refuses, turned-away}
 use Rattle.casebook.specs.CaseBook.{Case, plan-checked, plan-made, timetable-checked, timetable-made, Made, Answers, Claim, starred}

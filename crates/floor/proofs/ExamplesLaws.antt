@@ -32,7 +32,7 @@ use Rattle.graph.specs.Connected.{BiConnected, Ring}
 use Rattle.graph.specs.Rows.{Edge}
 use Rattle.graph.specs.EdgeCount.{edgeCount as edgesIn}
 use Rattle.floor.specs.FloorAnswer.{biConnected?, ring?, roundPlace, sameRound?, floorAnswer}
-use Rattle.floor.specs.RoundDecision.{rack?, inTurn?, sameOrder?}
+use Rattle.ring.proofs.RoundDecision.{rack?, inTurn?, sameOrder?}
 use Rattle.floor.specs.Sides.{countOf, neighboursAt, fourSided?}
 use Rattle.order.specs.Tables.{rowsOf}
 use Rattle.floor.specs.Plannable.{OffRing, OnRing, Plannable}

@@ -12,7 +12,8 @@
 --     floorAnswer o      the answer for the order o: the order reader's refusal, else the first of 20, 21, 24, 26 that applies, else
 --                        accepted
 -- What a decision decides is its type: `BiConnected` and `Ring` are defined by walks (crates/graph, Connected), `SameOrder` by any three
--- racks (crates/ring, Order). How it does so (WayDecision, RoundDecision) is no part of what is promised.
+-- racks (crates/ring, Order). How it does so (crates/graph/proofs/WayDecision.antt, crates/ring/proofs/RoundDecision.antt) is no part of
+-- what is promised.
 -- Assumes nothing.
 use Prim.Native.Nat.{ℕ, _+_}
 use mathlib.Core.Bool.{Bool, true, false, not, cond, _&&_}
@@ -27,8 +28,8 @@ use Rattle.motion.specs.Arrangement.{Arrangement, stands}
 use Rattle.graph.specs.Connected.{BiConnected, Ring}
 use Rattle.ring.specs.Circle.{roundOf, placeOn}
 use Rattle.ring.specs.Order.{SameOrder}
-use Rattle.floor.specs.WayDecision.{alike?, both?, not?, decideBiConnected}
-use Rattle.floor.specs.RoundDecision.{sameOrder?}
+use Rattle.graph.proofs.WayDecision.{alike?, both?, not?, decideBiConnected}
+use Rattle.ring.proofs.RoundDecision.{sameOrder?}
 use Rattle.floor.specs.Sides.{fourSided?}
 
 abbrev pub Joins : Floor → ℕ → ℕ → Type 0

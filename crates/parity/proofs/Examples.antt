@@ -39,7 +39,7 @@ use Rattle.graph.specs.Connected.{Connected, BiConnected}
 use Rattle.graph.specs.Rows.{Edge, Rows}
 use Rattle.graph.proofs.Examples.{rows-tested}
 use Rattle.floor.specs.FloorAnswer.{Joins, passes?, biConnected?}
-use Rattle.floor.specs.WayDecision.{alike?, not?, implies?, every?, decideBiConnected}
+use Rattle.graph.proofs.WayDecision.{alike?, not?, implies?, every?, decideBiConnected}
 use Rattle.floor.specs.Sides.{countOf}
 use Rattle.floor.specs.CaseBookOrders.{mirrored, threeRacks, pathOfFour}
 use Rattle.floor.proofs.ExamplesLaws.{twoRacks, pathOfThree, turnedEdge}

@@ -39,7 +39,7 @@ use Rattle.motion.specs.Replay.{replayMoves, listed as listedFrom}
 use Rattle.sets.specs.First.{firstFrom}
 use Rattle.ring.specs.Circle.{placeOn, roundOf, follow, onward}
 use Rattle.floor.specs.FloorAnswer.{biConnected?, ring?, roundPlace, sameRound?, floorAnswer}
-use Rattle.floor.specs.RoundDecision.{rack?, inTurn?, sameOrder?}
+use Rattle.ring.proofs.RoundDecision.{rack?, inTurn?, sameOrder?}
 use Rattle.floor.specs.Plannable.{Plannable}
 use Rattle.floor.specs.Sides.{countOf, fourSided?}
 use Rattle.floor.proofs.FloorLaws.{plannable-is}

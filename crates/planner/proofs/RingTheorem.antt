@@ -27,7 +27,7 @@ use Rattle.moving.proofs.WentLaws.{went-to}
 use Rattle.solving.specs.Placed.{Placed}
 use Rattle.solving.proofs.Held.{went-replayed}
 use Rattle.floor.specs.FloorAnswer.{roundPlace, SameRound}
-use Rattle.floor.specs.RoundDecision.{sameOrder?}
+use Rattle.ring.proofs.RoundDecision.{sameOrder?}
 use Rattle.floor.specs.RingTables.{RingTables}
 use Rattle.tables.specs.Accepted.{OrderGave}
 use Rattle.tables.proofs.AcceptedLaws.{order-gave}
