@@ -5,6 +5,8 @@
 --     number-is            what an arm of a match tells, as an equation
 --     passed-up            the same of a lower verdict that is passed up
 --     not-both             no answer is a refusal and accepted
+--     holds-yes, holds-no        a decision says yes of what holds, and no of what does not
+--     holds-true, holds-false    and what it says is so
 --     refuse-not, refuse-else    an answer that is accepted passed the test, and is what comes after it
 --     refuse-past          so did a refusal by a number that is not the test's
 --     passUp-low, passUp-high    an answer that is accepted was accepted below, and is what comes after it
@@ -16,10 +18,10 @@ use mathlib.Core.List.{List}
 use native.Mathlib.Omega.{arith}
 use mathlib.Core.Logic.{_≢_}
 use mathlib.Core.Path.{_≡_, refl, sym, ap, _∙_}
-use mathlib.Core.Bool.{Bool, true, false, not, _||_}
+use mathlib.Core.Bool.{Bool, true, false, not, _||_, false≢true}
 use borrow.Author.Tests.{eq-eqb}
 use lib.Dec.{T, eqb, leb, leb→le}
-use Rattle.answers.specs.Answer.{Answer, accepted, refused, refuse, passUp, numberOf, HasNumber, PassedUp}
+use Rattle.answers.specs.Answer.{Answer, accepted, refused, holds, refuse, passUp, numberOf, HasNumber, PassedUp}
 use Rattle.answers.specs.declared.Fault.{Fault}
 use Rattle.answers.proofs.Faults.{every-fault, each-fault, same, same-fault}
 
@@ -50,6 +52,23 @@ passed-up {answerOf = answerOf} {a = a} h = h .passes ∙ ap (λ x. passUp (answ
 
 pub not-both : (n p : ℕ) (v : List ℕ) → refused n p ≡ accepted v → ⊥
 not-both n p v e = let z : _≡_ {A = ℕ} 0 1 = cc in omega arith
+
+module _ {A : Type 0} where
+  pub holds-yes : (d : Dec A) → A → holds d ≡ true
+  holds-yes (yes a) x = refl
+  holds-yes (no f) x = absurd (f x)
+
+  pub holds-no : (d : Dec A) → (A → ⊥) → holds d ≡ false
+  holds-no (yes a) f = absurd (f a)
+  holds-no (no f) g = refl
+
+  pub holds-true : (d : Dec A) → holds d ≡ true → A
+  holds-true (yes a) e = a
+  holds-true (no f) e = absurd (false≢true e)
+
+  pub holds-false : (d : Dec A) → holds d ≡ false → A → ⊥
+  holds-false (yes a) e x = false≢true (sym e)
+  holds-false (no f) e x = f x
 
 pub refuse-not : (t : Bool) (n p : ℕ) (a : Answer) (v : List ℕ) → refuse t n p a ≡ accepted v → t ≡ false
 refuse-not true n p a v e = absurd (not-both n p v e)

@@ -4,6 +4,7 @@
 --     numberOf f     document 01's number for each case of the fault enum
 --     HasNumber f r  r is the number of the fault f
 --     refusedBy f p  the refusal by the fault f at the place p
+--     holds d        the decision d says yes: what is decided, as a test
 --     refuse t k p a the answer a, unless the test t holds: then the refusal k at the place p
 --     passUp b a     the answer a of a reader whose lower reader answered b, unless that was a refusal
 --     PassedUp answerOf v a r    r is what passing the lower verdict v up gives: its refusal, else the answer a
@@ -67,6 +68,10 @@ pub record HasNumber (f : Fault) (r : ℕ) : Type 0 where
 
 abbrev pub refusedBy : Fault → ℕ → Answer
 refusedBy f place = refused (numberOf f) place
+
+abbrev pub holds : {A : Type 0} → Dec A → Bool
+holds (yes a) = true
+holds (no f) = false
 
 -- "A number is returned only under its condition. The lowest number that applies is returned": a list of conditions in ascending order
 -- is a chain of these

@@ -25,7 +25,7 @@ use Rattle.order.specs.Order.{floorOf}
 use Rattle.motion.specs.Replay.{listed}
 use Rattle.plan.specs.Plan.{spareBits, planBits, planBytes, planRecord}
 use Rattle.plan_check.proofs.Examples.{plan-open}
-use Rattle.carry.specs.Carry.{nextOf, reaches, distance, greatest, farthest, longest, dearestStart, dearestGoal, wayFrom}
+use Rattle.carry.specs.Carry.{nextOf, reaches, distance, greatestBelow, farthest, longest, dearestStart, dearestGoal, wayFrom}
 use Rattle.carry.specs.Carry.{movesAlong, dearestMoves, carryRecord}
 use Rattle.carry.specs.CarryAnswer.{connected?, notConnected, cannotHold, carryAnswer, bufferAfter}
 use Rattle.carry.specs.Theorems.{DearestCarry}
@@ -57,8 +57,8 @@ ringOfFour = 0x08 ∷ 0x08 ∷ 0x04 ∷ 0x00 ∷ 0x10 ∷ 0x03 ∷ 0x04 ∷ 0x20
 
 unfoldable pub carry-open : List ℕ → List ℕ → List ℕ
 unfolding plan-open bufferAfter carryAnswer notConnected cannotHold connected? carryRecord dearestMoves movesAlong wayFrom dearestGoal
-    dearestStart longest farthest greatest distance reaches nextOf firstFrom planRecord planBytes planBits spareBits listed allUnits units
-    positionBits padded toBytes bytes written
+    dearestStart longest farthest greatestBelow distance reaches nextOf firstFrom planRecord planBytes planBits spareBits listed allUnits
+    units positionBits padded toBytes bytes written
 carry-open o B = bufferAfter o B
 
 -- "On a floor of one position the answer is 0 to 0 with no moves."

@@ -18,8 +18,8 @@ use borrow.Author.Tests.{lt-ltb, le-ltb}
 use lib.Dec.{ltb}
 use lib.ListN.{length, take, drop, getD, length-append, length-drop}
 use lib.Seq.{length-take-le}
-use Rattle.answers.specs.Answer.{Answer, accepted, refused, refuse, passUp}
-use Rattle.answers.proofs.AnswerLaws.{passUp-accepted}
+use Rattle.answers.specs.Answer.{Answer, accepted, refused, refuse, passUp, holds}
+use Rattle.answers.proofs.AnswerLaws.{passUp-accepted, holds-yes, holds-no}
 use Rattle.recording.specs.Head.{headBytes}
 use Rattle.recording.proofs.HeadLaws.{length-headBytes, record-written}
 use Rattle.field.proofs.RecordLaws.{rest-is}
@@ -33,7 +33,7 @@ use Rattle.sets.specs.Sets.{Has}
 use Rattle.order.specs.Floor.{Floor}
 use Rattle.order.specs.Order.{positionCount, floorOf, orderAnswer}
 use Rattle.order.specs.Tables.{rowsOf, decodedRows}
-use Rattle.order.proofs.OrderLaws.{right-head}
+use Rattle.order.proofs.OrderLaws.{formed-head}
 use Rattle.motion.specs.Replay.{listed}
 use Rattle.tables.specs.Accepted.{OrderGave}
 use Rattle.tables.proofs.AcceptedLaws.{gave-accepted}
@@ -44,8 +44,7 @@ use Rattle.graph.specs.Connected.{Below, Connected}
 use Rattle.graph.specs.Rows.{row, Edge}
 use Rattle.graph.specs.Nearest.{Nearest}
 use Rattle.graph.proofs.NearestLaws.{nearest-same, nearest-targets, nearest-short}
-use Rattle.floor.specs.FloorAnswer.{Joins, holds}
-use Rattle.floor.proofs.FloorLaws.{holds-yes, holds-no}
+use Rattle.floor.specs.FloorAnswer.{Joins}
 use Rattle.floor.proofs.FloorRows.{filled-rows, filled-joins, joins-filled}
 use Rattle.carry.specs.Carry.{wayFrom, movesAlong, longest, dearestStart, dearestGoal, dearestMoves, carryRecord}
 use Rattle.carry.specs.CarryAnswer.{connected?, notConnected, cannotHold, carryAnswer, bufferAfter}
@@ -115,8 +114,7 @@ module _ (o B : List ℕ) where
 pub some-position : {o : List ℕ} {n e m : ℕ} → OrderGave o n e m → 1 ≤ n
 unfolding floorOf
 some-position {o} gave =
-    let w = gave .right in
-    omega (arith, right-head o (w .length-right) (w .positions-right) .some-position, gave .positions-are)
+    omega (arith, formed-head o (gave .right) .some-position, gave .positions-are)
 
 -- the floor is connected and there is room: the dearest pair, s and d with k moves, and the way between them that the search found
 pub record Found (o B : List ℕ) (n e m : ℕ) (g : List ℕ) (s d k : ℕ) (at : List ℕ) : Type 0 where

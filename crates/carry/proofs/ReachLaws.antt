@@ -28,7 +28,7 @@ use Rattle.graph.proofs.FewLaws.{at-most-below, walk-few}
 use Rattle.graph.specs.Connected.{Below, Whole, Connected}
 use Rattle.floor.specs.FloorAnswer.{Joins}
 use Rattle.floor.proofs.FloorRows.{walk-along}
-use Rattle.carry.specs.Carry.{nextOf, reaches, distance, greatest, farthest, longest, dearestStart, dearestGoal}
+use Rattle.carry.specs.Carry.{nextOf, reaches, distance, greatestBelow, farthest, longest, dearestStart, dearestGoal}
 use Rattle.farthest.specs.Balls.{Earlier}
 use Rattle.farthest.specs.Balls.{Reached, Dearest}
 
@@ -37,27 +37,27 @@ first-low : (f : ℕ → Bool) (n i : ℕ) → T (f i) → firstFrom f 0 n ≤ i
 first-low f n i t =
     by-cases (decLt i (firstFrom f 0 n)) (λ l. absurd (first-least f 0 n i (omega arith) l t)) (λ l. omega arith)
 
-pub greatest-over : (f : ℕ → ℕ) (k i : ℕ) → i < k → f i ≤ greatest f k
-unfolding greatest
+pub greatest-over : (f : ℕ → ℕ) (k i : ℕ) → i < k → f i ≤ greatestBelow f k
+unfolding greatestBelow
 greatest-over f zero i h = absurd (omega arith)
 greatest-over f (suc k) i h =
     by-cases (ℕ-discrete i k)
-    (λ e. omega (arith, ap f e, le-max-right (greatest f k) (f k)))
-    (λ e. omega (arith, greatest-over f k i (omega arith), le-max-left (greatest f k) (f k)))
+    (λ e. omega (arith, ap f e, le-max-right (greatestBelow f k) (f k)))
+    (λ e. omega (arith, greatest-over f k i (omega arith), le-max-left (greatestBelow f k) (f k)))
 
-pub greatest-at : (f : ℕ → ℕ) (k : ℕ) → 0 < k → (i : ℕ) × (i < k) × (f i ≡ greatest f k)
-unfolding greatest
+pub greatest-at : (f : ℕ → ℕ) (k : ℕ) → 0 < k → (i : ℕ) × (i < k) × (f i ≡ greatestBelow f k)
+unfolding greatestBelow
 greatest-at f zero h = absurd (omega arith)
 greatest-at f (suc k) h =
-    by-cases (decLe (greatest f k) (f k))
+    by-cases (decLe (greatestBelow f k) (f k))
     (λ l. (k, omega arith, sym (max-eq-right l)))
     (λ l.
     let some : 0 < k = positive k l in
     let r = greatest-at f k some in
-    let high : f k ≤ greatest f k = omega arith in
+    let high : f k ≤ greatestBelow f k = omega arith in
     (r .0, omega (arith, r .1), r .2 ∙ sym (max-eq-left high)))
   where
-    positive : (j : ℕ) → (greatest f j ≤ f j → ⊥) → 0 < j
+    positive : (j : ℕ) → (greatestBelow f j ≤ f j → ⊥) → 0 < j
     positive zero l = absurd (l (omega arith))
     positive (suc j) l = omega arith
 
@@ -129,8 +129,8 @@ module _ (F : Floor) where
       unfolding dearestStart longest
       start-below =
           let i = greatest-at (farthest F) n some in
-          let low = first-low (λ a. eqb (farthest F a) (greatest (farthest F) n)) n (i .0)
-          (eqb-parts (farthest F (i .0)) (greatest (farthest F) n) .1 (i .2)) in
+          let low = first-low (λ a. eqb (farthest F a) (greatestBelow (farthest F) n)) n (i .0)
+          (eqb-parts (farthest F (i .0)) (greatestBelow (farthest F) n) .1 (i .2)) in
           omega (arith, i .1)
 
       start-is : farthest F (dearestStart F) ≡ longest F

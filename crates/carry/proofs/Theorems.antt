@@ -14,14 +14,14 @@ use native.Mathlib.Omega.{arith}
 use borrow.Author.Tests.{lt-leb, not-false}
 use lib.Dec.{T}
 use lib.ListN.{length}
-use Rattle.answers.specs.Answer.{accepted, refuse}
-use Rattle.answers.proofs.AnswerLaws.{refuse-not, refuse-else, passUp-low, passUp-high}
+use Rattle.answers.specs.Answer.{accepted, refuse, holds}
+use Rattle.answers.proofs.AnswerLaws.{refuse-not, refuse-else, passUp-low, passUp-high, holds-true}
 use Rattle.field.proofs.BitLaws.{field-lt}
 use Rattle.field.proofs.UnitLaws.{or-left}
 use Rattle.order.specs.Floor.{Floor, some, joined}
 use Rattle.order.specs.Order.{Order, orderRecord, orderOf, edgeCount, floorOf, startsOf, goalsOf, rackCount, badEdge, ascending, wrongEdges}
 use Rattle.order.specs.Order.{repeats, wrongPlaces, orderAnswer, WellFormed}
-use Rattle.order.proofs.OrderLaws.{right-head, well-formed}
+use Rattle.order.proofs.OrderLaws.{right-order, formed-head, well-formed}
 use Rattle.order.proofs.Written.{SoundOrder, edges-below, record-read, record-sound}
 use Rattle.motion.specs.Move.{afterMove}
 use Rattle.motion.specs.Replay.{ended, replayMoves, trace}
@@ -34,8 +34,7 @@ use Rattle.plan.proofs.PlanRecord.{moves-counted}
 use Rattle.plan_check.proofs.Replayed.{the-moves, accepted-record}
 use Rattle.graph.specs.Walk.{Walk}
 use Rattle.graph.specs.Connected.{Below, Connected}
-use Rattle.floor.specs.FloorAnswer.{Joins, holds}
-use Rattle.floor.proofs.FloorLaws.{holds-true}
+use Rattle.floor.specs.FloorAnswer.{Joins}
 use Rattle.floor.proofs.FloorRows.{joined-other}
 use Rattle.floor.proofs.Layers.{edges-length}
 use Rattle.carry.specs.Carry.{reaches, distance, wayFrom, movesAlong, longest, dearestStart, dearestGoal, dearestMoves, carryRecord}
@@ -191,8 +190,8 @@ module _ (F : Floor) (some-position : 1 ≤ F .positions) (few : F .positions �
 pub dearest-carry : (o : List ℕ) → WellFormed o → Connected (floorOf o .positions) (Joins (floorOf o)) → DearestCarry (floorOf o)
 unfolding floorOf edgeCount
 dearest-carry o w whole =
-    let head = right-head o (w .length-right) (w .positions-right) in
-    floor-carry (floorOf o) (head .some-position) (head .few-positions) (w .edges-right) whole
+    let head = formed-head o w in
+    floor-carry (floorOf o) (head .some-position) (head .few-positions) (right-order o w .edges-right) whole
     (omega (arith, edges-length o, field-lt o 7 8))
 
 pub carry-accepted : (o : List ℕ) (b : ℕ) (v : List ℕ) → carryAnswer o b ≡ accepted v → DearestCarry (floorOf o)

@@ -5,7 +5,7 @@
 --     nextOf F t a        the lowest position that an edge joins to a and that passes the test t; n where there is none
 --     reaches F k a b     k moves lead from a to b
 --     distance F a b      the least number of moves from a to b; n where they never lead there
---     greatest f k        the greatest of f 0, f 1, .., f (k - 1), and 0 of none
+--     greatestBelow f k   the greatest of f 0, f 1, .., f (k - 1), and 0 of none
 --     farthest F a        the most moves that a shortest plan from a has
 --     longest F           the most moves that a shortest plan has, whatever its start
 --     dearestStart F      the lowest start of so long a shortest plan
@@ -35,15 +35,15 @@ reaches F (suc k) a b = ltb (nextOf F (λ c. reaches F k c b) a) (F .positions)
 unfoldable pub distance : Floor → ℕ → ℕ → ℕ
 distance F a b = firstFrom (λ k. reaches F k a b) 0 (F .positions)
 
-unfoldable pub greatest : (ℕ → ℕ) → ℕ → ℕ
-greatest f zero = 0
-greatest f (suc k) = max (greatest f k) (f k)
+unfoldable pub greatestBelow : (ℕ → ℕ) → ℕ → ℕ
+greatestBelow f zero = 0
+greatestBelow f (suc k) = max (greatestBelow f k) (f k)
 
 unfoldable pub farthest : Floor → ℕ → ℕ
-farthest F a = greatest (distance F a) (F .positions)
+farthest F a = greatestBelow (distance F a) (F .positions)
 
 unfoldable pub longest : Floor → ℕ
-longest F = greatest (farthest F) (F .positions)
+longest F = greatestBelow (farthest F) (F .positions)
 
 -- "Of several pairs take the lowest start, then the lowest goal". "On a floor of one position the answer is 0 to 0 with no moves."
 unfoldable pub dearestStart : Floor → ℕ

@@ -15,15 +15,15 @@ use mathlib.Core.List.{List, [], _∷_}
 use native.Mathlib.Decide.{decLt}
 use lib.ListN.{length}
 use lib.Dec.{ltb}
-use Rattle.answers.specs.Answer.{Answer, accepted, refusedBy, refuse, passUp}
+use Rattle.answers.specs.Answer.{Answer, accepted, refusedBy, refuse, passUp, holds}
 use Rattle.field.specs.Listed.{moveSize}
 use Rattle.field.specs.Units.{recordLength}
 use Rattle.field.specs.Writing.{leftBy}
 use Rattle.order.specs.Floor.{Floor, joined}
 use Rattle.order.specs.Order.{floorOf, orderAnswer}
 use Rattle.graph.specs.Connected.{Below, Connected}
-use Rattle.floor.specs.FloorAnswer.{Joins, passes?, holds}
-use Rattle.floor.specs.WayDecision.{whole?}
+use Rattle.floor.specs.FloorAnswer.{Joins, passes?}
+use Rattle.graph.proofs.WayDecision.{whole?}
 use Rattle.carry.specs.Carry.{longest, dearestStart, dearestGoal, carryRecord}
 use Rattle.carry.specs.declared.CarryVerdict.{CarryVerdict}
 use Rattle.carry.specs.declared.CarryVerdict.the-variants.{Found, Refused}

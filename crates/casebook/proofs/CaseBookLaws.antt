@@ -21,10 +21,10 @@ use Rattle.scheduling.proofs.MakerCases.{maker-open}
 use Rattle.scheduling.specs.Maker.{madeOf, makerAnswer, bufferAfter}
 use Rattle.motion.specs.Arrangement.{stands}
 use Rattle.sets.specs.First.{firstFrom}
-use Rattle.ring.specs.Circle.{placeIn, roundOf, follow, onward}
-use Rattle.floor.specs.FloorAnswer.{biConnected?, ring?, roundPlace, disordered?, floorAnswer}
+use Rattle.ring.specs.Circle.{placeOn, roundOf, follow, onward}
+use Rattle.floor.specs.FloorAnswer.{biConnected?, ring?, roundPlace, sameRound?, floorAnswer}
 use Rattle.floor.specs.Sides.{countOf, fourSided?}
-use Rattle.floor.specs.RoundDecision.{rack?, inTurn?, sameOrder?}
+use Rattle.ring.proofs.RoundDecision.{rack?, inTurn?, sameOrder?}
 use Rattle.planner.specs.Planner.{refusals, PlanMade}
 use Rattle.planner.proofs.PlannerLaws.{never-refuses, turned-away}
 use Rattle.casebook.specs.CaseBook.{Case, plan-checked, plan-made, timetable-checked, timetable-made, Made, Answers, Claim, starred}
@@ -99,8 +99,8 @@ agrees-claims (plan-made order buffer a) t = let e = same-answer (refusals order
 
 -- the one computed test
 all-agree : T (every agrees starred)
-unfolding starred every agrees sameAnswer sameList refusals floorAnswer biConnected? ring? fourSided? countOf disordered? roundPlace
-    sameOrder? rack? inTurn? placeIn roundOf follow onward firstFrom stands maker-open timetable-open
+unfolding starred every agrees sameAnswer sameList refusals floorAnswer biConnected? ring? fourSided? countOf sameRound? roundPlace
+    sameOrder? rack? inTurn? placeOn roundOf follow onward firstFrom stands maker-open timetable-open
 all-agree = tt
 
 -- the one lemma

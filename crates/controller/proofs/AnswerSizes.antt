@@ -15,7 +15,7 @@ use native.Mathlib.Omega.{arith}
 use borrow.Author.Tests.{ltb-false}
 use lib.Dec.{T, ltb, eqb, lit<, lit≤}
 use lib.ListN.{length, drop, length-append, length-map}
-use Rattle.answers.specs.Answer.{Answer, accepted, refused, refuse, passUp}
+use Rattle.answers.specs.Answer.{Answer, accepted, refused, refuse, passUp, holds}
 use Rattle.answers.proofs.AnswerLaws.{passUp-accepted}
 use Rattle.field.proofs.BitLaws.{field-lt}
 use Rattle.field.proofs.RecordLaws.{length-positions}
@@ -32,7 +32,8 @@ use Rattle.motion.specs.Replay.{Replayed, ended, stopped, replayListed, stepFau
 use Rattle.motion.proofs.StepDecision.{legalStep?}
 use Rattle.motion.proofs.Test.{cond-either}
 use Rattle.motion.proofs.Lawful.{Stops, stops-some, stepFault-none, stepFault-small, replaySteps-stopped}
-use Rattle.floor.specs.FloorAnswer.{biConnected?, disordered?, holds, vacanciesOwed, floorAnswer}
+use Rattle.floor.proofs.FloorLaws.{disordered}
+use Rattle.floor.specs.FloorAnswer.{biConnected?, vacanciesOwed, floorAnswer}
 use Rattle.floor.specs.Sides.{fourSided?}
 use Rattle.models.specs.Grid.{unknownModel}
 use Rattle.models.specs.ShortOrder.{modelCode, wrongShort}
@@ -47,11 +48,11 @@ use Rattle.timetable.specs.Timetable.{stepCount, partsOf, stepsOf, stepMoves, w
 use Rattle.timetable.specs.Timetable.{stepAnswer}
 use Rattle.timetable.proofs.StepLaws.{length-parts}
 use Rattle.timetable_check.specs.ByteString.{ByteString}
-use Rattle.timetable_check.proofs.SizeLaws.{count-small, total-small, offset-small, length-small}
+use Rattle.timetable_check.proofs.SizeLaws.{count-small, timetable-moves-small, offset-small, length-small}
 use Rattle.converting.specs.Converter.{convertedOf, converterAnswer}
 use Rattle.shortening.specs.Shortener.{shortenerAnswer}
 use Rattle.shortening.proofs.ShortenerLaws.{moves-small}
-use Rattle.season.specs.Season.{orderPart, timetablePart, behindPair, cutShort, counted, seasonFrom, seasonAnswer}
+use Rattle.season.specs.Season.{pairOrder, pairTimetable, behindPair, cutShort, counted, seasonFrom, seasonAnswer}
 use Rattle.season.specs.declared.Totals.{Totals}
 use Rattle.scheduling.specs.Maker.{makerAnswer}
 use Rattle.scheduling.proofs.SizeLaws.{steps-small}
@@ -144,7 +145,7 @@ floor-sized o =
     passUp-sized (orderAnswer o) _ (order-sized o)
     (λ v e. refuse-sized (ltb (positionCount o) (rackCount o + vacanciesOwed (floorOf o))) 20 0 _ tt tt (lit< tt)
     (λ _. refuse-sized (not (holds (biConnected? (floorOf o)))) 21 0 _ tt tt (lit< tt)
-    (λ _. refuse-sized (holds (disordered? (floorOf o) (rackCount o) (startsOf o) (goalsOf o))) 24 0 _ tt tt (lit< tt)
+    (λ _. refuse-sized (disordered (floorOf o) (rackCount o) (startsOf o) (goalsOf o)) 24 0 _ tt tt (lit< tt)
     (λ _. refuse-sized (not (holds (fourSided? (floorOf o)))) 26 0 _ tt tt (lit< tt)
     (λ _. accepts no-counts)))))
 
@@ -211,7 +212,7 @@ timetable-sized o s b =
     (λ _. refuse-sized (timetablePaddingSet s) 41 0 _ tt tt (lit< tt)
     (λ _. judged-sized 43 (goalsOf o) _ (replaySteps (legalStep? (floorOf o)) (startsOf o) (stepsOf s)) (length (stepsOf s)) tt tt
     (goals-few o) (steps-stopping (floorOf o) (startsOf o) (stepsOf s)) (omega (arith, steps-listed s, count-small s))
-    (steps-moves (count-small s) (total-small s b)))))
+    (steps-moves (count-small s) (timetable-moves-small s b)))))
 
 pub maker-sized : (o p : List ℕ) (n : ℕ) → Sized OneCount (makerAnswer o p n)
 unfolding makerAnswer
@@ -250,7 +251,7 @@ pairs-sized (suc k) q few t [] = accepts tt
 pairs-sized (suc k) q few t (b ∷ s) =
     let l = b ∷ s in
     refuse-sized (cutShort l) 46 (suc q) _ tt tt (omega arith)
-    (λ _. pairs-sized k (suc q) (omega arith) (counted t (timetableAnswer (orderPart l) (timetablePart l))) (behindPair l))
+    (λ _. pairs-sized k (suc q) (omega arith) (counted t (timetableAnswer (pairOrder l) (pairTimetable l))) (behindPair l))
 
 pub season-sized : (s : List ℕ) → Sized Any (seasonAnswer s)
 unfolding seasonAnswer

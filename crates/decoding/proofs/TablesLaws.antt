@@ -8,17 +8,16 @@ use mathlib.Core.List.{List}
 use Rattle.answers.specs.Answer.{Answer}
 use Rattle.order.specs.Order.{floorOf, startsOf, goalsOf, WellFormed}
 use Rattle.order.specs.Tables.{rowsOf, racksAt, unlessRefused, decodedRows, decodedStarts, decodedGoals}
-use Rattle.order.proofs.OrderLaws.{accepted-is}
 
 module _ (s : List ℕ) (w : WellFormed s) where
   pub decoded-rows : decodedRows s ≡ rowsOf (floorOf s)
   unfolding decodedRows
-  decoded-rows = ap (λ (a : Answer). unlessRefused a (rowsOf (floorOf s))) (accepted-is s w)
+  decoded-rows = ap (λ (a : Answer). unlessRefused a (rowsOf (floorOf s))) w
 
   pub decoded-starts : decodedStarts s ≡ racksAt (startsOf s)
   unfolding decodedStarts
-  decoded-starts = ap (λ (a : Answer). unlessRefused a (racksAt (startsOf s))) (accepted-is s w)
+  decoded-starts = ap (λ (a : Answer). unlessRefused a (racksAt (startsOf s))) w
 
   pub decoded-goals : decodedGoals s ≡ racksAt (goalsOf s)
   unfolding decodedGoals
-  decoded-goals = ap (λ (a : Answer). unlessRefused a (racksAt (goalsOf s))) (accepted-is s w)
+  decoded-goals = ap (λ (a : Answer). unlessRefused a (racksAt (goalsOf s))) w

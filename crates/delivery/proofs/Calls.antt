@@ -26,12 +26,13 @@ use Rattle.planner.specs.Planner.{PlanMade, answerOf}
 use Rattle.planner.proofs.PlannerLaws.{moves-few}
 use Rattle.planner.specs.declared.PlannerVerdict.{PlannerVerdict}
 use Rattle.planner.specs.declared.PlannerVerdict.the-variants.{Planned, Refused as PlanRefused}
-use Rattle.delivery.specs.Delivery.{notReached, answered, Answers, planLength, planAlone, timetableAlone, Called, unplanned, untimed}
-use Rattle.delivery.specs.Delivery.{checked, Delivers}
-use Rattle.delivery.proofs.DeliveryLaws.{plan-within, length-within, delivered}
+use Rattle.delivery.specs.Delivery.{notReached, answered, Answers, planLength, planAlone, Called, unplanned, untimed}
+use Rattle.delivery.specs.Delivery.{checked, DeliversBy}
+use Rattle.delivery.specs.Theorems.{timetableAlone}
+use Rattle.delivery.proofs.DeliveryLaws.{plan-within, length-within, delivered-by}
 
-pub both : {o P T : List ℕ} {a : Answers} {P′ T′ : List ℕ} → Called o P T a P′ T′ → Called o P T a P′ T′ × Delivers o P T a P′ T′
-both {o} {P} {T} c = (c, delivered o P T c)
+pub both : {o P T : List ℕ} {a : Answers} {P′ T′ : List ℕ} → Called o P T a P′ T′ → Called o P T a P′ T′ × DeliversBy o P T a P′ T′
+both {o} {P} {T} c = (c, delivered-by o P T c)
 
 module _ {o P P′ : List ℕ} where
   pub plan-made : {v : PlannerVerdict} {k : ℕ} → v ≡ Planned k → PlanMade o P (answerOf v) P′ → PlanMade o P (accepted (k ∷ [])) P′

@@ -6,13 +6,15 @@
 --     length-within      so does the timetable that is found in a buffer
 --     plan-alone         the plan just written, alone
 --     timetable-alone    the timetable just made, alone
+--     every-timetable    of every accepted plan the timetable is made, and accepted
 --     delivered          demand 3
+--     delivered-by       and in the answers of the three calls
 --     callable           moves that solve an order give answers of the three calls: what they promise can be met
 -- Assumes nothing.
 use Prim.Native.Nat.{ℕ, _+_, _*_, _≤_}
 use mathlib.Core.Path.{_≡_, refl, sym, ap, _∙_}
 use mathlib.Core.Bool.{true}
-use mathlib.Core.List.{List, [], _∷_, _++_}
+use mathlib.Core.List.{List, [], _∷_, _++_, head-eq-of-cons-eq}
 use native.Mathlib.Omega.{arith}
 use native.Mathlib.Decide.{decLe}
 use native.Mathlib.Nat.{lt-of-not-le}
@@ -27,6 +29,7 @@ use Rattle.field.proofs.WritingLaws.{written-front}
 use Rattle.order.specs.Order.{positionCount, startsOf}
 use Rattle.plan.specs.Plan.{planAnswer, planRecord, planMoves, moveCount}
 use Rattle.plan.proofs.PlanRecord.{length-record}
+use Rattle.plan_check.proofs.Replayed.{plan-replayed}
 use Rattle.timetable.specs.Timetable.{timetableAnswer, timetableRecord}
 use Rattle.timetable.proofs.TimetableRecord.{record-well-packed}
 use Rattle.timetable.specs.RecordLength.{wholeTimetableLength}
@@ -39,8 +42,9 @@ use Rattle.floor.proofs.FloorLaws.{plannable-is}
 use Rattle.method.specs.Moves.{Solves}
 use Rattle.planner.specs.Planner.{refusals, PlanMade, turned-down, made}
 use Rattle.planner.proofs.PlannerLaws.{unrefused, moves-read, count-read, edition-read, plan-accepted}
-use Rattle.delivery.specs.Delivery.{Call, answered, Answers, planLength, planAlone, timetableAlone, Called, unplanned, untimed}
-use Rattle.delivery.specs.Delivery.{checked, TimetableMade, Delivered, Delivers}
+use Rattle.delivery.specs.Theorems.{timetableAlone, TimetableMade, Delivered, Delivers}
+use Rattle.delivery.specs.Delivery.{answered, Answers, planLength, planAlone, Called, unplanned, untimed, checked}
+use Rattle.delivery.specs.Delivery.{TimetableCalled, DeliversBy}
 
 -- how long a plan buffer 23 asks for
 abbrev pub planRoom : List ℕ → ℕ
@@ -94,35 +98,50 @@ module _ (o p : List ℕ) (k : ℕ) (right : planAnswer o p ≡ accepted (k ∷ 
   left : (bufferAfter o p T ≡ timetableRecord (madeOf o p) ++ drop (length (timetableRecord (madeOf o p))) T) × Timetabled o p
   left = maker-record o p T _ answer
 
-  module _ (T′ : List ℕ) (e : T′ ≡ bufferAfter o p T) where
-    timetable-alone : timetableAlone T′ ≡ timetableRecord (madeOf o p)
-    unfolding timetableAlone
-    timetable-alone =
-        let r = timetableRecord (madeOf o p) in
-        let begins : T′ ≡ r ++ drop (length r) T = e ∙ left .0 in
-        let whole = record-well-packed (madeOf o p) (made-packable o p (k ∷ []) right) .length-right in
-        let long : wholeTimetableLength T′ ≡ length r = timetable-length-found T′ .only r (drop (length r) T) begins whole in
-        ap (take (wholeTimetableLength T′)) begins ∙ take-at r (drop (length r) T) (wholeTimetableLength T′) (sym long)
+  timetable-alone : timetableAlone (bufferAfter o p T) ≡ timetableRecord (madeOf o p)
+  unfolding timetableAlone
+  timetable-alone =
+      let T′ = bufferAfter o p T in
+      let r = timetableRecord (madeOf o p) in
+      let whole = record-well-packed (madeOf o p) (made-packable o p (k ∷ []) right) .length-right in
+      let long : wholeTimetableLength T′ ≡ length r = timetable-length-found T′ .only r (drop (length r) T) (left .0) whole in
+      ap (take (wholeTimetableLength T′)) (left .0) ∙ take-at r (drop (length r) T) (wholeTimetableLength T′) (sym long)
 
-    judged-as : timetableAnswer o (timetableAlone T′) ≡ accepted (greatest (timed (startsOf o) [] (planMoves p)) ∷ k ∷ [])
-    judged-as =
-        ap (timetableAnswer o) timetable-alone
-        ∙ left .1 .checked
-        ∙ ap (λ (j : ℕ). accepted (greatest (timed (startsOf o) [] (planMoves p)) ∷ j ∷ [])) count
+  judged-as : timetableAnswer o (timetableAlone (bufferAfter o p T))
+      ≡ accepted (greatest (timed (startsOf o) [] (planMoves p)) ∷ k ∷ [])
+  judged-as =
+      ap (timetableAnswer o) timetable-alone
+      ∙ left .1 .checked
+      ∙ ap (λ (j : ℕ). accepted (greatest (timed (startsOf o) [] (planMoves p)) ∷ j ∷ [])) count
 
-    timely : (m : ℕ) (c : Answer) → makerAnswer o p (length T) ≡ accepted (m ∷ []) → c ≡ timetableAnswer o (timetableAlone T′)
-        → TimetableMade o p k T (answered (accepted (m ∷ []))) (answered c) T′
-    timely m c a ec =
-        let both : accepted (m ∷ []) ≡ accepted (greatest (timed (startsOf o) [] (planMoves p)) ∷ []) = sym a ∙ answer in
-        let same : greatest (timed (startsOf o) [] (planMoves p)) ≡ m = cc both in
-        let short = left .1 .short in
-        record {
-          steps = m;
-          made = refl;
-          short = omega (arith, short, count);
-          stands = e ∙ left .0 ∙ sym (written-front T (timetableRecord (madeOf o p)));
-          accepts = ap answered (ec ∙ judged-as ∙ ap (λ (x : ℕ). accepted (x ∷ k ∷ [])) same);
-        }
+  unfoldable timetable-made : TimetableMade o p k T
+  timetable-made =
+      let short = left .1 .short in
+      record {
+        steps = greatest (timed (startsOf o) [] (planMoves p));
+        made = answer;
+        short = omega (arith, short, count);
+        stands = left .0 ∙ sym (written-front T (timetableRecord (madeOf o p)));
+        accepts = judged-as;
+      }
+
+  -- what was answered is what holds of the plan
+  told : (s : ℕ) (c : Answer) (T′ : List ℕ) → makerAnswer o p (length T) ≡ accepted (s ∷ []) → T′ ≡ bufferAfter o p T
+      → c ≡ timetableAnswer o (timetableAlone T′)
+      → TimetableCalled o p k T (answered (accepted (s ∷ []))) (answered c) T′
+  unfolding timetable-made
+  told s c T′ a e ec = record {
+    timetable = timetable-made;
+    made = ap answered (sym a ∙ answer);
+    left = e;
+    accepts = ap answered (ec ∙ ap (λ (B : List ℕ). timetableAnswer o (timetableAlone B)) e ∙ judged-as);
+  }
+
+-- so it is of every accepted plan, whoever wrote it
+pub every-timetable : (o p : List ℕ) (k : ℕ) → planAnswer o p ≡ accepted (k ∷ []) → (T : List ℕ) → 3 * k + 3 ≤ length T
+    → TimetableMade o p k T
+every-timetable o p k right =
+    timetable-made o p k right (head-eq-of-cons-eq (plan-replayed o .0 p (k ∷ []) .0 right .counted))
 
 -- the plan, and what comes of it
 module _ (o P : List ℕ) (can : Plannable o) (room : planRoom o ≤ length P)
@@ -133,9 +152,9 @@ module _ (o P : List ℕ) (can : Plannable o) (room : planRoom o ≤ length P)
   count : moveCount (planOf o ms) ≡ length ms
   count = count-read o can ms solves
 
-  planned : (T T′ : List ℕ) (m c : Call) → (3 * length ms + 3 ≤ length T → TimetableMade o (planOf o ms) (length ms) T m c T′)
-      → Delivered o P T (record { planner = accepted (length ms ∷ []); maker = m; checker = c }) (written P 0 (planOf o ms)) T′
-  planned T T′ m c then = record {
+  unfoldable planned : Delivered o P (accepted (length ms ∷ [])) (written P 0 (planOf o ms))
+  unfolding planLength
+  planned = record {
     moves = length ms;
     plan = planOf o ms;
     planned = refl;
@@ -145,24 +164,31 @@ module _ (o P : List ℕ) (can : Plannable o) (room : planRoom o ≤ length P)
     edition-two = edition-read o can ms solves;
     replayed = rw (moves-read o can ms solves) (solves .replayed);
     accepts = right;
-    then = then;
+    then = λ T h. timetable-made o (planOf o ms) (length ms) right count T h;
   }
 
-pub delivered : (o P T : List ℕ) {a : Answers} {P′ T′ : List ℕ} → Called o P T a P′ T′ → Delivers o P T a P′ T′
-delivered o P T (unplanned (turned-down e)) can room = absurd (never (sym (none-refuses o P can room) ∙ e))
-delivered o P T (untimed {T′ = T′} (made ms e solves) refusal left) can room =
+pub delivered : (o P : List ℕ) {a : Answer} {P′ : List ℕ} → Delivers o P a P′
+delivered o P can room (turned-down e) = absurd (never (sym (none-refuses o P can room) ∙ e))
+delivered o P can room (made ms e solves) = planned o P can room ms solves
+
+pub delivered-by : (o P T : List ℕ) {a : Answers} {P′ T′ : List ℕ} → Called o P T a P′ T′ → DeliversBy o P T a P′ T′
+unfolding planned
+delivered-by o P T (unplanned (turned-down e)) can room = absurd (never (sym (none-refuses o P can room) ∙ e))
+delivered-by o P T (untimed (made ms e solves) refusal left) can room =
     let p = planOf o ms in
-    let k = length ms in
     let own : makerAnswer o p (length T) ≡ refused _ _ = rw (plan-alone o can ms solves P) at refusal in
-    planned o P can room ms solves T T′ _ _
-    (λ h. absurd (never (sym (answer o p k (right o P can room ms solves) (count o P can room ms solves) T h) ∙ own)))
-delivered o P T (checked {s = s} {c = c} {T′ = T′} (made ms e solves) a left ec) can room =
+    record {
+      delivered = planned o P can room ms solves;
+      then = λ h. absurd (never (sym (answer o p (length ms) (right o P can room ms solves) (count o P can room ms solves) T h) ∙ own));
+    }
+delivered-by o P T (checked {s = s} {c = c} {T′ = T′} (made ms e solves) a left ec) can room =
     let p = planOf o ms in
-    let k = length ms in
     let own : makerAnswer o p (length T) ≡ accepted (s ∷ []) = rw (plan-alone o can ms solves P) at a in
     let after : T′ ≡ bufferAfter o p T = rw (plan-alone o can ms solves P) at left in
-    planned o P can room ms solves T T′ _ _
-    (λ h. timely o p k (right o P can room ms solves) (count o P can room ms solves) T h T′ after s c own ec)
+    record {
+      delivered = planned o P can room ms solves;
+      then = λ h. told o p (length ms) (right o P can room ms solves) (count o P can room ms solves) T h s c T′ own after ec;
+    }
 
 -- and what moves that solve the order let the three calls answer: the making rule's steps of them, and the same with their number
 pub callable : (o P : List ℕ) → Plannable o → planRoom o ≤ length P → (ms : List (ℕ × ℕ)) → Solves o (positionCount o) ms → (T : List ℕ)
@@ -183,5 +209,5 @@ callable o P can room ms solves T enough s e =
     let answer′ : makerAnswer o p (length T) ≡ accepted (s ∷ []) =
     answer o p (length ms) right′ count′ T enough ∙ ap (λ (x : ℕ). accepted (x ∷ [])) steps in
     let judged =
-    judged-as o p (length ms) right′ count′ T enough (bufferAfter o p T) refl ∙ ap (λ (x : ℕ). accepted (x ∷ length ms ∷ [])) steps in
+    judged-as o p (length ms) right′ count′ T enough ∙ ap (λ (x : ℕ). accepted (x ∷ length ms ∷ [])) steps in
     checked {s = s} {T′ = bufferAfter o p T} (made ms (none-refuses o P can room) solves) (rw alone answer′) (rw alone refl) (sym judged)

@@ -14,7 +14,7 @@ use mathlib.Core.List.{List, [], _∷_}
 use native.Mathlib.Omega.{arith}
 use lib.ListN.{length}
 use lib.Dec.{lit≤}
-use Rattle.answers.specs.Answer.{accepted}
+use Rattle.answers.specs.Answer.{Answer, accepted}
 use Rattle.field.specs.Bits.{bits, number, bitsOf, field}
 use Rattle.field.specs.Writing.{written}
 use Rattle.order.specs.Order.{positionCount, startsOf}
@@ -26,7 +26,9 @@ use Rattle.scheduling.specs.Maker.{bufferAfter}
 use Rattle.floor.specs.CaseBookOrders.{threeInRing}
 use Rattle.floor.proofs.ExamplesLaws.{twoRacks, plannable-met, ring-met}
 use Rattle.method.specs.Moves.{Solves}
-use Rattle.delivery.specs.Delivery.{answered, Answers, Called, Delivered}
+use Rattle.planner.specs.Planner.{PlanMade}
+use Rattle.delivery.specs.Theorems.{Delivered}
+use Rattle.delivery.specs.Delivery.{answered, Called}
 use Rattle.delivery.proofs.DeliveryLaws.{planRoom, delivered, callable}
 
 abbrev pub order₁ : List ℕ
@@ -40,13 +42,12 @@ pub room₁ : (P : List ℕ) → 1155 ≤ length P → planRoom order₁ ≤ len
 unfolding positionCount field number bitsOf bits
 room₁ P h = h
 
-pub delivered₁ : (P T : List ℕ) {a : Answers} {P′ T′ : List ℕ} → 1155 ≤ length P → Called order₁ P T a P′ T′ → Delivered order₁ P T a P′ T′
-delivered₁ P T h c = delivered order₁ P T c plannable-met (room₁ P h)
+pub delivered₁ : (P : List ℕ) {a : Answer} {P′ : List ℕ} → 1155 ≤ length P → PlanMade order₁ P a P′ → Delivered order₁ P a P′
+delivered₁ P h m = delivered order₁ P plannable-met (room₁ P h) m
 
 -- and so is the ring of three positions with one rack
-pub delivered₂ : (P T : List ℕ) {a : Answers} {P′ T′ : List ℕ} → 489 ≤ length P → Called threeInRing P T a P′ T′
-    → Delivered threeInRing P T a P′ T′
-delivered₂ P T h c = delivered threeInRing P T c ring-met (unfold positionCount field number bitsOf bits in h)
+pub delivered₂ : (P : List ℕ) {a : Answer} {P′ : List ℕ} → 489 ≤ length P → PlanMade threeInRing P a P′ → Delivered threeInRing P a P′
+delivered₂ P h m = delivered threeInRing P ring-met (unfold positionCount field number bitsOf bits in h) m
 
 pub solves₁ : Solves order₁ (positionCount order₁) moves₁
 unfolding plan-open replayMoves

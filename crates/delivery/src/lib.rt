@@ -1,10 +1,10 @@
 // Demand 3 in one function: the planner on an order, the timetable maker on that order and the plan just written, and the timetable
 // checker on that order and the timetable just written. specs/Delivery.antt says what the three calls answer and leave (`Called`), and
-// what is then true (`Delivers`).
+// that demand 3 (specs/Theorems.antt) is then true in their answers (`DeliversBy`).
 use planner::PlannerVerdict;
 use scheduling::MakerVerdict;
 use timetable::TimetableVerdict;
-ghost use Rattle.delivery.specs.Delivery.{Called, Delivers, answersOf};
+ghost use Rattle.delivery.specs.Delivery.{Called, DeliversBy, answersOf};
 
 // What came of the timetable maker's call: it is not reached where the planner refuses.
 pub enum MakerCall {
@@ -30,7 +30,7 @@ pub struct Delivery {
 pub fn deliver(order: &[u8], plan: &mut [u8], timetable: &mut [u8]) -> Delivery
     ensures called { λ r. ⌜ Called (now (order .entry)) (now (plan .entry)) (now (timetable .entry)) (answersOf r) (now (plan .exit))
         (now (timetable .exit)) ⌝ }
-    ensures delivered { λ r. ⌜ Delivers (now (order .entry)) (now (plan .entry)) (now (timetable .entry)) (answersOf r)
+    ensures delivered { λ r. ⌜ DeliversBy (now (order .entry)) (now (plan .entry)) (now (timetable .entry)) (answersOf r)
         (now (plan .exit)) (now (timetable .exit)) ⌝ }
 {
     let planned = choosing::make(order, plan);

@@ -27,16 +27,17 @@ use Rattle.order.specs.Order.{counts, orderAnswer}
 use Rattle.motion.specs.Arrangement.{stands}
 use Rattle.sets.specs.First.{firstFrom}
 use Rattle.sets.specs.Sum.{sumBelow}
-use Rattle.ring.specs.Circle.{placeIn, roundOf, follow, onward}
+use Rattle.ring.specs.Circle.{placeOn, roundOf, follow, onward}
 use Rattle.graph.specs.Connected.{BiConnected, Ring}
 use Rattle.graph.specs.Rows.{Edge}
 use Rattle.graph.specs.EdgeCount.{edgeCount as edgesIn}
-use Rattle.floor.specs.FloorAnswer.{biConnected?, ring?, roundPlace, disordered?, floorAnswer}
-use Rattle.floor.specs.RoundDecision.{rack?, inTurn?, sameOrder?}
+use Rattle.floor.specs.FloorAnswer.{biConnected?, ring?, roundPlace, sameRound?, floorAnswer}
+use Rattle.ring.proofs.RoundDecision.{rack?, inTurn?, sameOrder?}
 use Rattle.floor.specs.Sides.{countOf, neighboursAt, fourSided?}
 use Rattle.order.specs.Tables.{rowsOf}
 use Rattle.floor.specs.Plannable.{OffRing, OnRing, Plannable}
-use Rattle.floor.proofs.FloorLaws.{holds-true, plannable, offRing-rows}
+use Rattle.answers.proofs.AnswerLaws.{holds-true}
+use Rattle.floor.proofs.FloorLaws.{plannable, offRing-rows}
 use Rattle.floor.specs.CaseBookOrders.{threeInRing, mirrored, threeRacks, pathOfFour}
 
 -- F, racks from 0, 3 to 3, 0
@@ -84,7 +85,7 @@ pub floors-judged :
     × (floorAnswer fiveSpokes ≡ refused 26 0)
     × (floorAnswer fiveFull ≡ refused 20 0)
     × (floorAnswer fiveRays ≡ refused 21 0)
-unfolding floorAnswer biConnected? ring? fourSided? countOf disordered? roundPlace sameOrder? rack? inTurn? placeIn roundOf follow onward
+unfolding floorAnswer biConnected? ring? fourSided? countOf sameRound? roundPlace sameOrder? rack? inTurn? placeOn roundOf follow onward
     firstFrom stands joined some isPair orderAnswer wrongLength misfits recordLength unitCount wrongPositions paddingSet padSet unclean pad
     wrongEdges badEdge precedes ascending wrongRacks wrongPlaces repeats orderOf floorOf startsOf goalsOf counts positionCount edgeCount
     rackCount field number bitsOf bits pairs positions

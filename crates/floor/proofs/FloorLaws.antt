@@ -1,7 +1,8 @@
 -- Laws of the planner's judgement before it measures its buffer.
 --
---     holds-yes, holds-no      a decision says yes of what holds, and no of what does not
---     holds-true, holds-false  and what it says is so
+--     disordered               24's test: the floor is a ring, and the racks stand in another order round it
+--     ordered-off, ordered-on, disordered-on    what it says
+--     on-ordered, on-disordered    and what that tells
 --     floor-over               above an accepted order the judgement is 20, 21, 24 and 26
 --     owed-on, owed-off        how many vacancies a ring owes, and any other floor
 --     plannable, plannable-is  accepted is plannable, and plannable is accepted
@@ -16,7 +17,7 @@
 -- Assumes nothing.
 use Prim.Native.Nat.{ℕ, zero, suc, _+_, _≤_, _<_}
 use mathlib.Core.Path.{_≡_, refl, sym, ap, subst, _∙_}
-use mathlib.Core.Bool.{Bool, true, false, not, cond}
+use mathlib.Core.Bool.{Bool, true, false, not, cond, _&&_, false≢true}
 use mathlib.Core.List.{List, []}
 use mathlib.Core.Logic.{_≢_, inl, inr, ⊎-elim, by-cases}
 use native.Mathlib.Decide.{ℕ-discrete}
@@ -24,12 +25,13 @@ use native.Mathlib.Omega.{arith}
 use borrow.Author.Tests.{le-ltb, ltb-false, not-false}
 use lib.ListN.{length, getD}
 use lib.Dec.{ltb, lit<}
-use Rattle.answers.specs.Answer.{Answer, accepted, refused, refuse}
-use Rattle.answers.proofs.AnswerLaws.{not-both, refuse-not, refuse-else, refuse-past}
+use Rattle.answers.specs.Answer.{Answer, accepted, refused, refuse, holds}
+use Rattle.answers.proofs.AnswerLaws.{not-both, holds-yes, holds-no, holds-true, refuse-not, refuse-else, refuse-past}
 use Rattle.answers.proofs.AnswerLaws.{passUp-low, passUp-high, passUp-past, passUp-accepted}
 use Rattle.order.specs.Floor.{Floor}
 use Rattle.order.specs.Order.{positionCount, rackCount, floorOf, startsOf, goalsOf, counts, orderAnswer, WellFormed}
-use Rattle.order.proofs.OrderLaws.{well-formed, accepted-is, order-past}
+use Rattle.order.proofs.OrderLaws.{well-formed, order-past}
+use Rattle.motion.specs.Arrangement.{Arrangement}
 use Rattle.tables.proofs.AcceptedLaws.{well-placed}
 use Rattle.sets.specs.Sum.{sumBelow}
 use Rattle.sets.proofs.SetLaws.{bit-two}
@@ -37,9 +39,8 @@ use Rattle.graph.specs.Connected.{BiConnected, Ring}
 use Rattle.graph.specs.Rows.{Edge}
 use Rattle.graph.specs.EdgeCount.{rowSum, edgeCount}
 use Rattle.graph.proofs.EdgeCountLaws.{biConnected-edges}
-use Rattle.floor.specs.FloorAnswer.{Joins, biConnected?, ring?, roundPlace, Disordered, disordered?, holds, vacanciesOwed}
+use Rattle.floor.specs.FloorAnswer.{Joins, biConnected?, ring?, SameRound, sameRound?, vacanciesOwed}
 use Rattle.floor.specs.FloorAnswer.{floorAnswer}
-use Rattle.floor.specs.RoundDecision.{sameOrder?}
 use Rattle.ring.proofs.OrderLaws.{few-ordered}
 use Rattle.order.specs.Tables.{rowsOf}
 use Rattle.floor.proofs.FloorRows.{floor-rows, biConnected-rows}
@@ -48,32 +49,36 @@ use Rattle.floor.specs.Sides.{FourSided, fourSided?}
 use Rattle.floor.proofs.SidesLaws.{sides-same, ring-sides}
 use Rattle.floor.specs.Plannable.{OffRing, OnRing, Plannable}
 
-never : true ≡ false → ⊥
-never e = let z : _≡_ {A = ℕ} 0 1 = cc in omega arith
+-- 24's test
+module _ (F : Floor) (m : ℕ) (A B : Arrangement) where
+  abbrev pub disordered : Bool
+  disordered = holds (ring? F) && not (holds (sameRound? F m A B))
 
-module _ {A : Type 0} where
-  pub holds-yes : (d : Dec A) → A → holds d ≡ true
-  holds-yes (yes a) x = refl
-  holds-yes (no f) x = absurd (f x)
+  pub ordered-off : (Ring (F .positions) (Joins F) (length (F .edges)) → ⊥) → disordered ≡ false
+  ordered-off f = rw (holds-no (ring? F) f) refl
 
-  pub holds-no : (d : Dec A) → (A → ⊥) → holds d ≡ false
-  holds-no (yes a) f = absurd (f a)
-  holds-no (no f) g = refl
+  module _ (r : Ring (F .positions) (Joins F) (length (F .edges))) where
+    pub ordered-on : SameRound F m A B → disordered ≡ false
+    ordered-on s = rw (holds-yes (ring? F) r, holds-yes (sameRound? F m A B) s) refl
 
-  pub holds-true : (d : Dec A) → holds d ≡ true → A
-  holds-true (yes a) e = a
-  holds-true (no f) e = absurd (never (sym e))
+    pub disordered-on : (SameRound F m A B → ⊥) → disordered ≡ true
+    disordered-on f = rw (holds-yes (ring? F) r, holds-no (sameRound? F m A B) f) refl
 
-  pub holds-false : (d : Dec A) → holds d ≡ false → A → ⊥
-  holds-false (yes a) e x = never e
-  holds-false (no f) e x = f x
+  pub on-ordered : disordered ≡ false → Ring (F .positions) (Joins F) (length (F .edges)) → SameRound F m A B
+  on-ordered e r = by-cases (sameRound? F m A B) (λ s. s) (λ f. absurd (false≢true (sym e ∙ disordered-on r f)))
+
+  pub on-disordered : disordered ≡ true → Ring (F .positions) (Joins F) (length (F .edges)) × (SameRound F m A B → ⊥)
+  on-disordered e = (
+    by-cases (ring? F) (λ r. r) (λ f. absurd (false≢true (sym (ordered-off f) ∙ e))),
+    λ s. by-cases (ring? F) (λ r. false≢true (sym (ordered-on r s) ∙ e)) (λ f. false≢true (sym (ordered-off f) ∙ e)),
+  )
 
 -- 20, 21, 24 and 26
 abbrev pub floorRefusals : List ℕ → Answer
 floorRefusals o =
     refuse (ltb (positionCount o) (rackCount o + vacanciesOwed (floorOf o))) 20 0
     (refuse (not (holds (biConnected? (floorOf o)))) 21 0
-    (refuse (holds (disordered? (floorOf o) (rackCount o) (startsOf o) (goalsOf o))) 24 0
+    (refuse (disordered (floorOf o) (rackCount o) (startsOf o) (goalsOf o)) 24 0
     (refuse (not (holds (fourSided? (floorOf o)))) 26 0
     (accepted []))))
 
@@ -93,18 +98,18 @@ unfolding floorAnswer
 plannable o v e =
     let F = floorOf o in
     let crowded = ltb (positionCount o) (rackCount o + vacanciesOwed F) in
-    let disordered = disordered? F (rackCount o) (startsOf o) (goalsOf o) in
+    let out-of-order = disordered F (rackCount o) (startsOf o) (goalsOf o) in
     let sided = fourSided? F in
     let a₃ = refuse (not (holds sided)) 26 0 (accepted []) in
-    let a₂ = refuse (holds disordered) 24 0 a₃ in
+    let a₂ = refuse out-of-order 24 0 a₃ in
     let a₁ = refuse (not (holds (biConnected? F))) 21 0 a₂ in
     let low = passUp-low (orderAnswer o) (floorRefusals o) v e in
     let e₀ : floorRefusals o ≡ accepted v = passUp-high (orderAnswer o) (floorRefusals o) v e in
     let e₁ : a₁ ≡ accepted v = refuse-else crowded 20 0 a₁ v e₀ in
     let e₂ : a₂ ≡ accepted v = refuse-else (not (holds (biConnected? F))) 21 0 a₂ v e₁ in
-    let e₃ : a₃ ≡ accepted v = refuse-else (holds disordered) 24 0 a₃ v e₂ in
+    let e₃ : a₃ ≡ accepted v = refuse-else out-of-order 24 0 a₃ v e₂ in
     let room = ltb-false (positionCount o) (rackCount o + vacanciesOwed F) (refuse-not crowded 20 0 a₁ v e₀) in
-    let ordered = holds-false disordered (refuse-not (holds disordered) 24 0 a₃ v e₂) in
+    let ordered = refuse-not out-of-order 24 0 a₃ v e₂ in
     let four = holds-true sided (not-false (holds sided) (refuse-not (not (holds sided)) 26 0 (accepted []) v e₃)) in
     let form = well-formed o (low .0) (low .1) in
     let w = well-placed o form in
@@ -117,8 +122,7 @@ plannable o v e =
           (λ r. inr (record {
             ring = r;
             vacancy = subst (λ (k : ℕ). rackCount o + k ≤ positionCount o) (owed-on F r) room;
-            order = by-cases (sameOrder? (rackCount o) (roundPlace F (startsOf o)) (roundPlace F (goalsOf o))) (λ s. s)
-                (λ f. absurd (ordered (record { ring = r; other = f })));
+            order = on-ordered F (rackCount o) (startsOf o) (goalsOf o) ordered r;
           }))
           (λ f. inl (record { noRing = f; vacancies = subst (λ (k : ℕ). rackCount o + k ≤ positionCount o) (owed-off F f) room }));
     }
@@ -126,45 +130,46 @@ plannable o v e =
 pub plannable-is : (o : List ℕ) → Plannable o → floorAnswer o ≡ accepted []
 plannable-is o p =
     let F = floorOf o in
-    let disordered = disordered? F (rackCount o) (startsOf o) (goalsOf o) in
     let w = well-placed o (p .right) in
     let four : FourSided F = λ q l.
     subst (λ (k : ℕ). k ≤ 4) (sym (sides-same F (w .edges-below) (w .few-positions) (w .edges-right) q)) (p .sides q l) in
-    floor-over o (counts o) (accepted-is o (p .right))
+    floor-over o (counts o) (p .right)
     ∙ ⊎-elim
     (λ k. rw (
       le-ltb (positionCount o) (rackCount o + vacanciesOwed F)
           (subst (λ (x : ℕ). rackCount o + x ≤ positionCount o) (sym (owed-off F (k .noRing))) (k .vacancies)),
       holds-yes (biConnected? F) (p .biConnected),
-      holds-no disordered (λ d. k .noRing (d .ring)),
+      ordered-off F (rackCount o) (startsOf o) (goalsOf o) (k .noRing),
       holds-yes (fourSided? F) four,
     ) refl)
     (λ k. rw (
       le-ltb (positionCount o) (rackCount o + vacanciesOwed F)
           (subst (λ (x : ℕ). rackCount o + x ≤ positionCount o) (sym (owed-on F (k .ring))) (k .vacancy)),
       holds-yes (biConnected? F) (p .biConnected),
-      holds-no disordered (λ d. d .other (k .order)),
+      ordered-on F (rackCount o) (startsOf o) (goalsOf o) (k .ring) (k .order),
       holds-yes (fourSided? F) four,
     ) refl)
     (p .kind)
 
 pub told-disordered : (o : List ℕ) → floorAnswer o ≡ refused 24 0
-    → WellFormed o × Disordered (floorOf o) (rackCount o) (startsOf o) (goalsOf o)
+    → WellFormed o × Ring (floorOf o .positions) (Joins (floorOf o)) (length (floorOf o .edges))
+    × (SameRound (floorOf o) (rackCount o) (startsOf o) (goalsOf o) → ⊥)
 unfolding floorAnswer
 told-disordered o e =
     let F = floorOf o in
     let below = passUp-past (orderAnswer o) (floorRefusals o) 24 0 (order-past o 24 0 (lit< tt)) e in
     let t₀ = refuse-past (ltb (positionCount o) (rackCount o + vacanciesOwed F)) 20 0 _ 24 0 (λ z. omega arith) (below .1) in
     let t₁ = refuse-past (not (holds (biConnected? F))) 21 0 _ 24 0 (λ z. omega arith) (t₀ .1) in
-    let disordered = disordered? F (rackCount o) (startsOf o) (goalsOf o) in
-    (well-formed o (below .0 .0) (below .0 .1), told disordered (not (holds (fourSided? F))) (t₁ .1))
+    let out-of-order = disordered F (rackCount o) (startsOf o) (goalsOf o) in
+    let is = on-disordered F (rackCount o) (startsOf o) (goalsOf o) (told out-of-order (not (holds (fourSided? F))) (t₁ .1)) in
+    (well-formed o (below .0 .0) (below .0 .1), is .0, is .1)
   where
-    told : {A : Type 0} (d : Dec A) (t : Bool) → refuse (holds d) 24 0 (refuse t 26 0 (accepted [])) ≡ refused 24 0 → A
-    told (yes a) t e = a
-    told (no f) t e = absurd (not-both 24 0 [] (sym (refuse-past t 26 0 (accepted []) 24 0 (λ z. omega arith) e .1)))
+    told : (d t : Bool) → refuse d 24 0 (refuse t 26 0 (accepted [])) ≡ refused 24 0 → d ≡ true
+    told true t e = refl
+    told false t e = absurd (not-both 24 0 [] (sym (refuse-past t 26 0 (accepted []) 24 0 (λ z. omega arith) e .1)))
 
 pub few-never : (o : List ℕ) → rackCount o ≤ 2 → floorAnswer o ≢ refused 24 0
-few-never o l e = told-disordered o e .1 .other (few-ordered (rackCount o) _ _ l)
+few-never o l e = told-disordered o e .2 (few-ordered (rackCount o) _ _ l)
 
 pub told-sides : (o : List ℕ) → floorAnswer o ≡ refused 26 0 → WellFormed o × (FourSided (floorOf o) → ⊥)
 unfolding floorAnswer
@@ -173,7 +178,7 @@ told-sides o e =
     let below = passUp-past (orderAnswer o) (floorRefusals o) 26 0 (order-past o 26 0 (lit< tt)) e in
     let t₀ = refuse-past (ltb (positionCount o) (rackCount o + vacanciesOwed F)) 20 0 _ 26 0 (λ z. omega arith) (below .1) in
     let t₁ = refuse-past (not (holds (biConnected? F))) 21 0 _ 26 0 (λ z. omega arith) (t₀ .1) in
-    let t₂ = refuse-past (holds (disordered? F (rackCount o) (startsOf o) (goalsOf o))) 24 0 _ 26 0 (λ z. omega arith) (t₁ .1) in
+    let t₂ = refuse-past (disordered F (rackCount o) (startsOf o) (goalsOf o)) 24 0 _ 26 0 (λ z. omega arith) (t₁ .1) in
     (well-formed o (below .0 .0) (below .0 .1), told (fourSided? F) (t₂ .1))
   where
     told : {A : Type 0} (d : Dec A) → refuse (not (holds d)) 26 0 (accepted []) ≡ refused 26 0 → A → ⊥

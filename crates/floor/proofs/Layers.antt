@@ -18,7 +18,7 @@ use native.Mathlib.Omega.{arith}
 use borrow.Author.Tests.{lt-ltb, le-ltb}
 use lib.ListN.{length}
 use lib.Dec.{ltb}
-use Rattle.answers.specs.Answer.{Answer, accepted, refused, passUp}
+use Rattle.answers.specs.Answer.{Answer, accepted, refused, passUp, holds}
 use Rattle.field.proofs.RecordLaws.{length-pairs}
 use Rattle.order.specs.Order.{positionCount, edgeCount, rackCount, floorOf, startsOf, goalsOf, counts, orderAnswer}
 use Rattle.tables.specs.Accepted.{OrderGave}
@@ -27,12 +27,13 @@ use Rattle.tables.proofs.Layers.{handed-up}
 use Rattle.graph.specs.Connected.{BiConnected, Ring}
 use Rattle.graph.specs.EdgeCount.{edgeCount as edgesIn, FourSided as FourInRows}
 use Rattle.graph.specs.Rows.{Edge}
-use Rattle.floor.specs.FloorAnswer.{Joins, SameRound, biConnected?, disordered?, vacanciesOwed, holds, floorAnswer}
+use Rattle.floor.specs.FloorAnswer.{Joins, SameRound, biConnected?, vacanciesOwed, floorAnswer}
 use Rattle.order.specs.Tables.{rowsOf, decodedRows, decodedStarts, decodedGoals}
 use Rattle.floor.specs.RingTables.{RingTables}
 use Rattle.floor.specs.Sides.{FourSided, fourSided?}
 use Rattle.floor.proofs.FloorRows.{filled-is, filled-biConnected}
-use Rattle.floor.proofs.FloorLaws.{holds-yes, holds-no, floorRefusals, floor-over, owed-on, owed-off}
+use Rattle.answers.proofs.AnswerLaws.{holds-yes, holds-no}
+use Rattle.floor.proofs.FloorLaws.{ordered-off, ordered-on, disordered-on, floorRefusals, floor-over, owed-on, owed-off}
 use Rattle.floor.proofs.EdgesCounted.{edges-counted, ring-rows}
 use Rattle.floor.proofs.SidesLaws.{sides-rows, ring-sides}
 
@@ -105,7 +106,7 @@ module _ {o : List ℕ} {n e m : ℕ} (gave : OrderGave o n e m) where
       ∙ rw (
         vacant 1 (owed-on (floorOf o) ring) (omega arith),
         holds-yes (biConnected? (floorOf o)) (ring .biConnected),
-        holds-yes (disordered? (floorOf o) (rackCount o) (startsOf o) (goalsOf o)) (record { ring = ring; other = other }),
+        disordered-on (floorOf o) (rackCount o) (startsOf o) (goalsOf o) ring other,
       ) refl)
 
   pub ring-plain : RingFloor o → m < n → Order o → accepted [] ≡ floorAnswer o
@@ -116,7 +117,7 @@ module _ {o : List ℕ} {n e m : ℕ} (gave : OrderGave o n e m) where
       ∙ rw (
         vacant 1 (owed-on (floorOf o) ring) (omega arith),
         holds-yes (biConnected? (floorOf o)) (ring .biConnected),
-        holds-no (disordered? (floorOf o) (rackCount o) (startsOf o) (goalsOf o)) (λ d. d .other same),
+        ordered-on (floorOf o) (rackCount o) (startsOf o) (goalsOf o) ring same,
         holds-yes (fourSided? (floorOf o)) (ring-sides (floorOf o) (w .edges-below) (w .few-positions) (w .edges-right) ring),
       ) refl)
 
@@ -164,7 +165,7 @@ module _ {o : List ℕ} {n e m : ℕ} (gave : OrderGave o n e m) where
             ∙ rw (
               vacant 2 (owed-off (floorOf o) off) room,
               holds-yes (biConnected? (floorOf o)) (filled-biConnected gave filled .0 (t .0 y)),
-              holds-no (disordered? (floorOf o) (rackCount o) (startsOf o) (goalsOf o)) (λ d. off (d .ring)),
+              ordered-off (floorOf o) (rackCount o) (startsOf o) (goalsOf o) off,
               holds-no (fourSided? (floorOf o)) (λ b. false≢true (sym f ∙ u .1 (four .1 b))),
             ) refl)
 
@@ -175,6 +176,6 @@ module _ {o : List ℕ} {n e m : ℕ} (gave : OrderGave o n e m) where
             ∙ rw (
               vacant 2 (owed-off (floorOf o) off) room,
               holds-yes (biConnected? (floorOf o)) (filled-biConnected gave filled .0 (t .0 y)),
-              holds-no (disordered? (floorOf o) (rackCount o) (startsOf o) (goalsOf o)) (λ d. off (d .ring)),
+              ordered-off (floorOf o) (rackCount o) (startsOf o) (goalsOf o) off,
               holds-yes (fourSided? (floorOf o)) (four .0 (u .0 z)),
             ) refl)

@@ -22,7 +22,7 @@ use Rattle.motion.proofs.ArrangementLaws.{occupied-rack, occupied-or-vacant}
 use Rattle.tables.proofs.TablesLaws.{Holds}
 use Rattle.tables.proofs.TableLaws.{passed}
 use Rattle.graph.specs.Rows.{row, Edge, Rows}
-use Rattle.ring.specs.Circle.{Circle, roundOf, edgeIn, placeIn}
+use Rattle.ring.specs.Circle.{Circle, roundOf, edgeIn, placeOn}
 use Rattle.ring.specs.Order.{Rack, InTurn, SameOrder}
 use Rattle.ring.specs.Standing.{OnCircle, StandAt}
 use Rattle.ring.proofs.CircleLaws.{circle-every, circle-one}
@@ -138,7 +138,7 @@ module _ {o : List ℕ} {n m : ℕ} {g h k : List ℕ} (t : RingTables o n m g h
         (sym index) ∙ unfolded A r in
         sym (round-place (ring-degree rows (t .rings)) (edgeIn g) (edge-test rows (t .rings)) (stands A r)
         (subst (λ (y : ℕ). y < n) (read (p r) lp ∙ same) (circle .inside (p r) lp)) (p r) lp same)
-        ∙ ap (λ (l : List ℕ). placeIn l (stands A r)) round-is
+        ∙ ap (λ (l : List ℕ). placeOn l (stands A r)) round-is
       where
         unfolded : (A : Arrangement) (r : ℕ) → getD A (r - 1) 0 ≡ stands A r
         unfolded A r = unfold stands in refl

@@ -7,30 +7,29 @@
 --     ring? F            the floor F is a ring or not
 --     roundPlace F A r   where on the circle of the ring F rack r of the arrangement A stands
 --     SameRound F m A B  the racks 1 to m stand in the same order round the ring F in A and in B
---     Disordered F m A B     F is a ring, and round it they do not
---     disordered? F m A B    that is so or not
---     holds d            the decision d says yes
+--     sameRound? F m A B     that is so or not
 --     vacanciesOwed F    how many positions of the floor F have to be vacant
 --     floorAnswer o      the answer for the order o: the order reader's refusal, else the first of 20, 21, 24, 26 that applies, else
 --                        accepted
 -- What a decision decides is its type: `BiConnected` and `Ring` are defined by walks (crates/graph, Connected), `SameOrder` by any three
--- racks (crates/ring, Order). How it does so (WayDecision, RoundDecision) is no part of what is promised.
+-- racks (crates/ring, Order). How it does so (crates/graph/proofs/WayDecision.antt, crates/ring/proofs/RoundDecision.antt) is no part of
+-- what is promised.
 -- Assumes nothing.
 use Prim.Native.Nat.{ℕ, _+_}
-use mathlib.Core.Bool.{Bool, true, false, not, cond}
+use mathlib.Core.Bool.{Bool, true, false, not, cond, _&&_}
 use mathlib.Core.List.{List, []}
 use native.Mathlib.Decide.{ℕ-discrete}
 use lib.ListN.{length}
 use lib.Dec.{T, ltb}
-use Rattle.answers.specs.Answer.{Answer, accepted, refuse, passUp}
+use Rattle.answers.specs.Answer.{Answer, accepted, holds, refuse, passUp}
 use Rattle.order.specs.Floor.{Floor, joined}
 use Rattle.order.specs.Order.{positionCount, rackCount, floorOf, startsOf, goalsOf, orderAnswer}
 use Rattle.motion.specs.Arrangement.{Arrangement, stands}
 use Rattle.graph.specs.Connected.{BiConnected, Ring}
-use Rattle.ring.specs.Circle.{roundOf, placeIn}
+use Rattle.ring.specs.Circle.{roundOf, placeOn}
 use Rattle.ring.specs.Order.{SameOrder}
-use Rattle.floor.specs.WayDecision.{alike?, both?, not?, decideBiConnected}
-use Rattle.floor.specs.RoundDecision.{sameOrder?}
+use Rattle.graph.proofs.WayDecision.{alike?, both?, not?, decideBiConnected}
+use Rattle.ring.proofs.RoundDecision.{sameOrder?}
 use Rattle.floor.specs.Sides.{fourSided?}
 
 abbrev pub Joins : Floor → ℕ → ℕ → Type 0
@@ -54,25 +53,15 @@ ring? F =
 
 -- the n positions of a ring are read round it from position 0 on, towards the lower of its two neighbours (crates/ring, Circle)
 unfoldable pub roundPlace : Floor → Arrangement → ℕ → ℕ
-roundPlace F A r = placeIn (roundOf (F .positions) (joined F)) (stands A r)
+roundPlace F A r = placeOn (roundOf (F .positions) (joined F)) (stands A r)
 
 -- "whenever the racks stand in the same order round it at start and goal"
 abbrev pub SameRound : Floor → ℕ → Arrangement → Arrangement → Type 0
 SameRound F m A B = SameOrder m (roundPlace F A) (roundPlace F B)
 
-pub record Disordered (F : Floor) (m : ℕ) (A B : Arrangement) : Type 0 where
-  pub ring : Ring (F .positions) (Joins F) (length (F .edges))
-  pub other : SameRound F m A B → ⊥
-
-unfoldable pub disordered? : (F : Floor) (m : ℕ) (A B : Arrangement) → Dec (Disordered F m A B)
-unfolding alike? both? ring? not?
-disordered? F m A B =
-    alike? (λ h. record { ring = h .0; other = h .1 }) (λ d. (d .ring, d .other))
-    (both? (ring? F) (not? (sameOrder? m (roundPlace F A) (roundPlace F B))))
-
-abbrev pub holds : {A : Type 0} → Dec A → Bool
-holds (yes a) = true
-holds (no f) = false
+unfoldable pub sameRound? : (F : Floor) (m : ℕ) (A B : Arrangement) → Dec (SameRound F m A B)
+unfolding sameOrder?
+sameRound? F m A B = sameOrder? m (roundPlace F A) (roundPlace F B)
 
 -- 20: "m + 2 is above n"; "On a ring, 20 is given only when no position is vacant."
 abbrev pub vacanciesOwed : Floor → ℕ
@@ -86,6 +75,6 @@ floorAnswer o =
     passUp (orderAnswer o)
     (refuse (ltb (positionCount o) (rackCount o + vacanciesOwed (floorOf o))) 20 0
     (refuse (not (holds (biConnected? (floorOf o)))) 21 0
-    (refuse (holds (disordered? (floorOf o) (rackCount o) (startsOf o) (goalsOf o))) 24 0
+    (refuse (holds (ring? (floorOf o)) && not (holds (sameRound? (floorOf o) (rackCount o) (startsOf o) (goalsOf o)))) 24 0
     (refuse (not (holds (fourSided? (floorOf o)))) 26 0
     (accepted [])))))

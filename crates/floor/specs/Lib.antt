@@ -1,7 +1,5 @@
 pub mod FloorAnswer
 pub mod Verdict
-pub mod WayDecision
-pub mod RoundDecision
 pub mod RingTables
 pub mod Sides
 pub mod Plannable

@@ -15,7 +15,7 @@ use native.Mathlib.Decide.{decLe}
 use lib.Dec.{eqb}
 use Rattle.order.specs.Floor.{Floor, joined}
 use Rattle.sets.specs.Sum.{sumBelow}
-use Rattle.floor.specs.WayDecision.{every?}
+use Rattle.graph.proofs.WayDecision.{every?}
 
 unfoldable pub countOf : {X : Type 0} → (X → Bool) → List X → ℕ
 countOf t [] = 0

@@ -8,3 +8,4 @@ pub mod FewLaws
 pub mod NearestLaws
 pub mod RowLaws
 pub mod WalkLaws
+pub mod WayDecision

@@ -49,7 +49,7 @@ use Rattle.shunting.proofs.ClearLaws.{clear-room}
 use Rattle.solving.proofs.Held.{HeldBy, held-racks, went-led}
 use Rattle.method.proofs.OrderTables.{held-by}
 use Rattle.inspection.specs.Inspection.{upTo, Copied}
-use Rattle.inspection.specs.NearestDecision.{Found}
+use Rattle.shunting.proofs.NearestDecision.{Found}
 use Rattle.inspection.specs.Clear.{Loose, away, told, clearNumber, ClearLeft}
 use Rattle.inspection.specs.Clear.ClearLeft.{cleared}
 use Rattle.inspection.proofs.CopyLaws.{upTo-used}

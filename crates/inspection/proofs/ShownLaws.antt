@@ -17,7 +17,6 @@ use lib.ListN.{length}
 use Rattle.answers.specs.Answer.{accepted, refused}
 use Rattle.order.specs.Order.{floorOf, counts, orderAnswer}
 use Rattle.order.specs.Tables.{rowsOf, decodedRows}
-use Rattle.order.proofs.OrderLaws.{accepted-is}
 use Rattle.tables.specs.Accepted.{OrderGave}
 use Rattle.graph.specs.Connected.{BiConnected, Ring}
 use Rattle.graph.specs.Rows.{row}
@@ -79,7 +78,7 @@ pub short : (o old : List ℕ) → length old < 256 → Inspected o old old 0
 short o old l = nothing-shown o old (λ b. let r = b .room in omega arith)
 
 pub order-refused : (o old : List ℕ) (number place : ℕ) → refused number place ≡ orderAnswer o → Inspected o old old 0
-order-refused o old number place f = nothing-shown o old (λ b. never (f ∙ accepted-is o (b .order-right)))
+order-refused o old number place f = nothing-shown o old (λ b. never (f ∙ b .order-right))
   where
     never : refused number place ≡ accepted (counts o) → ⊥
     never e = let z : _≡_ {A = ℕ} 0 1 = cc in omega arith

@@ -26,10 +26,10 @@ use Rattle.order.specs.Order.{floorOf, startsOf, orderAnswer}
 use Rattle.order.specs.Tables.{racksAt}
 use Rattle.motion.specs.Arrangement.{Arrangement, rackAt}
 use Rattle.motion.specs.Replay.{ended, replayMoves}
-use Rattle.floor.specs.WayDecision.{alike?}
+use Rattle.graph.proofs.WayDecision.{alike?}
 use Rattle.floor.specs.FloorAnswer.{Joins, passes?}
 use Rattle.shunting.specs.Distance.{Unheld}
-use Rattle.inspection.specs.NearestDecision.{Found, nearest?}
+use Rattle.shunting.proofs.NearestDecision.{Found, nearest?}
 
 abbrev pub Loose : List ℕ → ℕ → ℕ → Type 0
 Loose o held = Unheld (floorOf o .positions) held

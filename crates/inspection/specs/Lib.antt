@@ -1,4 +1,3 @@
 pub mod Inspection
 pub mod Told
-pub mod NearestDecision
 pub mod Clear

@@ -34,7 +34,7 @@ use Rattle.stepping.specs.Judging.{knows}
 use Rattle.live.specs.HereDecision.{legalTest, legalHere?}
 use Rattle.live.specs.Calls.{cannotRun, cannotTakeBack, ownAnswer, callAnswer, changed, pictureAfter}
 use Rattle.stepping.specs.Judging.{stepNumbered}
-use Rattle.live.specs.Theorems.{Call, after, kept, Lends, Replayed, CanGoOn, ByViewer, NotBySupervisor}
+use Rattle.live.specs.Theorems.{Call, afterCalls, kept, Lends, PictureReplayed, CanGoOn, ByViewer, NotBySupervisor}
 use Rattle.live.specs.declared.Role.{Role}
 use Rattle.live.proofs.Theorems.{live-replayed, live-goes-on, viewer-keeps, never-back}
 
@@ -135,10 +135,10 @@ same-pair =
 abbrev begun : Picture
 begun = pictureAfter opening Role.Viewer closed order₁ timetable₁
 
-pub replayed : Replayed order₁ (kept [] begun calls) (after begun calls)
+pub replayed : PictureReplayed order₁ (kept [] begun calls) (afterCalls begun calls)
 replayed = live-replayed order₁ timetable₁ (0 ∷ []) Role.Viewer closed (opens closed) same-pair
 
-pub goes-on : CanGoOn (after begun calls) order₁ timetable₁
+pub goes-on : CanGoOn (afterCalls begun calls) order₁ timetable₁
 goes-on = live-goes-on order₁ timetable₁ (0 ∷ []) Role.Viewer closed (opens closed) same-pair
 
 -- two kinds are not the same
@@ -148,7 +148,7 @@ no-opening e f = let z : _≡_ {A = ℕ} 0 1 = cc in omega arith
 pub viewers : Each ByViewer (by running Role.Viewer ∷ [])
 viewers = each-more (record { viewer = refl; no-opening = no-opening refl }) each-none
 
-pub stayed : after halfway (by running Role.Viewer ∷ []) ≡ halfway
+pub stayed : afterCalls halfway (by running Role.Viewer ∷ []) ≡ halfway
 stayed = viewer-keeps halfway viewers
 
 -- nor are two roles
@@ -158,5 +158,5 @@ no-supervisor e f = let z : _≡_ {A = ℕ} 0 1 = cc in omega arith
 pub lower : Each NotBySupervisor (by running Role.Operator ∷ [])
 lower = each-more (record { lower = no-supervisor refl; no-opening = no-opening refl }) each-none
 
-pub counted : starting .steps ≤ after starting (by running Role.Operator ∷ []) .steps
+pub counted : starting .steps ≤ afterCalls starting (by running Role.Operator ∷ []) .steps
 counted = never-back starting lower

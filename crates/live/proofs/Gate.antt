@@ -17,7 +17,8 @@ use mathlib.Core.List.{List, [], _∷_}
 use native.Mathlib.Omega.{arith}
 use Rattle.answers.specs.Answer.{Answer, accepted, refused, refuse, passUp}
 use Rattle.answers.specs.declared.Fault.{Fault}
-use Rattle.timetable.specs.Timetable.{stepCount, total, partsOf, timetableAnswer}
+use Rattle.timetable.specs.Reading.{total}
+use Rattle.timetable.specs.Timetable.{stepCount, partsOf, timetableAnswer}
 use Rattle.timetable_check.proofs.SizeLaws.{count-small}
 use Rattle.timetable_check.proofs.Leading.{accepted-leads}
 use Rattle.live.specs.Picture.{Picture}

@@ -25,7 +25,7 @@ use Rattle.trains.proofs.LegalOn.{legal-step-same}
 use Rattle.live.specs.Picture.{Picture, heldFrom, standing, LegalHere}
 use Rattle.stepping.specs.Judging.{knows, legalOn}
 use Rattle.live.specs.HereDecision.{legalTest, legalTest-iff, legalHere?}
-use Rattle.live.specs.Calls.{holds}
+use Rattle.answers.specs.Answer.{holds}
 
 -- no position below p is listed
 below-none : (p : ℕ) (h : List ℕ) (q : ℕ) → q < p → occupied (heldFrom p h) q ≡ false

@@ -22,7 +22,7 @@ use borrow.Author.Tests.{leb-false, eqb-false, le-leb, lt-leb, eq-eqb, ne-eqb, l
 use lib.Dec.{leb, eqb, ltb}
 use lib.ListN.{length, take}
 use lib.Seq.{length-take-le, take-take}
-use Rattle.answers.specs.Answer.{Answer, accepted, refused, refuse}
+use Rattle.answers.specs.Answer.{Answer, accepted, refused, refuse, holds}
 use Rattle.answers.proofs.AnswerLaws.{refuse-not, refuse-else, passUp-low, passUp-high}
 use Rattle.field.proofs.UnitLaws.{or-left}
 use Rattle.order.specs.Order.{floorOf, startsOf}
@@ -37,10 +37,11 @@ use Rattle.timetable_check.proofs.Leading.{LeadingTimetable, accepted-leads}
 use Rattle.live.specs.Picture.{Picture}
 use Rattle.live.specs.Roles.{Kind, opening, reading, running, takingBack}
 use Rattle.live.specs.HereDecision.{legalHere?}
-use Rattle.live.specs.Calls.{allowed, holds, cannotRun, cannotTakeBack, ownAnswer, callAnswer, changed, byAnswer}
+use Rattle.live.specs.Calls.{allowed, cannotRun, cannotTakeBack, ownAnswer, callAnswer, changed, byAnswer}
 use Rattle.stepping.specs.Judging.{stepNumbered}
 use Rattle.live.specs.Calls.{pictureAfter}
-use Rattle.live.specs.Theorems.{Call, answerTo, onward, after, keptBy, kept, Lends, Replayed, CanGoOn, ByViewer, NotBySupervisor}
+use Rattle.live.specs.Theorems.{Call, answerTo, afterCall, afterCalls, keptBy, kept, Lends, PictureReplayed, CanGoOn}
+use Rattle.live.specs.Theorems.{ByViewer, NotBySupervisor}
 use Rattle.live.specs.declared.Role.{Role}
 use Rattle.live.proofs.HereLaws.{here-yes}
 use Rattle.stepping.proofs.Steps.{first-is}
@@ -112,11 +113,11 @@ module _ (o t v : List ℕ) (l : LeadingTimetable o t v) where
         on (refused n p) e = f
 
   calls-follow : (P : Picture) (ls : List (List (ℕ × ℕ))) → Kept P ls → {cs : List Call} → Each (Lends o t) cs
-      → Kept (after P cs) (kept ls P cs)
-  unfolding after kept
+      → Kept (afterCalls P cs) (kept ls P cs)
+  unfolding afterCalls kept
   calls-follow P ls f each-none = f
   calls-follow P ls f (each-more {x = c} lends rest) =
-      let here : Kept (onward P c) (byAnswer (answerTo P c) (keptBy (c .kind) (c .timetable) P ls) ls) =
+      let here : Kept (afterCall P c) (byAnswer (answerTo P c) (keptBy (c .kind) (c .timetable) P ls) ls) =
       subst
       (λ (o′ : List ℕ). Kept (pictureAfter (c .kind) (c .role) P o′ (c .timetable))
       (byAnswer (callAnswer (c .kind) (c .role) P o′ (c .timetable)) (keptBy (c .kind) (c .timetable) P ls) ls))
@@ -126,7 +127,7 @@ module _ (o t v : List ℕ) (l : LeadingTimetable o t v) where
       (byAnswer (callAnswer (c .kind) (c .role) P o t′) (keptBy (c .kind) t′ P ls) ls))
       (sym (lends .timetable-is))
       (call-follows (c .role) P ls f (c .kind))) in
-      calls-follow (onward P c) _ here rest
+      calls-follow (afterCall P c) _ here rest
 
 -- after an opening that succeeded
 
@@ -144,12 +145,12 @@ module _ (o t w : List ℕ) (r : Role) (P : Picture) (e : callAnswer opening r P
 
   module _ {cs : List Call} (same : Each (Lends o t) cs) where
     abbrev Q : Picture
-    Q = after (pictureAfter opening r P o t) cs
+    Q = afterCalls (pictureAfter opening r P o t) cs
 
     there : Kept o t (accepts .0) leads Q (kept [] (pictureAfter opening r P o t) cs)
     there = calls-follow o t (accepts .0) leads (pictureAfter opening r P o t) [] begins same
 
-    pub live-replayed : Replayed o (kept [] (pictureAfter opening r P o t) cs) Q
+    pub live-replayed : PictureReplayed o (kept [] (pictureAfter opening r P o t) cs) Q
     live-replayed =
         let f = there .follows in
         record {
@@ -216,7 +217,7 @@ module _ (r : Role) (P : Picture) (o t w : List ℕ) (can : CanGoOn P o t) (chec
 
 -- who may not change the picture
 
-pub refused-keeps : (P : Picture) (c : Call) (n p : ℕ) → answerTo P c ≡ refused n p → onward P c ≡ P
+pub refused-keeps : (P : Picture) (c : Call) (n p : ℕ) → answerTo P c ≡ refused n p → afterCall P c ≡ P
 unfolding pictureAfter
 refused-keeps P c n p e = rw e refl
 
@@ -243,14 +244,14 @@ viewer-stays reading P o t d = read-stays Role.Viewer P o t
 viewer-stays running P o t d = stays running Role.Viewer P o t refl
 viewer-stays takingBack P o t d = stays takingBack Role.Viewer P o t refl
 
-pub viewer-keeps : (P : Picture) {cs : List Call} → Each ByViewer cs → after P cs ≡ P
-unfolding after
+pub viewer-keeps : (P : Picture) {cs : List Call} → Each ByViewer cs → afterCalls P cs ≡ P
+unfolding afterCalls
 viewer-keeps P each-none = refl
 viewer-keeps P (each-more {x = c} {xs = cs} by rest) =
-    let here : onward P c ≡ P =
+    let here : afterCall P c ≡ P =
     ap (λ (r : Role). pictureAfter (c .kind) r P (c .order) (c .timetable)) (by .viewer)
     ∙ viewer-stays (c .kind) P (c .order) (c .timetable) (by .no-opening) in
-    ap (λ (Q : Picture). after Q cs) here ∙ viewer-keeps P rest
+    ap (λ (Q : Picture). afterCalls Q cs) here ∙ viewer-keeps P rest
 
 pub operator-back : (P : Picture) (o t : List ℕ) → callAnswer takingBack Role.Operator P o t ≡ refused 60 0
 operator-back P o t = lacking takingBack Role.Operator P o t refl
@@ -278,9 +279,9 @@ no-fewer running r P o t d s = on (callAnswer running r P o t)
 no-fewer takingBack r P o t d s =
     subst (λ (Q : Picture). P .steps ≤ Q .steps) (sym (stays takingBack r P o t (back-lacking r P s))) (omega arith)
 
-pub never-back : (P : Picture) {cs : List Call} → Each NotBySupervisor cs → P .steps ≤ after P cs .steps
-unfolding after
+pub never-back : (P : Picture) {cs : List Call} → Each NotBySupervisor cs → P .steps ≤ afterCalls P cs .steps
+unfolding afterCalls
 never-back P each-none = omega arith
 never-back P (each-more {x = c} by rest) =
     let here = no-fewer (c .kind) (c .role) P (c .order) (c .timetable) (by .no-opening) (by .lower) in
-    omega (arith, here, never-back (onward P c) rest)
+    omega (arith, here, never-back (afterCall P c) rest)

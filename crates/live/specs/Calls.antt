@@ -2,7 +2,6 @@
 -- answer, and the picture afterwards.
 --
 --     allowed k r P          the role r has a right to the call k on the picture P
---     holds d                the decision d says yes
 --     cannotRun P o t        61 applies to the picture P with the lent order o and timetable t
 --     cannotTakeBack P o t   62 does
 --     ownAnswer k P o t      the answer to the call k that is no refusal by 60 or by the checker
@@ -17,7 +16,7 @@ use Prim.Native.Nat.{ℕ, _+_, _-_}
 use mathlib.Core.Bool.{Bool, true, false, not, _&&_, _||_}
 use mathlib.Core.List.{List, [], _∷_}
 use lib.Dec.{eqb, ltb, leb}
-use Rattle.answers.specs.Answer.{Answer, accepted, refused, refusedBy, refuse, passUp}
+use Rattle.answers.specs.Answer.{Answer, accepted, refused, refusedBy, holds, refuse, passUp}
 use Rattle.order.specs.Order.{positionCount, floorOf, startsOf}
 use Rattle.order.specs.Tables.{racksAt}
 use Rattle.motion.specs.TurnedStep.{turnedStep}
@@ -37,10 +36,6 @@ allowed opening r P = right opening r
 allowed reading r P = right reading r && isOpen P
 allowed running r P = right running r && isOpen P
 allowed takingBack r P = right takingBack r && isOpen P
-
-abbrev pub holds : {A : Type 0} → Dec A → Bool
-holds (yes a) = true
-holds (no f) = false
 
 -- 61: "no step left to run, or the lent step is not legal on the picture"
 unfoldable pub cannotRun : Picture → List ℕ → List ℕ → Bool

@@ -4,12 +4,12 @@
 --
 --     Call                a call: who calls what, and the order and timetable that are lent
 --     answerTo P c        the answer to the call c on the picture P
---     onward P c          the picture after it
---     after P cs          the picture after the calls cs, one after another
+--     afterCall P c       the picture after it
+--     afterCalls P cs     the picture after the calls cs, one after another
 --     keptBy k t P l      what the accepted call k with the timetable t on the picture P makes of the steps l, run and not taken back
 --     kept l P cs         the steps run and not taken back after the calls cs, where they were l before
 --     Lends o t c         the call c lends the order o and the timetable t
---     Replayed o l P      the picture P is the one that replaying the steps l of the order o gives, from the starts
+--     PictureReplayed o l P    the picture P is the one that replaying the steps l of the order o gives, from the starts
 --     CanGoOn P o t       with the order o and the timetable t, the picture P never meets the second halves of 61 and 62
 --     ByViewer c          the call c is a viewer's, and no opening
 --     NotBySupervisor c   the call c is not a supervisor's, and no opening
@@ -42,12 +42,12 @@ pub record Call : Type 0 where
 abbrev pub answerTo : Picture → Call → Answer
 answerTo P c = callAnswer (c .kind) (c .role) P (c .order) (c .timetable)
 
-abbrev pub onward : Picture → Call → Picture
-onward P c = pictureAfter (c .kind) (c .role) P (c .order) (c .timetable)
+abbrev pub afterCall : Picture → Call → Picture
+afterCall P c = pictureAfter (c .kind) (c .role) P (c .order) (c .timetable)
 
-unfoldable pub after : Picture → List Call → Picture
-after P [] = P
-after P (c ∷ cs) = after (onward P c) cs
+unfoldable pub afterCalls : Picture → List Call → Picture
+afterCalls P [] = P
+afterCalls P (c ∷ cs) = afterCalls (afterCall P c) cs
 
 -- an opening begins anew; a step run is added as the last, and the last is taken back
 unfoldable pub keptBy : Kind → List ℕ → Picture → List (List (ℕ × ℕ)) → List (List (ℕ × ℕ))
@@ -58,13 +58,13 @@ keptBy takingBack t P l = take (length l - 1) l
 
 unfoldable pub kept : List (List (ℕ × ℕ)) → Picture → List Call → List (List (ℕ × ℕ))
 kept l P [] = l
-kept l P (c ∷ cs) = kept (byAnswer (answerTo P c) (keptBy (c .kind) (c .timetable) P l) l) (onward P c) cs
+kept l P (c ∷ cs) = kept (byAnswer (answerTo P c) (keptBy (c .kind) (c .timetable) P l) l) (afterCall P c) cs
 
 pub record Lends (o t : List ℕ) (c : Call) : Type 0 where
   pub order-is : c .order ≡ o
   pub timetable-is : c .timetable ≡ t
 
-pub record Replayed (o : List ℕ) (l : List (List (ℕ × ℕ))) (P : Picture) : Type 0 where
+pub record PictureReplayed (o : List ℕ) (l : List (List (ℕ × ℕ))) (P : Picture) : Type 0 where
   pub positions-are : P .positions ≡ positionCount o
   pub counted : P .steps ≡ length l
   pub arrangement : Arrangement

@@ -14,7 +14,7 @@ use mir.Facts.{and-yes}
 use borrow.Author.Tests.{eq-eqb, ne-eqb, ltb-true, eqb-true}
 use lib.Dec.{T, ltb, eqb}
 use Rattle.order.specs.Floor.{Floor, isPair, joined}
-use Rattle.order.specs.EdgeSets.{IsRelation, pairOf, listed, isEdge, floorFrom}
+use Rattle.order.specs.EdgeSets.{IsRelation, edgesListed, isEdge, floorFrom}
 use Rattle.order.proofs.EdgeLaws.{isPair-is, and-left}
 use Rattle.order.proofs.EdgeSetsLaws.{floorFrom-joined}
 use Rattle.tables.proofs.TableLaws.{passed}
@@ -71,7 +71,7 @@ abbrev neighbours : ℕ → Floor
 neighbours k = floorFrom (rowsOf k * columnsOf k) (sideBySide (rowsOf k) (columnsOf k))
 
 all-listed : T (from 1 5 (λ k. samePairs (modelFloor k .edges) (neighbours k .edges)))
-unfolding from isPair modelFloor grid gridEdges edgesOn toRight toBelow rowsOf columnsOf floorFrom listed isEdge sideBySide apartByOne
+unfolding from isPair modelFloor grid gridEdges edgesOn toRight toBelow rowsOf columnsOf floorFrom edgesListed isEdge sideBySide apartByOne
 all-listed = tt
 
 module _ (k : ℕ) (known : unknownModel k ≡ false) where

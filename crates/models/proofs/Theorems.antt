@@ -23,16 +23,17 @@ use Rattle.field.proofs.UnitLaws.{or-left, or-right}
 use Rattle.order.specs.Floor.{Floor, joined}
 use Rattle.order.specs.Order.{Order, positionCount, rackCount, floorOf, startsOf, goalsOf, orderOf, counts, wrongPlaces, wrongRacks}
 use Rattle.order.specs.Order.{WellFormed}
+use Rattle.order.proofs.OrderLaws.{right-order}
 use Rattle.order.proofs.Written.{SoundOrder, record-read, record-sound}
-use Rattle.order.proofs.OrderLaws.{accepted-is}
 use Rattle.order.proofs.Theorems.{same-edges}
 use Rattle.graph.specs.Connected.{BiConnected, Ring}
 use Rattle.tables.proofs.AcceptedLaws.{well-placed}
-use Rattle.floor.specs.FloorAnswer.{Joins, biConnected?, disordered?, floorAnswer}
+use Rattle.floor.specs.FloorAnswer.{Joins, biConnected?, floorAnswer}
 use Rattle.floor.specs.Sides.{FourSided, fourSided?}
 use Rattle.floor.specs.Plannable.{Plannable}
 use Rattle.floor.proofs.SidesLaws.{sides-same}
-use Rattle.floor.proofs.FloorLaws.{holds-yes, holds-no, owed-off, floor-over, plannable-is}
+use Rattle.answers.proofs.AnswerLaws.{holds-yes, holds-no}
+use Rattle.floor.proofs.FloorLaws.{ordered-off, owed-off, floor-over, plannable-is}
 use Rattle.models.specs.Grid.{unknownModel, modelFloor}
 use Rattle.models.specs.ShortOrder.{modelCode, shortStarts, shortGoals, shortOf, wrongShort}
 use Rattle.models.specs.Expansion.{fullOrder, expanded, expandAnswer}
@@ -47,8 +48,8 @@ module _ (o : List ℕ) (k : ℕ) (h : HasModel o k) where
     where
       edges : floorOf o .edges ≡ modelFloor k .edges
       edges =
-          same-edges (floorOf o) (modelFloor k) (h .right .edges-right) (model-edges k (h .known)) (well-placed o (h .right) .edges-below)
-          (model-below k (h .known)) (h .edges)
+          same-edges (floorOf o) (modelFloor k) (right-order o (h .right) .edges-right) (model-edges k (h .known))
+          (well-placed o (h .right) .edges-below) (model-below k (h .known)) (h .edges)
 
   order-biConnected : BiConnected (floorOf o .positions) (Joins (floorOf o))
   order-biConnected = subst (λ (F : Floor). BiConnected (F .positions) (Joins F)) (sym same-floor) (model-biConnected k (h .known))
@@ -62,11 +63,11 @@ module _ (o : List ℕ) (k : ℕ) (h : HasModel o k) where
   -- only 20 is left of 20, 21, 24 and 26
   crowded-or-accepted : floorAnswer o ≡ refuse (ltb (positionCount o) (rackCount o + 2)) 20 0 (accepted [])
   crowded-or-accepted =
-      floor-over o (counts o) (accepted-is o (h .right))
+      floor-over o (counts o) (h .right)
       ∙ rw (
         owed-off (floorOf o) order-noRing,
         holds-yes (biConnected? (floorOf o)) order-biConnected,
-        holds-no (disordered? (floorOf o) (rackCount o) (startsOf o) (goalsOf o)) (λ d. order-noRing (d .ring)),
+        ordered-off (floorOf o) (rackCount o) (startsOf o) (goalsOf o) order-noRing,
         holds-yes (fourSided? (floorOf o)) order-sides,
       ) refl
 

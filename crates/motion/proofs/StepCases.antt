@@ -35,7 +35,7 @@ use Rattle.order.specs.Floor.{Floor, some, isPair, joined}
 use Rattle.motion.specs.Arrangement.{Arrangement, occupied, vacant}
 use Rattle.motion.specs.Move.{onFloor, goesTo, after}
 use Rattle.motion.specs.Step.{every, ascends, leaves, enters, enteredOnce, led, legalStep}
-use Rattle.motion.specs.Replay.{Replayed, ended, stopped, replayFrom, unlessLegal, stepFault, replaySteps, trace}
+use Rattle.motion.specs.Replay.{Replayed, ended, stopped, replayFrom, stepFault, replaySteps, trace}
 use Rattle.motion.specs.Problem.{UniquelyInvertible, Instance}
 use Rattle.motion.specs.TrainCap.{InShortChains, CappedSolution}
 use Rattle.motion.proofs.Trains.{led-closed}
@@ -45,7 +45,7 @@ use Rattle.motion.proofs.LegalStepLaws.{legalStep-iff}
 use Rattle.motion.proofs.Racks.{separate, isValid, isValid-iff}
 use Rattle.motion.specs.StepOf.{moved, insert, sort, stepOf}
 use Rattle.motion.proofs.StepChange.{Change, legal-change, legal-short}
-use Rattle.motion.specs.StepSolutions.{stepsThrough, stepsBetween}
+use Rattle.motion.specs.StepSolutions.{stepsBetween}
 use Rattle.motion.proofs.StepSolutionsLaws.{solution-instance, replay-solution}
 use Rattle.motion.proofs.StepLimits.{no-turn}
 use Rattle.motion.proofs.Inhabited.{floorF, starts, goals}
@@ -61,7 +61,7 @@ starts-valid = isValid-iff floorF starts .0 tt
 
 -- a replay on that floor, with all that it computes by
 unfoldable steps-open : Arrangement → List (List (ℕ × ℕ)) → Replayed
-unfolding replaySteps replayFrom stepFault unlessLegal legalStep? by-test legalStep ascends every onFloor joined some isPair occupied
+unfolding replaySteps replayFrom stepFault legalStep? by-test legalStep ascends every onFloor joined some isPair occupied
     enteredOnce enters led leaves vacant goesTo after
 steps-open A steps = replaySteps (legalStep? floorF) A steps
 
@@ -77,7 +77,7 @@ pub case-1-instance : Instance floorF 2 starts goals
 case-1-instance = solution-instance (case-1-solution .solution)
 
 pub case-1-steps : stepsBetween (starts ∷ (1 ∷ 2 ∷ []) ∷ goals ∷ []) ≡ timetable
-unfolding stepsBetween stepsThrough stepOf sort insert moved
+unfolding stepsBetween stepOf sort insert moved
 case-1-steps = refl
 
 -- case 2: rack 1 from 0 to 1, rack 2 from 1 to 3

@@ -33,12 +33,12 @@ use Rattle.motion.specs.StepOf.{stepOf}
 use Rattle.motion.proofs.StepDecision.{legalStep?}
 use Rattle.motion.proofs.StepReplay.{StepsLead, replay-none, replay-cons}
 use Rattle.motion.proofs.StepChange.{Change, legal-change, legal-short, legal-stepOf, legal-valid, change-legal, change-after}
-use Rattle.motion.specs.StepSolutions.{stepsThrough, stepsBetween}
+use Rattle.motion.specs.StepSolutions.{stepsBetween}
 
-length-stepsThrough : (A : Arrangement) (S : List Arrangement) → length (stepsThrough A S) ≡ length S
-unfolding stepsThrough
-length-stepsThrough A [] = refl
-length-stepsThrough A (B ∷ S) = ap suc (length-stepsThrough B S)
+length-stepsBetween : (A : Arrangement) (S : List Arrangement) → length (stepsBetween (A ∷ S)) ≡ length S
+unfolding stepsBetween
+length-stepsBetween A [] = refl
+length-stepsBetween A (B ∷ S) = ap suc (length-stepsBetween B S)
 
 pub data Way (F : Floor) (m : ℕ) (G : Arrangement) : Arrangement → List Arrangement → Type 0 where
   there : {A : Arrangement} → A ≡ G → Way F m G A []
@@ -127,8 +127,8 @@ module _ {F : Floor} {m : ℕ} {G : Arrangement} where
   -- what replay accepts goes a way, and the other way round
 
   pub replay-way : (n : ℕ) (A : Arrangement) (steps : List (List (ℕ × ℕ))) → UniquelyInvertible F m A → StepsLead F n A steps G
-      → (S : List Arrangement) × Way F m G A S × (trace after A steps ≡ A ∷ S) × (steps ≡ stepsThrough A S)
-  unfolding trace stepsThrough
+      → (S : List Arrangement) × Way F m G A S × (trace after A steps ≡ A ∷ S) × (steps ≡ stepsBetween (A ∷ S))
+  unfolding trace stepsBetween
   replay-way n A [] valid e = ([], there (replay-none F n A G .0 e), refl, refl)
   replay-way n A (ms ∷ steps) valid e =
       let c = replay-cons F n A G ms steps .0 e in
@@ -140,12 +140,12 @@ module _ {F : Floor} {m : ℕ} {G : Arrangement} where
       )
 
   pub way-replay : (n : ℕ) {A : Arrangement} {S : List Arrangement} → UniquelyInvertible F m A → Way F m G A S
-      → StepsLead F n A (stepsThrough A S) G × (trace after A (stepsThrough A S) ≡ A ∷ S)
-  unfolding trace stepsThrough
+      → StepsLead F n A (stepsBetween (A ∷ S)) G × (trace after A (stepsBetween (A ∷ S)) ≡ A ∷ S)
+  unfolding trace stepsBetween
   way-replay n {A} valid (there e) = (replay-none F n A G .1 e, refl)
   way-replay n {A} valid (onward {B = B} {S = S} c d w) =
       let rest = way-replay (suc n) (c .invertible) w in (
-        replay-cons F n A G (stepOf A B) (stepsThrough B S) .1 (change-legal valid c d, rw (change-after valid c) (rest .0)),
+        replay-cons F n A G (stepOf A B) (stepsBetween (B ∷ S)) .1 (change-legal valid c d, rw (change-after valid c) (rest .0)),
         rw (change-after valid c) (ap (λ (t : List Arrangement). A ∷ t) (rest .1)),
       )
 
@@ -170,7 +170,7 @@ module _ (F : Floor) (m : ℕ) (S⁰ S⁺ : Arrangement) where
   unfolding replaySteps
   replay-solution valid steps e =
       let w = replay-way 1 S⁰ steps valid e in
-      let size : length (w .0) ≡ length steps = sym (ap length (w .3) ∙ length-stepsThrough S⁰ (w .0)) in
+      let size : length (w .0) ≡ length steps = sym (ap length (w .3) ∙ length-stepsBetween S⁰ (w .0)) in
       subst₂ (CappedSolution F m S⁰ S⁺) size (sym (w .2)) (way-solution valid (w .1))
 
   replay-stepsBetween : UniquelyInvertible F m S⁰ → (steps : List (List (ℕ × ℕ))) → replaySteps (legalStep? F) S⁰ steps ≡ ended S⁺
@@ -186,10 +186,10 @@ module _ (F : Floor) (m : ℕ) (S⁰ S⁺ : Arrangement) where
       let valid : UniquelyInvertible F m A = s .invertible 0 (omega arith) in
       let r = way-replay 1 valid (solution-way A S capped) in
       record {
-        steps = stepsThrough A S;
-        count = omega (arith, length-stepsThrough A S, s .sequence);
-        traced = subst (λ (B : Arrangement). trace after B (stepsThrough A S) ≡ A ∷ S) (s .begins) (r .1);
-        accepted = subst (λ (B : Arrangement). StepsLead F 1 B (stepsThrough A S) S⁺) (s .begins) (r .0);
+        steps = stepsBetween (A ∷ S);
+        count = omega (arith, length-stepsBetween A S, s .sequence);
+        traced = subst (λ (B : Arrangement). trace after B (stepsBetween (A ∷ S)) ≡ A ∷ S) (s .begins) (r .1);
+        accepted = subst (λ (B : Arrangement). StepsLead F 1 B (stepsBetween (A ∷ S)) S⁺) (s .begins) (r .0);
         only = λ steps′ t e. replay-stepsBetween (subst (UniquelyInvertible F m) (s .begins) valid) steps′ e ∙ ap stepsBetween t;
         between = refl;
       }

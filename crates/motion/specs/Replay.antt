@@ -6,7 +6,6 @@
 --     replayMoves F A      replay of a plan's moves on the floor F from the arrangement A
 --     replayListed F A     the same of the moves as a plan lists them
 --     listed named A ms    the moves ms as a plan lists them from the arrangement A: with their racks where it names them, else with 0
---     unlessLegal d        the fault of a step of which d decides whether it is legal: 42, or 0 for none
 --     stepFault legal?     the fault of a step, where legal? decides
 --     replaySteps legal? A replay of a timetable's steps from the arrangement A
 --     trace a A            the arrangements that a replay passes through, the first and the last included
@@ -17,6 +16,7 @@ use Prim.Native.Nat.{ℕ, suc}
 use mathlib.Core.Bool.{Bool, cond}
 use mathlib.Core.List.{List, [], _∷_}
 use lib.Dec.{eqb}
+use Rattle.answers.specs.Answer.{holds}
 use Rattle.order.specs.Floor.{Floor}
 use Rattle.motion.specs.Arrangement.{Arrangement, rackAt}
 use Rattle.motion.specs.Move.{moveFault, listedFault, after, afterMove, afterListed}
@@ -46,13 +46,9 @@ listed named A [] = []
 listed named A (m ∷ ms) = (m .0, m .1, cond named (rackAt A (m .0)) 0) ∷ listed named (afterMove A m) ms
 
 -- 42: "this step, the first such, is not legal"
-unfoldable pub unlessLegal : {L : Type 0} → Dec L → ℕ
-unlessLegal (yes l) = 0
-unlessLegal (no f) = 42
-
 module _ {F : Floor} (legal? : (A : Arrangement) (ms : List (ℕ × ℕ)) → Dec (LegalStep F A ms)) where
   unfoldable pub stepFault : Arrangement → List (ℕ × ℕ) → ℕ
-  stepFault A ms = unlessLegal (legal? A ms)
+  stepFault A ms = cond (holds (legal? A ms)) 0 42
 
   unfoldable pub replaySteps : Arrangement → List (List (ℕ × ℕ)) → Replayed
   replaySteps A steps = replayFrom stepFault after 1 A steps

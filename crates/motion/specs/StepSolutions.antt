@@ -1,7 +1,6 @@
 -- What leads through a sequence of arrangements: the moves or the steps that a record of it lists.
 --
 --     movesBetween S     the moves that lead through the arrangements S, one rack at a time: each the move from one to the next
---     stepsThrough A S   the steps that lead from A on through the arrangements S
 --     stepsBetween S     the steps that lead through the arrangements S: each the step from one to the next
 -- Assumes nothing.
 use Prim.Native.Nat.{ℕ}
@@ -14,10 +13,7 @@ movesBetween [] = []
 movesBetween (A ∷ []) = []
 movesBetween (A ∷ B ∷ S) = moved A B ++ movesBetween (B ∷ S)
 
-unfoldable pub stepsThrough : Arrangement → List Arrangement → List (List (ℕ × ℕ))
-stepsThrough A [] = []
-stepsThrough A (B ∷ S) = stepOf A B ∷ stepsThrough B S
-
 unfoldable pub stepsBetween : List Arrangement → List (List (ℕ × ℕ))
 stepsBetween [] = []
-stepsBetween (A ∷ S) = stepsThrough A S
+stepsBetween (A ∷ []) = []
+stepsBetween (A ∷ B ∷ S) = stepOf A B ∷ stepsBetween (B ∷ S)

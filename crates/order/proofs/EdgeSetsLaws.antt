@@ -16,7 +16,11 @@ use lib.Dec.{ltb}
 use Rattle.order.specs.Floor.{some, isPair, joined}
 use Rattle.order.specs.Order.{badEdge, ascending, wrongEdges}
 use Rattle.order.proofs.EdgeLaws.{place, bad-is, precedes-is, isPair-same, isPair-is, and-left, and-right, good-edge}
-use Rattle.order.specs.EdgeSets.{IsRelation, pairOf, listed, isEdge, floorFrom}
+use Rattle.order.specs.EdgeSets.{IsRelation, edgesListed, isEdge, floorFrom}
+
+-- the pair that has place i in the order of edges
+abbrev pairOf : ℕ → ℕ × ℕ
+pairOf i = (i / 64, i % 64)
 
 same-place : (i a b : ℕ) → b < 64 → i ≡ a * 64 + b → pairOf i ≡ (a, b)
 same-place i a b h e = ap₂ (λ (x y : ℕ). (x, y)) first second
@@ -36,40 +40,40 @@ other-place i a b d = by (isPair (a, b) (pairOf i)) refl
 
 module _ (test : ℕ → Bool) where
   -- what is listed from place i on ascends after any edge at a lower place
-  listed-ascends : (k i : ℕ) (e : ℕ × ℕ) → e .1 < 64 → place e < i → ascending (e ∷ listed test i k) ≡ true
-  unfolding listed ascending
+  listed-ascends : (k i : ℕ) (e : ℕ × ℕ) → e .1 < 64 → place e < i → ascending (e ∷ edgesListed test i k) ≡ true
+  unfolding edgesListed ascending
   listed-ascends zero i e h l = refl
   listed-ascends (suc k) i e h l =
       by (test i) (listed-ascends k (suc i) (pairOf i) (omega arith) (omega arith)) (listed-ascends k (suc i) e h (omega arith))
     where
-      by : (t : Bool) → ascending (pairOf i ∷ listed test (suc i) k) ≡ true → ascending (e ∷ listed test (suc i) k) ≡ true
-          → ascending (e ∷ cond t (pairOf i ∷ listed test (suc i) k) (listed test (suc i) k)) ≡ true
+      by : (t : Bool) → ascending (pairOf i ∷ edgesListed test (suc i) k) ≡ true → ascending (e ∷ edgesListed test (suc i) k) ≡ true
+          → ascending (e ∷ cond t (pairOf i ∷ edgesListed test (suc i) k) (edgesListed test (suc i) k)) ≡ true
       by true a b = rw (precedes-is e (pairOf i) h (omega arith), lt-leb (place (pairOf i)) (place e) (omega arith)) a
       by false a b = b
 
-  ascends : (k i : ℕ) → ascending (listed test i k) ≡ true
-  unfolding listed
+  ascends : (k i : ℕ) → ascending (edgesListed test i k) ≡ true
+  unfolding edgesListed
   ascends zero i = unfold ascending in refl
   ascends (suc k) i = by (test i) (listed-ascends k (suc i) (pairOf i) (omega arith) (omega arith)) (ascends k (suc i))
     where
-      by : (t : Bool) → ascending (pairOf i ∷ listed test (suc i) k) ≡ true → ascending (listed test (suc i) k) ≡ true
-          → ascending (cond t (pairOf i ∷ listed test (suc i) k) (listed test (suc i) k)) ≡ true
+      by : (t : Bool) → ascending (pairOf i ∷ edgesListed test (suc i) k) ≡ true → ascending (edgesListed test (suc i) k) ≡ true
+          → ascending (cond t (pairOf i ∷ edgesListed test (suc i) k) (edgesListed test (suc i) k)) ≡ true
       by true a b = a
       by false a b = b
 
   -- a pair is listed just where its place is in the range and passes the test
-  listed-under : (k i a b : ℕ) → b < 64 → a * 64 + b < i → some (isPair (a, b)) (listed test i k) ≡ false
-  unfolding listed some
+  listed-under : (k i a b : ℕ) → b < 64 → a * 64 + b < i → some (isPair (a, b)) (edgesListed test i k) ≡ false
+  unfolding edgesListed some
   listed-under zero i a b h l = refl
   listed-under (suc k) i a b h l = by (test i) (listed-under k (suc i) a b h (omega arith))
     where
-      by : (t : Bool) → some (isPair (a, b)) (listed test (suc i) k) ≡ false
-          → some (isPair (a, b)) (cond t (pairOf i ∷ listed test (suc i) k) (listed test (suc i) k)) ≡ false
+      by : (t : Bool) → some (isPair (a, b)) (edgesListed test (suc i) k) ≡ false
+          → some (isPair (a, b)) (cond t (pairOf i ∷ edgesListed test (suc i) k) (edgesListed test (suc i) k)) ≡ false
       by true r = rw (other-place i a b (λ e. omega (arith, l, e)), r) refl
       by false r = r
 
-  listed-at : (k i a b : ℕ) → b < 64 → i ≤ a * 64 + b → a * 64 + b < i + k → some (isPair (a, b)) (listed test i k) ≡ test (a * 64 + b)
-  unfolding listed some
+  listed-at : (k i a b : ℕ) → b < 64 → i ≤ a * 64 + b → a * 64 + b < i + k → some (isPair (a, b)) (edgesListed test i k) ≡ test (a * 64 + b)
+  unfolding edgesListed some
   listed-at zero i a b h l u = absurd (omega arith)
   listed-at (suc k) i a b h l u = elim (ℕ-discrete i (a * 64 + b)) [
     | yes e ↦ here e
@@ -77,25 +81,26 @@ module _ (test : ℕ → Bool) where
   ]
     where
       here : i ≡ a * 64 + b
-          → some (isPair (a, b)) (cond (test i) (pairOf i ∷ listed test (suc i) k) (listed test (suc i) k)) ≡ test (a * 64 + b)
+          → some (isPair (a, b)) (cond (test i) (pairOf i ∷ edgesListed test (suc i) k) (edgesListed test (suc i) k)) ≡ test (a * 64 + b)
       here e = by (test i) refl
         where
           by : (t : Bool) → test i ≡ t
-              → some (isPair (a, b)) (cond t (pairOf i ∷ listed test (suc i) k) (listed test (suc i) k)) ≡ test (a * 64 + b)
+              → some (isPair (a, b)) (cond t (pairOf i ∷ edgesListed test (suc i) k) (edgesListed test (suc i) k)) ≡ test (a * 64 + b)
           by true p = rw (same-place i a b h e, isPair-same (a, b)) (sym (ap test (sym e) ∙ p))
           by false p = listed-under k (suc i) a b h (omega (arith, e)) ∙ sym (ap test (sym e) ∙ p)
 
-      later : (i ≡ a * 64 + b → ⊥) → some (isPair (a, b)) (listed test (suc i) k) ≡ test (a * 64 + b)
-          → some (isPair (a, b)) (cond (test i) (pairOf i ∷ listed test (suc i) k) (listed test (suc i) k)) ≡ test (a * 64 + b)
+      later : (i ≡ a * 64 + b → ⊥) → some (isPair (a, b)) (edgesListed test (suc i) k) ≡ test (a * 64 + b)
+          → some (isPair (a, b)) (cond (test i) (pairOf i ∷ edgesListed test (suc i) k) (edgesListed test (suc i) k)) ≡ test (a * 64 + b)
       later d r = by (test i)
         where
-          by : (t : Bool) → some (isPair (a, b)) (cond t (pairOf i ∷ listed test (suc i) k) (listed test (suc i) k)) ≡ test (a * 64 + b)
+          by : (t : Bool)
+              → some (isPair (a, b)) (cond t (pairOf i ∷ edgesListed test (suc i) k) (edgesListed test (suc i) k)) ≡ test (a * 64 + b)
           by true = rw (other-place i a b d) r
           by false = r
 
 module _ (n : ℕ) (E : ℕ → ℕ → Bool) where
-  none-bad : (k i : ℕ) → some (badEdge n) (listed (isEdge n E) i k) ≡ false
-  unfolding listed some
+  none-bad : (k i : ℕ) → some (badEdge n) (edgesListed (isEdge n E) i k) ≡ false
+  unfolding edgesListed some
   none-bad zero i = refl
   none-bad (suc k) i = by (isEdge n E i) refl (none-bad k (suc i))
     where
@@ -109,8 +114,8 @@ module _ (n : ℕ) (E : ℕ → ℕ → Bool) where
             lt-leb n (i % 64) (ltb-true (i % 64) n (and-right (ltb (i / 64) (i % 64)) (ltb (i % 64) n) front)),
           ) refl
 
-      by : (t : Bool) → isEdge n E i ≡ t → some (badEdge n) (listed (isEdge n E) (suc i) k) ≡ false
-          → some (badEdge n) (cond t (pairOf i ∷ listed (isEdge n E) (suc i) k) (listed (isEdge n E) (suc i) k)) ≡ false
+      by : (t : Bool) → isEdge n E i ≡ t → some (badEdge n) (edgesListed (isEdge n E) (suc i) k) ≡ false
+          → some (badEdge n) (cond t (pairOf i ∷ edgesListed (isEdge n E) (suc i) k) (edgesListed (isEdge n E) (suc i) k)) ≡ false
       by true t r = rw (good t, r) refl
       by false t r = r
 
@@ -126,17 +131,18 @@ module _ (n : ℕ) (E : ℕ → ℕ → Bool) where
         let remainder : (a * 64 + b) % 64 ≡ b = omega arith in
         rw (quotient, remainder, lt-ltb a b l, lt-ltb b n u) refl
 
-    listed-lower : (a b : ℕ) → a < b → b < n → some (isPair (a, b)) (listed (isEdge n E) 0 4096) ≡ E a b
+    listed-lower : (a b : ℕ) → a < b → b < n → some (isPair (a, b)) (edgesListed (isEdge n E) 0 4096) ≡ E a b
     listed-lower a b l u = listed-at (isEdge n E) 4096 0 a b (omega arith) (omega arith) (omega arith) ∙ edge-at a b l u
 
     -- no pair is listed that is not lower first and below n
-    listed-not : (a b : ℕ) → (b ≤ a) ⊎ (n ≤ b) → some (isPair (a, b)) (listed (isEdge n E) 0 4096) ≡ false
-    listed-not a b h = by (some (isPair (a, b)) (listed (isEdge n E) 0 4096)) refl
+    listed-not : (a b : ℕ) → (b ≤ a) ⊎ (n ≤ b) → some (isPair (a, b)) (edgesListed (isEdge n E) 0 4096) ≡ false
+    listed-not a b h = by (some (isPair (a, b)) (edgesListed (isEdge n E) 0 4096)) refl
       where
-        by : (t : Bool) → some (isPair (a, b)) (listed (isEdge n E) 0 4096) ≡ t → some (isPair (a, b)) (listed (isEdge n E) 0 4096) ≡ false
+        by : (t : Bool) → some (isPair (a, b)) (edgesListed (isEdge n E) 0 4096) ≡ t
+            → some (isPair (a, b)) (edgesListed (isEdge n E) 0 4096) ≡ false
         by true m =
-            ⊎-elim (λ k. absurd (omega (arith, k, good-edge n (a, b) (listed (isEdge n E) 0 4096) (none-bad 4096 0) m .0)))
-            (λ k. absurd (omega (arith, k, good-edge n (a, b) (listed (isEdge n E) 0 4096) (none-bad 4096 0) m .1))) h
+            ⊎-elim (λ k. absurd (omega (arith, k, good-edge n (a, b) (edgesListed (isEdge n E) 0 4096) (none-bad 4096 0) m .0)))
+            (λ k. absurd (omega (arith, k, good-edge n (a, b) (edgesListed (isEdge n E) 0 4096) (none-bad 4096 0) m .1))) h
         by false m = m
 
     outside : (a b : ℕ) → n ≤ b → E a b ≡ false
@@ -147,7 +153,7 @@ module _ (n : ℕ) (E : ℕ → ℕ → Bool) where
         by false m = m
 
     -- lower first, an edge or not
-    one-way : (a b : ℕ) → a < b → some (isPair (a, b)) (listed (isEdge n E) 0 4096) ≡ E a b
+    one-way : (a b : ℕ) → a < b → some (isPair (a, b)) (edgesListed (isEdge n E) 0 4096) ≡ E a b
     one-way a b l = elim (decLe n b) [ yes h ↦ listed-not a b (inr h) ∙ sym (outside a b h) | no h ↦ listed-lower a b l (lt-of-not-le h) ]
 
     pub floorFrom-joined : (a b : ℕ) → joined (floorFrom n E) a b ≡ E a b

@@ -2,7 +2,9 @@
 --
 --     no-positions, many-positions, right-positions    11, from the facts
 --     RightHead s, right-head                          what 10 and 11 leave of a head
---     well-formed, accepted-is                         accepted is well formed, and well formed is accepted
+--     RightOrder s, right-order, right-well            well formed is what passes each of the five tests
+--     well-formed                                      accepted is well formed, whatever the counts are called
+--     formed-head                                      the head of a well-formed order
 --     order-past                                       no number above 14 is the order reader's
 -- Assumes nothing.
 use Prim.Native.Nat.{ℕ, _≤_, _<_}
@@ -47,13 +49,20 @@ right-head s l p =
       few-positions = ltb-false 64 (positionCount s) (or-right (eqb (positionCount s) 0) (ltb 64 (positionCount s)) p);
     }
 
-pub accepted-is : (s : List ℕ) → WellFormed s → orderAnswer s ≡ accepted (counts s)
-unfolding orderAnswer
-accepted-is s w = simp (w .length-right, w .positions-right, w .padding-clear, w .edges-right, w .racks-right)
+pub record RightOrder (s : List ℕ) : Type 0 where
+  pub length-right : wrongLength s ≡ false
+  pub positions-right : wrongPositions s ≡ false
+  pub padding-clear : paddingSet s ≡ false
+  pub edges-right : wrongEdges (floorOf s) ≡ false
+  pub racks-right : wrongRacks (orderOf s) ≡ false
 
-pub well-formed : (s v : List ℕ) → orderAnswer s ≡ accepted v → WellFormed s
+pub right-well : (s : List ℕ) → RightOrder s → WellFormed s
 unfolding orderAnswer
-well-formed s v e =
+right-well s w = simp (w .length-right, w .positions-right, w .padding-clear, w .edges-right, w .racks-right)
+
+right-by : (s v : List ℕ) → orderAnswer s ≡ accepted v → RightOrder s
+unfolding orderAnswer
+right-by s v e =
     let a₄ = refuse (wrongRacks (orderOf s)) 14 0 (accepted (counts s)) in
     let a₃ = refuse (wrongEdges (floorOf s)) 13 0 a₄ in
     let a₂ = refuse (paddingSet s) 12 0 a₃ in
@@ -69,6 +78,15 @@ well-formed s v e =
       edges-right = refuse-not (wrongEdges (floorOf s)) 13 0 a₄ v e₃;
       racks-right = refuse-not (wrongRacks (orderOf s)) 14 0 (accepted (counts s)) v e₄;
     }
+
+pub well-formed : (s v : List ℕ) → orderAnswer s ≡ accepted v → WellFormed s
+well-formed s v e = right-well s (right-by s v e)
+
+pub right-order : (s : List ℕ) → WellFormed s → RightOrder s
+right-order s w = right-by s (counts s) w
+
+pub formed-head : (s : List ℕ) → WellFormed s → RightHead s
+formed-head s w = right-head s (right-order s w .length-right) (right-order s w .positions-right)
 
 pub order-past : (s : List ℕ) (f j : ℕ) → 14 < f → orderAnswer s ≢ refused f j
 unfolding orderAnswer

@@ -17,7 +17,7 @@ use Rattle.field.proofs.RecordLaws.{pairBits-are, positionBits-are, zeros-at, j
 use Rattle.field.proofs.UnitLaws.{Fitting, Clean, cleanly, pad-after-head}
 use Rattle.order.specs.Order.{Order, orderBits, orderRecord, positionCount, edgeCount, rackCount, unitCount, floorOf, startsOf}
 use Rattle.order.specs.Order.{goalsOf, orderOf, paddingSet, WellFormed}
-use Rattle.order.proofs.OrderLaws.{right-head}
+use Rattle.order.proofs.OrderLaws.{right-order, formed-head}
 
 pub orderBits-are : (o : Order) → Bits (orderBits o)
 unfolding orderBits
@@ -74,10 +74,10 @@ record-of s b w = toBytes-from b (orderBits-are (orderOf s)) (sym all)
     units = edgeCount s + rackCount s
 
     fit : Fitting s (2 * units)
-    fit = unfold unitCount in right-head s (w .length-right) (w .positions-right) .fit
+    fit = unfold unitCount in formed-head s w .fit
 
     clear : Clean s (2 * units)
-    clear = unfold unitCount paddingSet in cleanly s (unitCount s) (w .padding-clear)
+    clear = unfold unitCount paddingSet in cleanly s (unitCount s) (right-order s w .padding-clear)
 
     twelve : 6 * (2 * units) ≡ 12 * units
     twelve = omega arith

@@ -18,13 +18,13 @@ use Rattle.field.proofs.UnitLaws.{or-left, or-right}
 use Rattle.order.specs.Floor.{Floor, some, joined}
 use Rattle.order.specs.Order.{Order, orderRecord, edgeCount, floorOf, orderOf, badEdge, ascending, wrongEdges, repeats}
 use Rattle.order.specs.Order.{wrongPlaces, WellFormed}
-use Rattle.order.proofs.OrderLaws.{accepted-is}
 use Rattle.order.proofs.RecordOf.{record-of}
 use Rattle.order.proofs.EdgeLaws.{edge-joined, same-set, and-left}
-use Rattle.order.specs.EdgeSets.{IsRelation, listed, isEdge, floorFrom}
+use Rattle.order.proofs.OrderLaws.{right-order}
+use Rattle.order.specs.EdgeSets.{IsRelation, edgesListed, isEdge, floorFrom}
 use Rattle.order.proofs.EdgeSetsLaws.{floorFrom-right, floorFrom-joined}
 use Rattle.order.proofs.Written.{SoundOrder, record-read, record-sound}
-use Rattle.order.specs.Theorems.{Same, RecordFor, Choice, recordFor}
+use Rattle.order.specs.Theorems.{Same, RecordFor, Choice}
 
 not-true : (a : Bool) → not a ≡ false → a ≡ true
 not-true true e = refl
@@ -51,7 +51,9 @@ one-record s t bs bt ws wt same = record-of s bs ws ∙ ap orderRecord read ∙ 
     below u = unfold floorOf in pairs-lt u 24 (edgeCount u)
 
     edges : floorOf s .edges ≡ floorOf t .edges
-    edges = same-edges (floorOf s) (floorOf t) (ws .edges-right) (wt .edges-right) (below s) (below t) (same .edges)
+    edges =
+        same-edges (floorOf s) (floorOf t) (right-order s ws .edges-right) (right-order t wt .edges-right) (below s) (below t)
+        (same .edges)
 
     floor : floorOf s ≡ floorOf t
     floor = λ i. record { positions = same .positions i; edges = edges i }
@@ -63,16 +65,17 @@ module _ (n : ℕ) (E : ℕ → ℕ → Bool) (starts goals : List ℕ) where
   abbrev orderFor : Order
   orderFor = record { floor = floorFrom n E; starts = starts; goals = goals }
 
-  pub every-order : Choice n E starts goals → RecordFor n E starts goals (recordFor n E starts goals)
-  unfolding recordFor
-  every-order c =
-      record {
-        is-accepted = accepted-is (orderRecord orderFor) (record-sound orderFor sound);
-        positions-back = ap (λ (F : Floor). F .positions) floor-back ∙ (unfold floorFrom in refl);
-        edges-back = λ a b. ap (λ (F : Floor). joined F a b) floor-back ∙ floorFrom-joined n E (c .few-positions) (c .relation) a b;
-        starts-back = unfold orderOf in ap (λ (o : Order). o .starts) back;
-        goals-back = unfold orderOf in ap (λ (o : Order). o .goals) back;
-      }
+  pub every-order : Choice n E starts goals → (s : List ℕ) × RecordFor n E starts goals s
+  every-order c = (
+    orderRecord orderFor,
+    record {
+      is-accepted = record-sound orderFor sound;
+      positions-back = ap (λ (F : Floor). F .positions) floor-back ∙ (unfold floorFrom in refl);
+      edges-back = λ a b. ap (λ (F : Floor). joined F a b) floor-back ∙ floorFrom-joined n E (c .few-positions) (c .relation) a b;
+      starts-back = unfold orderOf in ap (λ (o : Order). o .starts) back;
+      goals-back = unfold orderOf in ap (λ (o : Order). o .goals) back;
+    },
+  )
     where
       sound : SoundOrder orderFor
       sound =
@@ -118,7 +121,7 @@ an-order =
       some-position = lit≤ tt;
       few-positions = lit≤ tt;
       relation = all-of-four;
-      few-edges = unfold floorFrom listed isEdge in lit≤ tt;
+      few-edges = unfold floorFrom edgesListed isEdge in lit≤ tt;
       a-goal-each = refl;
       starts-right = unfold wrongPlaces some repeats in refl;
       goals-right = unfold wrongPlaces some repeats in refl;

@@ -23,7 +23,7 @@ use Rattle.order.specs.Floor.{some}
 use Rattle.order.specs.Order.{Order, orderBits, orderRecord, positionCount, edgeCount, rackCount, unitCount, floorOf, startsOf}
 use Rattle.order.specs.Order.{goalsOf, orderOf, wrongLength, paddingSet, badEdge, wrongEdges, ascending, wrongPlaces}
 use Rattle.order.specs.Order.{wrongRacks, WellFormed}
-use Rattle.order.proofs.OrderLaws.{right-positions}
+use Rattle.order.proofs.OrderLaws.{right-positions, right-well}
 use Rattle.order.proofs.PlaceLaws.{places-below, below-more, few-places}
 use Rattle.order.proofs.RecordOf.{orderBits-are, length-orderBits}
 
@@ -190,7 +190,7 @@ module _ (o : Order) (sound : SoundOrder o) where
       rw (read .positions-are, read .edges-count, read .racks-count, read .edges-are, read .starts-are, read .goals-are) refl
 
   pub record-sound : WellFormed (orderRecord o)
-  record-sound = record {
+  record-sound = right-well (orderRecord o) (record {
     length-right = unfold wrongLength in fits (orderRecord o) (unitCount (orderRecord o)) (rw length-is (omega arith))
         (length-is ∙ omega (arith, units));
     positions-right = right-positions (orderRecord o) (λ z. omega (arith, read .positions-are, sound .some-position))
@@ -199,7 +199,7 @@ module _ (o : Order) (sound : SoundOrder o) where
         (clean (orderRecord o) (2 * (length (o .floor .edges) + length (o .starts))) (read .spare-clear) (rw twelve (read .pad-clear)));
     edges-right = ap (λ (x : Order). wrongEdges (x .floor)) (ap-order) ∙ sound .edges-right;
     racks-right = ap wrongRacks record-read ∙ (unfold wrongRacks in rw (sound .starts-right, sound .goals-right) refl);
-  }
+  })
     where
       units : unitCount (orderRecord o) ≡ 2 * (length (o .floor .edges) + length (o .starts))
       units = unfold unitCount in ap₂ (λ (e m : ℕ). 2 * (e + m)) (read .edges-count) (read .racks-count)

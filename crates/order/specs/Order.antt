@@ -134,9 +134,5 @@ orderAnswer s =
     (accepted (counts s))))))
 
 -- "An order is well formed if none of 10 to 14 applies to it"
-pub record WellFormed (s : List ℕ) : Type 0 where
-  pub length-right : wrongLength s ≡ false
-  pub positions-right : wrongPositions s ≡ false
-  pub padding-clear : paddingSet s ≡ false
-  pub edges-right : wrongEdges (floorOf s) ≡ false
-  pub racks-right : wrongRacks (orderOf s) ≡ false
+abbrev pub WellFormed : List ℕ → Type 0
+WellFormed s = orderAnswer s ≡ accepted (counts s)

@@ -4,7 +4,6 @@
 --     RecordFor n E starts goals s    s is accepted, and read it gives back n, E, the starts and the goals
 --     Choice            what is asked of them: n from 1 to 64, edges between positions below n and at most 255 of them,
 --                       distinct starts and goals
---     recordFor         their record
 -- Assumes nothing.
 use Prim.Native.Nat.{ℕ, _≤_}
 use mathlib.Core.Path.{_≡_}
@@ -13,7 +12,7 @@ use mathlib.Core.List.{List}
 use lib.ListN.{length}
 use Rattle.answers.specs.Answer.{accepted}
 use Rattle.order.specs.Floor.{joined}
-use Rattle.order.specs.Order.{orderRecord, floorOf, startsOf, goalsOf, counts, orderAnswer, wrongPlaces}
+use Rattle.order.specs.Order.{floorOf, startsOf, goalsOf, counts, orderAnswer, wrongPlaces}
 use Rattle.order.specs.EdgeSets.{IsRelation, floorFrom}
 
 pub record Same (s t : List ℕ) : Type 0 where
@@ -38,6 +37,3 @@ pub record Choice (n : ℕ) (E : ℕ → ℕ → Bool) (starts goals : List ℕ)
   pub a-goal-each : length goals ≡ length starts
   pub starts-right : wrongPlaces n starts ≡ false
   pub goals-right : wrongPlaces n goals ≡ false
-
-unfoldable pub recordFor : ℕ → (ℕ → ℕ → Bool) → List ℕ → List ℕ → List ℕ
-recordFor n E starts goals = orderRecord (record { floor = floorFrom n E; starts = starts; goals = goals })

@@ -22,14 +22,13 @@ use borrow.Author.Tests.{eq-eqb}
 use lib.ListN.{length, getD}
 use lib.Dec.{eqb}
 use Rattle.answers.specs.Answer.{accepted, refused}
-use Rattle.answers.proofs.AnswerLaws.{passUp-accepted}
+use Rattle.answers.proofs.AnswerLaws.{passUp-accepted, holds-yes, holds-true}
 use Rattle.field.specs.Bits.{bitsOf, bits, number, field, pairs, positions, pad}
 use Rattle.field.specs.Units.{recordLength, misfits, padSet, unclean}
 use Rattle.order.specs.Floor.{Floor, some, isPair, joined}
 use Rattle.order.specs.Order.{Order, positionCount, edgeCount, rackCount, unitCount, floorOf, startsOf, goalsOf, orderOf, orderRecord}
 use Rattle.order.specs.Order.{wrongLength, wrongPositions, paddingSet, badEdge, precedes, ascending, wrongEdges, repeats, wrongPlaces}
 use Rattle.order.specs.Order.{wrongRacks, counts, orderAnswer, WellFormed}
-use Rattle.order.proofs.OrderLaws.{accepted-is}
 use Rattle.order.proofs.Written.{SoundOrder, record-read, record-sound}
 use Rattle.motion.specs.Arrangement.{stands, occupied, vacant, rackFrom, rackAt}
 use Rattle.motion.specs.Replay.{ended, replayMoves, replayFrom}
@@ -40,11 +39,10 @@ use Rattle.graph.specs.Connected.{Connected, BiConnected}
 use Rattle.graph.specs.Rows.{Edge, Rows}
 use Rattle.graph.proofs.Examples.{rows-tested}
 use Rattle.floor.specs.FloorAnswer.{Joins, passes?, biConnected?}
-use Rattle.floor.specs.WayDecision.{alike?, not?, implies?, every?, decideBiConnected}
+use Rattle.graph.proofs.WayDecision.{alike?, not?, implies?, every?, decideBiConnected}
 use Rattle.floor.specs.Sides.{countOf}
 use Rattle.floor.specs.CaseBookOrders.{mirrored, threeRacks, pathOfFour}
 use Rattle.floor.proofs.ExamplesLaws.{twoRacks, pathOfThree, turnedEdge}
-use Rattle.floor.proofs.FloorLaws.{holds-yes, holds-true}
 use Rattle.models.specs.Grid.{modelFloor, grid, gridEdges, edgesOn, toRight, toBelow, rowsOf, columnsOf, unknownModel}
 use Rattle.models.proofs.GridLaws.{model-biConnected, model-size, model-edges}
 use Rattle.parity.specs.Colours.{TwoColours}
@@ -59,7 +57,7 @@ pub answer-is : (o : List ℕ) → WellFormed o → positionCount o - rackCount 
     → vacancyAnswer o ≡ accepted (judgement (impossible? (floorOf o) (startsOf o) (goalsOf o)) ∷ [])
 unfolding vacancyAnswer
 answer-is o w one whole =
-    passUp-accepted (orderAnswer o) _ (counts o) (accepted-is o w)
+    passUp-accepted (orderAnswer o) _ (counts o) w
     ∙ rw (eq-eqb (positionCount o - rackCount o) 1 one, holds-yes (biConnected? (floorOf o)) whole) refl
 
 -- the numbers 0 to 12, each at its place

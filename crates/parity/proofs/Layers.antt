@@ -15,8 +15,8 @@ use native.Mathlib.Omega.{arith}
 use borrow.Author.Tests.{eq-eqb, ne-eqb}
 use lib.ListN.{length}
 use lib.Dec.{eqb}
-use Rattle.answers.specs.Answer.{Answer, accepted, refused, refuse, passUp}
-use Rattle.answers.proofs.AnswerLaws.{passUp-accepted}
+use Rattle.answers.specs.Answer.{Answer, accepted, refused, refuse, passUp, holds}
+use Rattle.answers.proofs.AnswerLaws.{passUp-accepted, holds-yes, holds-no}
 use Rattle.order.specs.Order.{positionCount, rackCount, floorOf, startsOf, goalsOf, orderAnswer}
 use Rattle.order.specs.Tables.{racksAt, decodedRows, decodedStarts, decodedGoals}
 use Rattle.decoding.proofs.TablesLaws.{decoded-starts, decoded-goals}
@@ -27,8 +27,7 @@ use Rattle.tables.proofs.AcceptedLaws.{gave-accepted}
 use Rattle.tables.proofs.Layers.{handed-up}
 use Rattle.graph.specs.Connected.{BiConnected}
 use Rattle.graph.specs.Rows.{Edge}
-use Rattle.floor.specs.FloorAnswer.{Joins, biConnected?, holds}
-use Rattle.floor.proofs.FloorLaws.{holds-yes, holds-no}
+use Rattle.floor.specs.FloorAnswer.{Joins, biConnected?}
 use Rattle.floor.proofs.FloorRows.{filled-joins, joins-filled, filled-biConnected}
 use Rattle.parity.specs.Colours.{TwoColours}
 use Rattle.parity.specs.Impossible.{Impossible}

@@ -15,8 +15,8 @@ use native.Mathlib.Omega.{arith}
 use borrow.Author.Tests.{eqb-true, not-false}
 use lib.ListN.{length}
 use lib.Dec.{eqb}
-use Rattle.answers.specs.Answer.{accepted, refuse}
-use Rattle.answers.proofs.AnswerLaws.{refuse-not, refuse-else, passUp-low, passUp-high}
+use Rattle.answers.specs.Answer.{accepted, refuse, holds}
+use Rattle.answers.proofs.AnswerLaws.{refuse-not, refuse-else, passUp-low, passUp-high, holds-true}
 use Rattle.order.specs.Order.{positionCount, rackCount, floorOf, startsOf, goalsOf, orderAnswer, WellFormed}
 use Rattle.order.proofs.OrderLaws.{well-formed}
 use Rattle.motion.specs.Replay.{ended, replayMoves}
@@ -26,8 +26,7 @@ use Rattle.tables.specs.Accepted.{WellPlaced}
 use Rattle.tables.proofs.AcceptedLaws.{well-placed}
 use Rattle.graph.specs.Connected.{BiConnected}
 use Rattle.plan_check.proofs.Limits.{accepted-leads}
-use Rattle.floor.specs.FloorAnswer.{Joins, biConnected?, holds}
-use Rattle.floor.proofs.FloorLaws.{holds-true}
+use Rattle.floor.specs.FloorAnswer.{Joins, biConnected?}
 use Rattle.parity.specs.Impossible.{Impossible}
 use Rattle.parity.specs.OneVacancy.{impossible?, judgement, vacancyAnswer}
 use Rattle.parity.specs.Theorems.{NoWay, Judged}

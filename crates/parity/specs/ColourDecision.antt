@@ -22,7 +22,7 @@ use lib.Dec.{eqb}
 use Rattle.order.specs.Floor.{Floor, joined}
 use Rattle.motion.specs.Arrangement.{Arrangement}
 use Rattle.floor.specs.FloorAnswer.{Joins, passes?}
-use Rattle.floor.specs.WayDecision.{alike?, either?, both?, not?, implies?, every?}
+use Rattle.graph.proofs.WayDecision.{alike?, either?, both?, not?, implies?, every?}
 use Rattle.parity.specs.Colours.{TwoColours}
 use Rattle.parity.specs.Permutation.{vacancy, change, inversions}
 use Rattle.parity.specs.Impossible.{Contrary, Impossible}

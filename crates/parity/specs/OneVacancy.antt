@@ -11,11 +11,11 @@ use Prim.Native.Nat.{ℕ, _-_}
 use mathlib.Core.Bool.{not, cond}
 use mathlib.Core.List.{List, [], _∷_}
 use lib.Dec.{eqb}
-use Rattle.answers.specs.Answer.{Answer, accepted, refuse, passUp}
+use Rattle.answers.specs.Answer.{Answer, accepted, refuse, passUp, holds}
 use Rattle.order.specs.Floor.{Floor}
 use Rattle.order.specs.Order.{positionCount, rackCount, floorOf, startsOf, goalsOf, orderAnswer}
 use Rattle.motion.specs.Arrangement.{Arrangement}
-use Rattle.floor.specs.FloorAnswer.{biConnected?, holds}
+use Rattle.floor.specs.FloorAnswer.{biConnected?}
 use Rattle.parity.specs.Impossible.{Impossible}
 use Rattle.parity.specs.ColourDecision.{decideImpossible}
 

@@ -18,7 +18,6 @@ use Rattle.field.proofs.ListedLaws.{listed-drop}
 use Rattle.field.proofs.RecordLaws.{rest-is}
 use Rattle.field.proofs.UnitLaws.{Fitting, fitting, tail-units}
 use Rattle.order.specs.Order.{positionCount, edgeCount, rackCount, floorOf, startsOf, goalsOf, counts, WellFormed}
-use Rattle.order.proofs.OrderLaws.{accepted-is}
 use Rattle.motion.specs.Replay.{ended, replayMoves, listed}
 use Rattle.motion.proofs.Lawful.{Leads, replayMoves-ended}
 use Rattle.motion.proofs.PebbleLaws.{pebble-replay}
@@ -48,7 +47,7 @@ plan-gave o p v e =
     record {
       order-right = a .order-right;
       placed-well = w;
-      order-gives = order-gave o (positionCount o) (edgeCount o) (rackCount o) (sym (accepted-is o (a .order-right)));
+      order-gives = order-gave o (positionCount o) (edgeCount o) (rackCount o) (sym (a .order-right));
       length-right = a .length-right;
       padding-clear = a .padding-clear;
       counted = a .counted;

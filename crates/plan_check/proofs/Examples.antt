@@ -166,7 +166,7 @@ passes-10-up = refl
 
 pub case-well-formed : WellFormed caseBook
 unfolding plan-open
-case-well-formed = record { length-right = refl; positions-right = refl; padding-clear = refl; edges-right = refl; racks-right = refl }
+case-well-formed = refl
 
 -- the four moves' arrangements are a solution, and the case book's bytes are its record
 pub case-replayed : ReplayedPlan caseBook casePlan (4 ∷ [])
@@ -230,7 +230,7 @@ fullFloor = 0x02 ∷ 0x00 ∷ 0x04 ∷ 0x00 ∷ 0x00 ∷ []
 
 full-well-formed : WellFormed fullFloor
 unfolding plan-open
-full-well-formed = record { length-right = refl; positions-right = refl; padding-clear = refl; edges-right = refl; racks-right = refl }
+full-well-formed = refl
 
 full-accepted : planAnswer fullFloor (0x00 ∷ 0x00 ∷ 0x00 ∷ []) ≡ accepted (0 ∷ [])
 unfolding plan-open
@@ -246,7 +246,7 @@ bareFloor = 0x02 ∷ 0x00 ∷ 0x00 ∷ []
 
 bare-well-formed : WellFormed bareFloor
 unfolding plan-open
-bare-well-formed = record { length-right = refl; positions-right = refl; padding-clear = refl; edges-right = refl; racks-right = refl }
+bare-well-formed = refl
 
 bare-accepted : planAnswer bareFloor (0x00 ∷ 0x00 ∷ 0x00 ∷ []) ≡ accepted (0 ∷ [])
 unfolding plan-open

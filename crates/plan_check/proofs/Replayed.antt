@@ -24,7 +24,7 @@ use Rattle.field.specs.Bytes.{Bytes}
 use Rattle.field.specs.Listed.{movesOf, ListedFit}
 use Rattle.field.proofs.ListedLaws.{listed-fit}
 use Rattle.order.specs.Order.{rackCount, floorOf, startsOf, goalsOf, counts, orderAnswer, WellFormed}
-use Rattle.order.proofs.OrderLaws.{well-formed, accepted-is}
+use Rattle.order.proofs.OrderLaws.{well-formed}
 use Rattle.motion.specs.Arrangement.{Arrangement}
 use Rattle.motion.specs.Move.{afterMove}
 use Rattle.motion.specs.Replay.{ended, replayMoves, replayListed, listed, trace}
@@ -119,7 +119,7 @@ module _ (o p v : List ℕ) where
   accepted-from : ReplayedPlan o p v → planAnswer o p ≡ accepted v
   unfolding planAnswer judgement
   accepted-from t =
-      passUp-accepted (orderAnswer o) _ (counts o) (accepted-is o (t .order-right))
+      passUp-accepted (orderAnswer o) _ (counts o) (t .order-right)
       ∙ rw (t .length-right, t .padding-clear) (judged-solution (t .order-right) .1 (t .counted, t .solution, t .racks-told))
 
 module _ (e : Bool) (o : List ℕ) (w : WellFormed o) (ξ : ℕ) (S : List Arrangement) (few : ξ < 2 ^ 22) (s : SolutionOf o ξ S) where

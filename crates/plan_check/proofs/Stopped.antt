@@ -15,7 +15,7 @@ use native.Mathlib.Omega.{arith}
 use Rattle.answers.specs.Answer.{refused}
 use Rattle.answers.proofs.AnswerLaws.{refuse-past, passUp-past, passUp-accepted}
 use Rattle.order.specs.Order.{floorOf, startsOf, goalsOf, counts, orderAnswer, WellFormed}
-use Rattle.order.proofs.OrderLaws.{well-formed, accepted-is, order-past}
+use Rattle.order.proofs.OrderLaws.{well-formed, order-past}
 use Rattle.motion.specs.Move.{listedFault, afterListed}
 use Rattle.motion.specs.Replay.{replayListed}
 use Rattle.motion.proofs.ListedLaws.{legalListed, listedFault-none, BadListed, listedFault-bad, replayListed-stopped}
@@ -56,7 +56,7 @@ module _ (o p : List ℕ) (f j : ℕ) where
   unfolding planAnswer
   stopped-from d t =
       let x = replayListed (floorOf o) (startsOf o) (planListed p) in
-      passUp-accepted (orderAnswer o) _ (counts o) (accepted-is o (t .order-right))
+      passUp-accepted (orderAnswer o) _ (counts o) (t .order-right)
       ∙ rw (t .length-right, t .padding-clear)
       (judged-refused 33 (goalsOf o) (moveCount p ∷ []) f j d x .1
       (replayListed-stopped (floorOf o) (startsOf o) (planListed p) f j .1 (t .stops)))

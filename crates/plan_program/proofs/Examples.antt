@@ -29,7 +29,7 @@ use Rattle.order.specs.Floor.{some, isPair, joined}
 use Rattle.order.specs.Order.{orderBits, orderRecord, positionCount, edgeCount, rackCount, unitCount, floorOf, startsOf, goalsOf, orderOf}
 use Rattle.order.specs.Order.{wrongLength, wrongPositions, paddingSet, badEdge, precedes, ascending, wrongEdges, repeats}
 use Rattle.order.specs.Order.{wrongPlaces, wrongRacks, counts, orderAnswer}
-use Rattle.order.specs.EdgeSets.{listed, isEdge, floorFrom}
+use Rattle.order.specs.EdgeSets.{edgesListed, isEdge, floorFrom}
 use Rattle.plan_check.proofs.Examples.{plan-open}
 use Rattle.plan.specs.Plan.{spareBits, planBits, planBytes, planRecord}
 use Rattle.writers.specs.Lines.{digits, decimal, refusalLine}
@@ -37,9 +37,9 @@ use Rattle.motion.specs.Arrangement.{stands, rackFrom, rackAt}
 use Rattle.motion.specs.Move.{goesTo, after, afterMove}
 use Rattle.motion.specs.Replay.{replayMoves, listed as listedFrom}
 use Rattle.sets.specs.First.{firstFrom}
-use Rattle.ring.specs.Circle.{placeIn, roundOf, follow, onward}
-use Rattle.floor.specs.FloorAnswer.{biConnected?, ring?, roundPlace, disordered?, floorAnswer}
-use Rattle.floor.specs.RoundDecision.{rack?, inTurn?, sameOrder?}
+use Rattle.ring.specs.Circle.{placeOn, roundOf, follow, onward}
+use Rattle.floor.specs.FloorAnswer.{biConnected?, ring?, roundPlace, sameRound?, floorAnswer}
+use Rattle.ring.proofs.RoundDecision.{rack?, inTurn?, sameOrder?}
 use Rattle.floor.specs.Plannable.{Plannable}
 use Rattle.floor.specs.Sides.{countOf, fourSided?}
 use Rattle.floor.proofs.FloorLaws.{plannable-is}
@@ -86,8 +86,8 @@ pub refusals-met :
     × (refusals fourByFour 65536 ≡ refused 23 0)
     × (refusals allOfSixteen 65536 ≡ refused 26 0)
     × (refusals twoRacks 65536 ≡ accepted [])
-unfolding refusals allOfSixteen orderRecord orderBits floorFrom listed isEdge bits pairBits positionBits toBytes padded pad bytes
-    floorAnswer biConnected? ring? fourSided? countOf disordered? roundPlace sameOrder? rack? inTurn? placeIn roundOf follow onward
+unfolding refusals allOfSixteen orderRecord orderBits floorFrom edgesListed isEdge bits pairBits positionBits toBytes padded pad bytes
+    floorAnswer biConnected? ring? fourSided? countOf sameRound? roundPlace sameOrder? rack? inTurn? placeOn roundOf follow onward
     firstFrom stands joined some isPair orderAnswer wrongLength misfits recordLength unitCount wrongPositions paddingSet padSet unclean
     wrongEdges badEdge precedes ascending wrongRacks wrongPlaces repeats orderOf floorOf startsOf goalsOf counts positionCount edgeCount
     rackCount field number bitsOf pairs positions

@@ -25,7 +25,6 @@ use Rattle.field.specs.Writing.{written}
 use Rattle.order.specs.Floor.{some, isPair, joined}
 use Rattle.order.specs.Order.{positionCount, edgeCount, rackCount, floorOf, startsOf, goalsOf, counts}
 use Rattle.order.specs.Tables.{decodedRows, decodedStarts, decodedGoals}
-use Rattle.order.proofs.OrderLaws.{accepted-is}
 use Rattle.motion.specs.Arrangement.{occupied, vacant, rackFrom, rackAt}
 use Rattle.motion.specs.Move.{onFloor, faultBy, moveFault, goesTo, after, afterMove}
 use Rattle.motion.specs.Replay.{replayFrom, replayMoves, listed}
@@ -44,7 +43,7 @@ use Rattle.planner.specs.Planner.{refusals, PlanMade, turned-down, made}
 order-read : OrderGave twoRacks 4 5 2
 order-read =
     order-gave twoRacks 4 5 2
-    (unfold counts positionCount edgeCount rackCount field number bitsOf bits in sym (accepted-is twoRacks (plannable-met .right)))
+    (unfold counts positionCount edgeCount rackCount field number bitsOf bits in sym (plannable-met .right))
 
 pub plan-moves-met : SomeTables 4 5 2 (decodedRows twoRacks) (decodedStarts twoRacks) (decodedGoals twoRacks)
     × (18 * (4 * (4 * 4)) ≤ length (replicate {A = ℕ} 1152 0))
@@ -59,7 +58,7 @@ plan-moves-met = (
 ring-read : OrderGave threeInRing 3 3 1
 ring-read =
     order-gave threeInRing 3 3 1
-    (unfold counts positionCount edgeCount rackCount field number bitsOf bits in sym (accepted-is threeInRing (ring-met .right)))
+    (unfold counts positionCount edgeCount rackCount field number bitsOf bits in sym (ring-met .right))
 
 pub round-met : SomeTables 3 3 1 (decodedRows threeInRing) (decodedStarts threeInRing) (decodedGoals threeInRing)
 round-met =
@@ -80,7 +79,7 @@ mirrored-floor : OnRingFloor mirrored
 unfolding positionCount rackCount field number bitsOf bits
 mirrored-floor =
     let told = told-disordered mirrored (floors-judged .6) in
-    record { right = told .0; ring = told .1 .ring; vacancy = lit≤ tt }
+    record { right = told .0; ring = told .1; vacancy = lit≤ tt }
 
 pub mirrored-no-plan : NoPlan mirrored
 mirrored-no-plan = ring-turned-down mirrored mirrored-floor .0 (floors-judged .6)

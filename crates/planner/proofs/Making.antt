@@ -28,7 +28,6 @@ use Rattle.field.proofs.RecordLaws.{rest-is}
 use Rattle.field.specs.Writing.{written}
 use Rattle.order.specs.Order.{positionCount, floorOf, startsOf, goalsOf, orderAnswer, counts}
 use Rattle.order.specs.Tables.{decodedRows, decodedStarts, decodedGoals}
-use Rattle.order.proofs.OrderLaws.{accepted-is}
 use Rattle.motion.specs.Replay.{listed}
 use Rattle.motion.proofs.Lawful.{replayMoves-ended}
 use Rattle.tables.specs.Accepted.{OrderGave}
@@ -44,7 +43,7 @@ use Rattle.planner.specs.Planner.{refusals, PlanMade, turned-down, made}
 
 pub counted : (o : List ℕ) → Plannable o → (a : Answer) → a ≡ passUp (floorAnswer o) (accepted (counts o)) → a ≡ orderAnswer o
 counted o can a handed =
-    handed ∙ ap (λ (b : Answer). passUp b (accepted (counts o))) (plannable-is o can) ∙ sym (accepted-is o (can .right))
+    handed ∙ ap (λ (b : Answer). passUp b (accepted (counts o))) (plannable-is o can) ∙ sym (can .right)
 
 module _ (o B : List ℕ) where
   pub planner-refused : (a r : Answer) (k place : ℕ) → a ≡ floorAnswer o → a ≡ refused k place → r ≡ passUp a (accepted (0 ∷ []))

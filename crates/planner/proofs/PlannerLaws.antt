@@ -19,7 +19,7 @@ use Rattle.field.specs.Listed.{movesOf}
 use Rattle.answers.specs.Answer.{Answer, accepted, refused, refuse}
 use Rattle.answers.proofs.AnswerLaws.{passUp-low, passUp-accepted}
 use Rattle.order.specs.Order.{positionCount, floorOf, startsOf, goalsOf, counts, orderAnswer}
-use Rattle.order.proofs.OrderLaws.{right-head, accepted-is}
+use Rattle.order.proofs.OrderLaws.{formed-head}
 use Rattle.motion.specs.Arrangement.{Arrangement}
 use Rattle.motion.specs.Replay.{ended, replayListed, listed}
 use Rattle.motion.proofs.Lawful.{Leads, replayMoves-ended}
@@ -49,7 +49,7 @@ module _ (o : List ℕ) (can : Plannable o) (ms : List (ℕ × ℕ)) (solves : S
   pub solves-few : length ms < 2 ^ 22
   solves-few =
       let n = positionCount o in
-      let few : n ≤ 64 = right-head o (can .right .length-right) (can .right .positions-right) .few-positions in
+      let few : n ≤ 64 = formed-head o (can .right) .few-positions in
       let most = most-moves n few in
       omega (arith, solves .few)
 
@@ -93,7 +93,7 @@ module _ (o : List ℕ) (can : Plannable o) (ms : List (ℕ × ℕ)) (solves : S
   unfolding planAnswer planRecord
   plan-accepted =
       let x = replayListed (floorOf o) (startsOf o) ls in
-      passUp-accepted (orderAnswer o) _ (counts o) (accepted-is o (can .right))
+      passUp-accepted (orderAnswer o) _ (counts o) (can .right)
       ∙ rw (packed .length-right, packed .padding-clear, packed .count-is, packed .listed-are)
       (judged-accepted 33 (goalsOf o) (length ls ∷ []) (length ms ∷ []) x same .1 (replayed, ap (λ (k : ℕ). k ∷ []) long))
 

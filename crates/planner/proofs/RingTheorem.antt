@@ -15,7 +15,6 @@ use Rattle.answers.specs.Answer.{accepted, refused}
 use Rattle.order.specs.Floor.{joined}
 use Rattle.order.specs.Order.{positionCount, rackCount, edgeCount, floorOf, startsOf, goalsOf, counts, orderAnswer}
 use Rattle.order.specs.Tables.{decodedRows, decodedStarts, decodedGoals}
-use Rattle.order.proofs.OrderLaws.{accepted-is}
 use Rattle.motion.specs.Replay.{ended, replayMoves}
 use Rattle.motion.proofs.Lawful.{replayMoves-ended}
 use Rattle.motion.specs.Sound.{Sound}
@@ -28,7 +27,7 @@ use Rattle.moving.proofs.WentLaws.{went-to}
 use Rattle.solving.specs.Placed.{Placed}
 use Rattle.solving.proofs.Held.{went-replayed}
 use Rattle.floor.specs.FloorAnswer.{roundPlace, SameRound}
-use Rattle.floor.specs.RoundDecision.{sameOrder?}
+use Rattle.ring.proofs.RoundDecision.{sameOrder?}
 use Rattle.floor.specs.RingTables.{RingTables}
 use Rattle.tables.specs.Accepted.{OrderGave}
 use Rattle.tables.proofs.AcceptedLaws.{order-gave}
@@ -49,7 +48,7 @@ module _ (o : List ℕ) (f : OnRingFloor o) where
   m = rackCount o
 
   gave : OrderGave o n (edgeCount o) m
-  gave = order-gave o n (edgeCount o) m (unfold counts in sym (accepted-is o (f .right)))
+  gave = order-gave o n (edgeCount o) m (unfold counts in sym (f .right))
 
   abbrev g : List ℕ
   g = decodedRows o

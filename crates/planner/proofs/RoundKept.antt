@@ -27,7 +27,7 @@ use Rattle.motion.proofs.Lawful.Lawful.{still, _then_}
 use Rattle.motion.proofs.SoundLaws.{move-sound}
 use Rattle.tables.proofs.TablesLaws.{Holds}
 use Rattle.graph.specs.Rows.{row, Edge}
-use Rattle.ring.specs.Circle.{Circle, next, roundOf, edgeIn, placeIn}
+use Rattle.ring.specs.Circle.{Circle, next, roundOf, edgeIn, placeOn}
 use Rattle.ring.specs.Order.{InTurn, Rack, SameOrder}
 use Rattle.ring.specs.Standing.{StandAt}
 use Rattle.ring.proofs.CircleLaws.{Degree, next-is, circle-every, circle-neighbours}
@@ -118,7 +118,7 @@ module _ {o : List ℕ} {n m : ℕ} {g h k : List ℕ} (t : RingTables o n m g h
   circle = round-circle floor (edgeIn g) (edge-test (rows t) (t .rings))
 
   abbrev place : ℕ → ℕ
-  place p = placeIn way p
+  place p = placeOn way p
 
   place-of : (p : ℕ) → p < n → (place p < n) × (getD way (place p) 0 ≡ p)
   place-of p l =
@@ -128,7 +128,7 @@ module _ {o : List ℕ} {n m : ℕ} {g h k : List ℕ} (t : RingTables o n m g h
 
   place-is : (A : Arrangement) (r : ℕ) → roundPlace F A r ≡ place (stands A r)
   unfolding roundPlace
-  place-is A r = ap (λ (l : List ℕ). placeIn l (stands A r)) (sym (round-is t))
+  place-is A r = ap (λ (l : List ℕ). placeOn l (stands A r)) (sym (round-is t))
 
   -- where the racks of an arrangement stand on the circle
   pub places-of : Arrangement → ℕ → ℕ

@@ -3,3 +3,4 @@ pub mod RoundLaws
 pub mod OrderLaws
 pub mod StandingLaws
 pub mod Examples
+pub mod RoundDecision

@@ -22,7 +22,7 @@ use Rattle.graph.specs.Connected.{Ring}
 use Rattle.graph.specs.EdgeCount.{edgeCount}
 use Rattle.graph.specs.Rows.{Edge, Rows}
 use Rattle.graph.proofs.EdgeCountLaws.{rowSum-least-three, biConnected-neighbours, ring-two}
-use Rattle.ring.specs.Circle.{Circle, onward, follow, roundOf, edgeIn, placeIn}
+use Rattle.ring.specs.Circle.{Circle, onward, follow, roundOf, edgeIn, placeOn}
 use Rattle.ring.proofs.CircleLaws.{Degree, Finds, way-circle}
 
 and-both : (a b : Bool) → a && b ≡ true → (a ≡ true) × (b ≡ true)
@@ -73,8 +73,8 @@ follow-then n e a b (suc zero) i l = absurd (let z : 0 < 0 = omega arith in omeg
 follow-then n e a b (suc (suc k)) zero l = refl
 follow-then n e a b (suc (suc k)) (suc i) l = follow-then n e b (onward n e a b) (suc k) i (omega arith)
 
-pub found : (l : List ℕ) (i p : ℕ) → i < length l → getD l i 0 ≡ p → (placeIn l p ≤ i) × (getD l (placeIn l p) 0 ≡ p)
-unfolding placeIn
+pub found : (l : List ℕ) (i p : ℕ) → i < length l → getD l i 0 ≡ p → (placeOn l p ≤ i) × (getD l (placeOn l p) 0 ≡ p)
+unfolding placeOn
 found [] i p h e = absurd (let z : 0 < 0 = omega arith in omega arith)
 found (q ∷ l) zero p h e = rw (eq-eqb q p e) (omega arith, e)
 found (q ∷ l) (suc i) p h e =
@@ -116,7 +116,7 @@ module _ {n : ℕ} {E : ℕ → ℕ → Type 0} (floor : Degree n E) (e : ℕ �
 
   pub round-circle : Circle n E at
   round-circle =
-      way-circle floor at (placeIn (roundOf n e))
+      way-circle floor at (placeOn (roundOf n e))
       (record {
         early = λ i l. found (roundOf n e) i (at i) (let s = round-long in omega arith) refl .0;
         there = λ i l. found (roundOf n e) i (at i) (let s = round-long in omega arith) refl .1;
@@ -132,11 +132,11 @@ module _ {n : ℕ} {E : ℕ → ℕ → Type 0} (floor : Degree n E) (e : ℕ �
       two : (i : ℕ) → suc (suc i) ≡ i + 2
       two i = omega arith
 
-  pub round-place : (p : ℕ) → p < n → (i : ℕ) → i < n → at i ≡ p → placeIn (roundOf n e) p ≡ i
+  pub round-place : (p : ℕ) → p < n → (i : ℕ) → i < n → at i ≡ p → placeOn (roundOf n e) p ≡ i
   round-place p l i h s =
       let f = found (roundOf n e) i p (let t = round-long in omega arith) s in
-      by-cases (ℕ-discrete (placeIn (roundOf n e) p) i) (λ x. x)
-      (λ d. absurd (round-circle .distinct (placeIn (roundOf n e) p) i (let x = f .0 in omega arith) h (f .1 ∙ sym s)))
+      by-cases (ℕ-discrete (placeOn (roundOf n e) p) i) (λ x. x)
+      (λ d. absurd (round-circle .distinct (placeOn (roundOf n e) p) i (let x = f .0 in omega arith) h (f .1 ∙ sym s)))
 
 module _ {n : ℕ} {g : List ℕ} (rows : Rows n g) (ring : Ring n (Edge g) (edgeCount g n)) where
   pub ring-degree : Degree n (Edge g)

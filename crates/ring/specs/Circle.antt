@@ -7,7 +7,7 @@
 --     follow n e a b k    k positions in a row: b, and then always on, never straight back; a is the one before b
 --     roundOf n e         the n positions of a ring in their order round it
 --     edgeIn g a b        the test whether the rows g have an edge from a to b
---     placeIn l p         the place of the position p in the row l, places counted from 0
+--     placeOn l p         the place of the position p in the row l, places counted from 0
 -- Assumes nothing.
 use Prim.Native.Nat.{ℕ, zero, suc, _+_, _-_, _<_}
 use mathlib.Core.Path.{_≡_}
@@ -42,6 +42,6 @@ roundOf n e = follow n e n 0 n
 unfoldable pub edgeIn : List ℕ → ℕ → ℕ → Bool
 edgeIn g a b = eqb (bit (getD g a 0) b) 1
 
-unfoldable pub placeIn : List ℕ → ℕ → ℕ
-placeIn [] p = 0
-placeIn (q ∷ l) p = cond (eqb q p) 0 (suc (placeIn l p))
+unfoldable pub placeOn : List ℕ → ℕ → ℕ
+placeOn [] p = 0
+placeOn (q ∷ l) p = cond (eqb q p) 0 (suc (placeOn l p))

@@ -30,7 +30,7 @@ use Rattle.motion.proofs.StepTestsLaws.{left}
 use Rattle.motion.proofs.LegalStepLaws.{legalStep-iff}
 use Rattle.motion.proofs.StepLimits.{step-size}
 use Rattle.field.proofs.PackingLaws.{length-pack}
-use Rattle.timetable.specs.Reading.{moveTotal}
+use Rattle.timetable.specs.Timetable.{moveTotal}
 use Rattle.window.specs.Rows.{stepBytes, stepsBytes}
 use Rattle.scheduling.specs.Making.{Timed, turnFor, timed, greatest, movesIn, inStep, stepsFrom, madeSteps}
 use Rattle.scheduling.proofs.Timing.{Ruled, none, ruled-timed, turnFor-byRule, ruled-filled, length-movesIn, steps-total}

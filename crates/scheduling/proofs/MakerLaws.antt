@@ -27,7 +27,6 @@ use Rattle.order.specs.Floor.{Floor}
 use Rattle.field.specs.Writing.{leftBy}
 use Rattle.field.proofs.WritingLaws.{written-front}
 use Rattle.order.specs.Order.{rackCount, floorOf, startsOf, goalsOf, counts, orderAnswer, WellFormed}
-use Rattle.order.proofs.OrderLaws.{accepted-is}
 use Rattle.motion.specs.Arrangement.{Arrangement}
 use Rattle.motion.specs.Replay.{ended, replayMoves, replaySteps}
 use Rattle.motion.proofs.StepDecision.{legalStep?}
@@ -41,8 +40,8 @@ use Rattle.tables.specs.Accepted.{WellPlaced}
 use Rattle.plan.specs.Plan.{moveCount, planMoves, wrongPlanLength, planAnswer}
 use Rattle.plan.proofs.PlanRecord.{moves-counted}
 use Rattle.plan_check.proofs.Accepted.{PlanGave, plan-gave}
-use Rattle.timetable.specs.Timetable.{timetableRecord, stepCount, partsOf, stepsOf, total, timetableAnswer}
-use Rattle.timetable.specs.Reading.{moveTotal}
+use Rattle.timetable.specs.Timetable.{timetableRecord, stepCount, partsOf, stepsOf, timetableAnswer, moveTotal}
+use Rattle.timetable.specs.Reading.{total}
 use Rattle.timetable.proofs.ReadingLaws.{total-moves}
 use Rattle.timetable.proofs.TimetableRecord.{Steps, no-steps, one-step, Packable, count-record, stepsOf-record, record-well-packed}
 use Rattle.scheduling.specs.Making.{timed, greatest, madeSteps}
@@ -99,13 +98,13 @@ module _ (o p v : List ℕ) (e : planAnswer o p ≡ accepted v) where
   unfolding madeOf
   moves-total = made-of .moves
 
-  made-counts : stepCount (timetableRecord (madeOf o p)) ∷ total (partsOf (timetableRecord (madeOf o p))) ∷ []
+  made-counts : stepCount (timetableRecord (madeOf o p)) ∷ moveTotal (stepsOf (timetableRecord (madeOf o p))) ∷ []
       ≡ greatest (timed (startsOf o) [] (planMoves p)) ∷ moveCount p ∷ []
   made-counts =
       let r = timetableRecord (madeOf o p) in
       let steps : stepCount r ≡ greatest (timed (startsOf o) [] (planMoves p)) = count-record (madeOf o p) made-packable ∙ steps-counted in
-      let moves : total (partsOf r) ≡ moveCount p =
-      sym (total-moves r) ∙ ap moveTotal (stepsOf-record (madeOf o p) made-packable) ∙ moves-total ∙ moves-counted p in
+      let moves : moveTotal (stepsOf r) ≡ moveCount p =
+      ap moveTotal (stepsOf-record (madeOf o p) made-packable) ∙ moves-total ∙ moves-counted p in
       ap₂ (λ (x y : ℕ). x ∷ y ∷ []) steps moves
 
   made-replayed : replaySteps (legalStep? (floorOf o)) (startsOf o) (stepsOf (timetableRecord (madeOf o p))) ≡ ended (goalsOf o)
@@ -121,8 +120,8 @@ module _ (o p v : List ℕ) (e : planAnswer o p ≡ accepted v) where
   made-checked =
       let r = timetableRecord (madeOf o p) in
       let w = record-well-packed (madeOf o p) made-packable in
-      passUp-accepted (orderAnswer o) _ (counts o) (accepted-is o (gave .order-right))
-      ∙ rw (w .length-right, w .padding-clear, made-replayed, made-counts) (at-goals _)
+      passUp-accepted (orderAnswer o) _ (counts o) (gave .order-right)
+      ∙ rw (w .length-right, w .padding-clear, made-counts, made-replayed) (at-goals _)
 
 pub timetabled : (o p v : List ℕ) → planAnswer o p ≡ accepted v → Timetabled o p
 timetabled o p v e = record { short = made-short o p v e; checked = made-checked o p v e }

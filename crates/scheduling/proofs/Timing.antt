@@ -44,7 +44,7 @@ use Rattle.motion.proofs.ListLaws.{by-member, pairwise-more, pairwise-rel, Keys
 use Rattle.motion.proofs.StepTestsLaws.{left}
 use Rattle.motion.specs.StepOf.{insert, sort}
 use Rattle.motion.proofs.StepOfLaws.{sort-iff, sort-ascends, ascending-same}
-use Rattle.timetable.specs.Reading.{moveTotal}
+use Rattle.timetable.specs.Timetable.{moveTotal}
 use Rattle.scheduling.specs.Making.{Timed, ofRack, ofLeaving, placeLeaving, stepAfter, placeAfter, turnAfter, turnFor, timed}
 use Rattle.scheduling.specs.Making.{greatest, inStep, movesIn, stepsFrom, madeSteps}
 

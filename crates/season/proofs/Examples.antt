@@ -14,9 +14,10 @@ use lib.ListN.{take}
 use Rattle.answers.specs.Answer.{Answer, accepted, refused}
 use Rattle.recording.specs.Front.{wholeLength}
 use Rattle.order.specs.RecordLength.{orderLength, wholeOrderLength}
-use Rattle.timetable.specs.RecordLength.{stepsLength, timetableLength, wholeTimetableLength}
+use Rattle.timetable.specs.Timetable.{stepsLength, timetableLength}
+use Rattle.timetable.specs.RecordLength.{wholeTimetableLength}
 use Rattle.timetable_check.proofs.Inhabited.{order₁, timetable₁, timetable-open}
-use Rattle.season.specs.Season.{orderPart, behindOrder, timetablePart, behindPair, cutShort, nothing, counted, parallelism}
+use Rattle.season.specs.Season.{pairOrder, behindOrder, pairTimetable, behindPair, cutShort, noTotals, counted, parallelism}
 use Rattle.season.specs.Season.{seasonFrom, seasonAnswer}
 use Rattle.season.specs.declared.Totals.{Totals}
 
@@ -28,11 +29,11 @@ abbrev empty : List ℕ
 empty = 0 ∷ 0 ∷ 0 ∷ 0 ∷ 0 ∷ 4 ∷ 0 ∷ []
 
 pub nothing-reported : seasonAnswer [] ≡ accepted (0 ∷ 0 ∷ 0 ∷ 0 ∷ [])
-unfolding seasonAnswer seasonFrom nothing parallelism
+unfolding seasonAnswer seasonFrom noTotals parallelism
 nothing-reported = refl
 
 unfoldable season-open : List ℕ → Answer
-unfolding timetable-open seasonAnswer seasonFrom orderPart behindOrder timetablePart behindPair cutShort nothing counted parallelism
+unfolding timetable-open seasonAnswer seasonFrom pairOrder behindOrder pairTimetable behindPair cutShort noTotals counted parallelism
     orderLength wholeOrderLength stepsLength timetableLength wholeTimetableLength wholeLength
 season-open s = seasonAnswer s
 

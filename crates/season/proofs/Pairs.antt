@@ -20,7 +20,7 @@ use Rattle.order.proofs.RecordLengthLaws.{order-length-found}
 use Rattle.timetable.specs.RecordLength.{wholeTimetableLength}
 use Rattle.timetable.specs.Timetable.{timetableAnswer}
 use Rattle.timetable.proofs.RecordLengthLaws.{timetable-length-found}
-use Rattle.season.specs.Season.{orderPart, behindOrder, timetablePart, behindPair, cutShort, counted, seasonFrom}
+use Rattle.season.specs.Season.{pairOrder, behindOrder, pairTimetable, behindPair, cutShort, counted, seasonFrom}
 use Rattle.season.specs.Theorems.{BeginsWith, OnePair}
 use Rattle.season.specs.declared.Totals.{Totals}
 use Rattle.season.proofs.SeasonLaws.{season-next}
@@ -38,8 +38,8 @@ module _ (s : List ℕ) where
         let both : eqb (wholeOrderLength s) 0 || eqb (wholeTimetableLength (behindOrder s)) 0 ≡ false = unfold cutShort in w in
         (or-left _ _ both, or-right (eqb (wholeOrderLength s) 0) _ both)
 
-    begins : BeginsWith s (orderPart s) (timetablePart s) (behindPair s)
-    unfolding orderPart timetablePart behindPair behindOrder
+    begins : BeginsWith s (pairOrder s) (pairTimetable s) (behindPair s)
+    unfolding pairOrder pairTimetable behindPair behindOrder
     begins =
         let o = wholeOrderLength s in
         let rest = drop o s in
@@ -70,12 +70,12 @@ module _ (s : List ℕ) where
         )
         refl
 
-    order-is : orderPart s ≡ o
-    unfolding orderPart
+    order-is : pairOrder s ≡ o
+    unfolding pairOrder
     order-is = ap₂ take order-length (b .is) ∙ take-append-seam o (t ++ rest)
 
-    timetable-is : timetablePart s ≡ t
-    unfolding timetablePart
+    timetable-is : pairTimetable s ≡ t
+    unfolding pairTimetable
     timetable-is = ap₂ take timetable-length behind ∙ take-append-seam t rest
 
     rest-is : behindPair s ≡ rest

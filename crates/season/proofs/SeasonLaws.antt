@@ -28,7 +28,7 @@ use Rattle.order.proofs.RecordLengthLaws.{order-length-found}
 use Rattle.timetable.specs.RecordLength.{wholeTimetableLength}
 use Rattle.timetable.specs.Timetable.{timetableAnswer}
 use Rattle.timetable.proofs.RecordLengthLaws.{timetable-length-found}
-use Rattle.season.specs.Season.{orderPart, behindOrder, timetablePart, behindPair, cutShort, nothing, counted, parallelism}
+use Rattle.season.specs.Season.{pairOrder, behindOrder, pairTimetable, behindPair, cutShort, noTotals, counted, parallelism}
 use Rattle.season.specs.Season.{reported, seasonFrom, seasonAnswer}
 use Rattle.season.specs.Pair.{PairAt, Within}
 use Rattle.season.specs.declared.Totals.{Totals}
@@ -144,7 +144,7 @@ season-cut k q t [] h c = absurd (omega arith)
 season-cut k q t (b ∷ s) h c = rw c refl
 
 pub season-next : (k q : ℕ) (t : Totals) (s : List ℕ) → 0 < length s → cutShort s ≡ false
-    → seasonFrom (suc k) q t s ≡ seasonFrom k (suc q) (counted t (timetableAnswer (orderPart s) (timetablePart s))) (behindPair s)
+    → seasonFrom (suc k) q t s ≡ seasonFrom k (suc q) (counted t (timetableAnswer (pairOrder s) (pairTimetable s))) (behindPair s)
 unfolding seasonFrom
 season-next k q t [] h c = absurd (omega arith)
 season-next k q t (b ∷ s) h c = rw c refl
@@ -157,11 +157,11 @@ module _ (s : List ℕ) {a e : ℕ} (p : PairAt s a e) (n : 0 < a) where
   size : e - a ≡ wholeTimetableLength (behindOrder s)
   size = let ends = p .timetable-ends n in omega arith
 
-  pub order-is : take a s ≡ orderPart s
-  order-is = unfold orderPart in ap (λ (k : ℕ). take k s) (p .order-ends n)
+  pub order-is : take a s ≡ pairOrder s
+  order-is = unfold pairOrder in ap (λ (k : ℕ). take k s) (p .order-ends n)
 
-  pub timetable-is : take (e - a) (drop a s) ≡ timetablePart s
-  timetable-is = unfold timetablePart in ap₂ take size behind-order
+  pub timetable-is : take (e - a) (drop a s) ≡ pairTimetable s
+  timetable-is = unfold pairTimetable in ap₂ take size behind-order
 
   pub behind-is : drop e s ≡ behindPair s
   behind-is =
@@ -178,7 +178,7 @@ pub record Left (s : List ℕ) (t : Totals) (q at : ℕ) : Type 0 where
   pub answers : seasonFrom (65535 - q) q t (drop at s) ≡ seasonAnswer s
 
 pub begins : (s : List ℕ) → Left s (record { accepted = 0; refused = 0; steps = 0; moves = 0 }) 0 0
-unfolding seasonAnswer nothing
+unfolding seasonAnswer noTotals
 begins s = record {
   few = omega arith;
   inside = omega arith;
@@ -243,7 +243,7 @@ module _ {s : List ℕ} {t : Totals} {q at : ℕ} (l : Left s t q at) where
               ∙ turn;
         }
           where
-            same : r ≡ counted t (timetableAnswer (orderPart (drop at s)) (timetablePart (drop at s)))
+            same : r ≡ counted t (timetableAnswer (pairOrder (drop at s)) (pairTimetable (drop at s)))
             same =
                 (rw (rest-is at s) at is)
                 ∙ ap₂ (λ (x y : List ℕ). counted t (timetableAnswer x y)) (order-is (drop at s) there n) (timetable-is (drop at s) there n)

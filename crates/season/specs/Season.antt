@@ -2,14 +2,14 @@
 -- were accepted, how many refused, and over the accepted ones the exact totals of steps and moves and the parallelism: moves divided by
 -- steps, in thousandths rounded down."
 --
---     orderPart s, timetablePart s    the order and the timetable of the pair that s begins with
+--     pairOrder s, pairTimetable s    the order and the timetable of the pair that s begins with
 --     behindOrder s, behindPair s     the bytes behind that order, and behind that pair
 --     cutShort s                 s ends before the pair does that it begins with
---     nothing                    the totals of no pairs
+--     noTotals                   the totals of no pairs
 --     counted t a                the totals t and one pair more, for which the timetable checker answers a
 --     parallelism s m            moves divided by steps, in thousandths rounded down, as a list of one number; of none without steps
 --     reported t                 the report on the totals t: pairs accepted and refused, steps, moves, and the parallelism if there is one
---     ended s t a                the answer a, unless s has no bytes: then the report on the totals t
+--     endedOr s t a              the answer a, unless s has no bytes: then the report on the totals t
 --     seasonFrom k q t s         the answer for the pairs that s begins with, behind q pairs of the totals t, where k more may come
 --     seasonAnswer s             the answer for the season s: 46 and 47 with a pair's number, else accepted with the report
 --     toldBy p, answerOf v       the parallelism p as such a list, and the verdict v as an answer
@@ -31,14 +31,14 @@ use Rattle.season.specs.declared.Parallelism.the-variants.{NoSteps, Thou
 
 -- "An order ends where its counts say and a timetable after its last step; the next pair follows directly." Whatever else is wrong with
 -- them does not matter here.
-unfoldable pub orderPart : List ℕ → List ℕ
-orderPart s = take (wholeOrderLength s) s
+unfoldable pub pairOrder : List ℕ → List ℕ
+pairOrder s = take (wholeOrderLength s) s
 
 unfoldable pub behindOrder : List ℕ → List ℕ
 behindOrder s = drop (wholeOrderLength s) s
 
-unfoldable pub timetablePart : List ℕ → List ℕ
-timetablePart s = take (wholeTimetableLength (behindOrder s)) (behindOrder s)
+unfoldable pub pairTimetable : List ℕ → List ℕ
+pairTimetable s = take (wholeTimetableLength (behindOrder s)) (behindOrder s)
 
 unfoldable pub behindPair : List ℕ → List ℕ
 behindPair s = drop (wholeTimetableLength (behindOrder s)) (behindOrder s)
@@ -47,8 +47,8 @@ behindPair s = drop (wholeTimetableLength (behindOrder s)) (behindOrder s)
 unfoldable pub cutShort : List ℕ → Bool
 cutShort s = eqb (wholeOrderLength s) 0 || eqb (wholeTimetableLength (behindOrder s)) 0
 
-unfoldable pub nothing : Totals
-nothing = record { accepted = 0; refused = 0; steps = 0; moves = 0 }
+unfoldable pub noTotals : Totals
+noTotals = record { accepted = 0; refused = 0; steps = 0; moves = 0 }
 
 -- "A pair that is whole but refused is counted and passed over." The checker's counts are a timetable's steps and its moves.
 unfoldable pub counted : Totals → Answer → Totals
@@ -71,20 +71,20 @@ abbrev pub reported : Totals → List ℕ
 reported t = t .accepted ∷ t .refused ∷ t .steps ∷ t .moves ∷ parallelism (t .steps) (t .moves)
 
 -- where no bytes are left, the report
-abbrev pub ended : List ℕ → Totals → Answer → Answer
-ended [] t otherwise = accepted (reported t)
-ended (b ∷ s) t otherwise = otherwise
+abbrev pub endedOr : List ℕ → Totals → Answer → Answer
+endedOr [] t otherwise = accepted (reported t)
+endedOr (b ∷ s) t otherwise = otherwise
 
 -- "Turned away, with the pair's number as place: 46 the bytes end before the pair does; 47 bytes follow the pair numbered 65,535; the
 -- earliest pair decides." Pairs are counted from 1.
 unfoldable pub seasonFrom : ℕ → ℕ → Totals → List ℕ → Answer
-seasonFrom zero q t s = ended s t (refused 47 q)
+seasonFrom zero q t s = endedOr s t (refused 47 q)
 seasonFrom (suc k) q t s =
-    let pair = timetableAnswer (orderPart s) (timetablePart s) in
-    ended s t (refuse (cutShort s) 46 (suc q) (seasonFrom k (suc q) (counted t pair) (behindPair s)))
+    let pair = timetableAnswer (pairOrder s) (pairTimetable s) in
+    endedOr s t (refuse (cutShort s) 46 (suc q) (seasonFrom k (suc q) (counted t pair) (behindPair s)))
 
 unfoldable pub seasonAnswer : List ℕ → Answer
-seasonAnswer s = seasonFrom 65535 0 nothing s
+seasonAnswer s = seasonFrom 65535 0 noTotals s
 
 abbrev pub toldBy : Parallelism → List ℕ
 toldBy NoSteps = []

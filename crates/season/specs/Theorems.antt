@@ -10,7 +10,7 @@ use mathlib.Core.Bool.{false}
 use mathlib.Core.List.{List, _++_}
 use Rattle.order.specs.Order.{wrongLength}
 use Rattle.timetable.specs.Timetable.{wrongTimetableLength}
-use Rattle.season.specs.Season.{orderPart, timetablePart, behindPair, cutShort}
+use Rattle.season.specs.Season.{pairOrder, pairTimetable, behindPair, cutShort}
 
 pub record BeginsWith (s o t rest : List ℕ) : Type 0 where
   pub is : s ≡ o ++ (t ++ rest)
@@ -18,6 +18,6 @@ pub record BeginsWith (s o t rest : List ℕ) : Type 0 where
   pub timetable-right : wrongTimetableLength t ≡ false
 
 pub record OnePair (s : List ℕ) : Type 0 where
-  pub found : cutShort s ≡ false → BeginsWith s (orderPart s) (timetablePart s) (behindPair s)
+  pub found : cutShort s ≡ false → BeginsWith s (pairOrder s) (pairTimetable s) (behindPair s)
   pub only : (o t rest : List ℕ) → BeginsWith s o t rest
-      → (cutShort s ≡ false) × (orderPart s ≡ o) × (timetablePart s ≡ t) × (behindPair s ≡ rest)
+      → (cutShort s ≡ false) × (pairOrder s ≡ o) × (pairTimetable s ≡ t) × (behindPair s ≡ rest)

@@ -3,3 +3,4 @@ pub mod ClearLaws
 pub mod BringLaws
 pub mod Examples
 pub mod TableExamples
+pub mod NearestDecision

@@ -19,7 +19,6 @@ use Rattle.field.specs.Bits.{pairs}
 use Rattle.order.specs.Floor.{Floor}
 use Rattle.order.specs.Order.{positionCount, edgeCount, rackCount, floorOf, counts, WellFormed, CountsOf}
 use Rattle.order.specs.Tables.{marked}
-use Rattle.order.proofs.OrderLaws.{accepted-is}
 use Rattle.order.proofs.TailLaws.{tail-edges}
 use Rattle.motion.specs.Step.{every}
 use Rattle.tables.specs.Accepted.{OrderGave}
@@ -35,11 +34,11 @@ use Rattle.stepping.proofs.Steps.{lent-leads, lent-few}
 
 pub order-gives : (o : List ℕ) → WellFormed o → (n e m : ℕ) → CountsOf o n e m → OrderGave o n e m
 unfolding counts
-order-gives o w n e m c = order-gave o n e m (rw (c .positions-are, c .edges-are, c .racks-are) (sym (accepted-is o w)))
+order-gives o w n e m c = order-gave o n e m (rw (c .positions-are, c .edges-are, c .racks-are) (sym w))
 
 pub order-head : (o : List ℕ) → WellFormed o → 3 ≤ length o
 unfolding counts
-order-head o w = order-gave o (positionCount o) (edgeCount o) (rackCount o) (sym (accepted-is o w)) .head-there
+order-head o w = order-gave o (positionCount o) (edgeCount o) (rackCount o) (sym w) .head-there
 
 pub matrix-is : (o : List ℕ) (n e m : ℕ) → OrderGave o n e m → (g : List ℕ)
     → g ≡ marked (replicate 4096 0) (pairs (take (length o - 3) (drop 3 o)) 0 e) → g ≡ marked (replicate 4096 0) (floorOf o .edges)

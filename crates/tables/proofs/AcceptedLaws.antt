@@ -26,7 +26,7 @@ use Rattle.order.specs.declared.Counts.{Counts}
 use Rattle.order.specs.declared.OrderVerdict.{OrderVerdict}
 use Rattle.order.specs.declared.OrderVerdict.the-variants.{Accepted}
 use Rattle.order.specs.Verdict.{answerOf}
-use Rattle.order.proofs.OrderLaws.{right-head, well-formed, accepted-is}
+use Rattle.order.proofs.OrderLaws.{right-order, formed-head, well-formed}
 use Rattle.order.proofs.TailLaws.{tail-room}
 use Rattle.motion.specs.Arrangement.{occupied, vacant}
 use Rattle.motion.specs.Sound.{Sound}
@@ -65,19 +65,19 @@ places-sound n l w =
 
 module _ (o : List ℕ) (w : WellFormed o) where
   few : positionCount o ≤ 64
-  few = right-head o (w .length-right) (w .positions-right) .few-positions
+  few = formed-head o w .few-positions
 
   starts : Sound (positionCount o) (startsOf o)
   unfolding wrongRacks orderOf floorOf
   starts =
       places-sound (positionCount o) (startsOf o)
-      (or-left (wrongPlaces (positionCount o) (startsOf o)) (wrongPlaces (positionCount o) (goalsOf o)) (w .racks-right))
+      (or-left (wrongPlaces (positionCount o) (startsOf o)) (wrongPlaces (positionCount o) (goalsOf o)) (right-order o w .racks-right))
 
   goals : Sound (positionCount o) (goalsOf o)
   unfolding wrongRacks orderOf floorOf
   goals =
       places-sound (positionCount o) (goalsOf o)
-      (or-right (wrongPlaces (positionCount o) (startsOf o)) (wrongPlaces (positionCount o) (goalsOf o)) (w .racks-right))
+      (or-right (wrongPlaces (positionCount o) (startsOf o)) (wrongPlaces (positionCount o) (goalsOf o)) (right-order o w .racks-right))
 
   starts-count : length (startsOf o) ≡ rackCount o
   unfolding startsOf
@@ -97,7 +97,7 @@ module _ (o : List ℕ) (w : WellFormed o) where
         few-positions = few;
         few-racks = omega (arith, few, fewer);
         edges-below = pairs-lt o 24 (edgeCount o);
-        edges-right = w .edges-right;
+        edges-right = right-order o w .edges-right;
         starts-sound = starts;
         goals-sound = goals;
         starts-length = starts-count;
@@ -113,11 +113,11 @@ pub order-gave : (o : List ℕ) (n e m : ℕ) → accepted (n ∷ e ∷ m ∷ []
 unfolding counts floorOf edgeCount wrongLength
 order-gave o n e m a =
     let w = well-formed o (n ∷ e ∷ m ∷ []) (sym a) in
-    let same : accepted (n ∷ e ∷ m ∷ []) ≡ accepted (counts o) = a ∙ accepted-is o w in
+    let same : accepted (n ∷ e ∷ m ∷ []) ≡ accepted (counts o) = a ∙ w in
     let es : e ≡ field o 7 8 = cc same in
     let ms : m ≡ rackCount o = cc same in
     let g = well-placed o w in
-    let fit = fitting o (unitCount o) (w .length-right) in
+    let fit = fitting o (unitCount o) (right-order o w .length-right) in
     record {
       right = w;
       placed-well = g;
@@ -136,4 +136,4 @@ order-accepted told up = order-gave _ _ _ _ (sym (ap answerOf up) ∙ told)
 
 pub gave-accepted : {o : List ℕ} {n e m : ℕ} → OrderGave o n e m → accepted (n ∷ e ∷ m ∷ []) ≡ orderAnswer o
 unfolding counts floorOf
-gave-accepted {o} g = rw (g .positions-are, g .edges-are, g .racks-are) (sym (accepted-is o (g .right)))
+gave-accepted {o} g = rw (g .positions-are, g .edges-are, g .racks-are) (sym (g .right))

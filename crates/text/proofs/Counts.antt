@@ -10,8 +10,8 @@ use mathlib.Core.List.{List, [], _∷_}
 use native.Mathlib.Omega.{arith}
 use lib.ListN.{length}
 use Rattle.answers.specs.Answer.{accepted, refused}
-use Rattle.timetable.specs.Timetable.{stepCount, total, partsOf, stepsOf}
-use Rattle.timetable.specs.Reading.{WellPacked, readingAnswer, moveTotal}
+use Rattle.timetable.specs.Timetable.{stepCount, partsOf, stepsOf, moveTotal}
+use Rattle.timetable.specs.Reading.{WellPacked, readingAnswer, total}
 use Rattle.timetable.proofs.ReadingLaws.{reading-accepted, count-steps, total-moves}
 use Rattle.text.specs.Text.{firstLine}
 

@@ -11,8 +11,8 @@ use lib.ListN.{replicate}
 use lib.Dec.{lit≤}
 use Rattle.answers.specs.Ascii.{ascii}
 use Rattle.field.specs.Writing.{Fits}
-use Rattle.timetable.specs.Reading.{moveTotal, WellPacked}
-use Rattle.timetable.specs.Timetable.{stepsOf}
+use Rattle.timetable.specs.Reading.{WellPacked}
+use Rattle.timetable.specs.Timetable.{stepsOf, moveTotal}
 use Rattle.timetable_check.proofs.Inhabited.{timetable₁, steps₁, moves₁, packed₁}
 use Rattle.writers.specs.Lines.{digits, decimal}
 use Rattle.text.specs.Text.{moveText, movesText, stepLine, stepLines, firstLine, timetableText}

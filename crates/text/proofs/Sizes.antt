@@ -5,7 +5,7 @@
 --     timetableText-short a timetable of fewer than 100,000 bytes takes at most 8 bytes of text for each of its bytes
 -- Assumes nothing.
 use Prim.Native.Nat.{ℕ, zero, suc, _+_, _*_, _≤_, _<_}
-use mathlib.Core.Path.{_≡_, _∙_}
+use mathlib.Core.Path.{_≡_, sym, _∙_}
 use mathlib.Core.Bool.{true, false}
 use mathlib.Core.List.{List, [], _∷_, map}
 use native.Mathlib.Omega.{arith}
@@ -17,10 +17,10 @@ use Rattle.answers.specs.Ascii.{ascii}
 use Rattle.field.specs.Bytes.{BelowPairs, none₂, more₂}
 use Rattle.field.proofs.RecordLaws.{pairs-lt}
 use Rattle.field.proofs.UnitLaws.{or-left, or-right}
-use Rattle.timetable.specs.Timetable.{stepLength, stepCount, wrongSteps, stepParts, partsOf, stepMoves, stepsOf, total}
+use Rattle.timetable.specs.Timetable.{stepLength, stepCount, stepParts, partsOf, stepMoves, stepsOf, moveTotal}
 use Rattle.timetable.specs.Timetable.{wrongTimetableLength}
-use Rattle.timetable.specs.Reading.{moveTotal}
-use Rattle.timetable.proofs.StepLaws.{stepLength-some, stepLength-moves, length-moves}
+use Rattle.timetable.specs.Reading.{wrongSteps, total}
+use Rattle.timetable.proofs.StepLaws.{stepLength-some, stepLength-moves, wrong-length, length-moves}
 use Rattle.timetable.proofs.ReadingLaws.{count-steps, total-moves}
 use Rattle.writers.proofs.DecimalLaws.{length-decimal}
 use Rattle.text.specs.Text.{moveText, movesText, stepLine, stepLines, firstLine, timetableText}
@@ -92,8 +92,9 @@ firstLine-short s m h k = simp (length-append) (omega (arith, length-decimal 4 s
 
 pub timetableText-short : (s : List ℕ) → wrongTimetableLength s ≡ false → length s < 100000
     → length (timetableText (stepsOf s)) ≤ 8 * length s
-unfolding wrongTimetableLength timetableText stepsOf partsOf
-timetableText-short s w h =
+unfolding timetableText stepsOf partsOf
+timetableText-short s e h =
+    let w = sym (wrong-length s) ∙ e in
     let long : 3 ≤ length s = ltb-false (length s) 3 (or-left _ _ w) in
     let right = or-right (ltb (length s) 3) _ w in
     let counts = counts-short (stepCount s) (drop 3 s) right in

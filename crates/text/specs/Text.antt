@@ -10,7 +10,7 @@ use Prim.Native.Nat.{ℕ, _+_}
 use mathlib.Core.List.{List, [], _∷_, _++_}
 use lib.ListN.{length}
 use Rattle.answers.specs.Ascii.{ascii}
-use Rattle.timetable.specs.Reading.{moveTotal}
+use Rattle.timetable.specs.Timetable.{moveTotal}
 use Rattle.writers.specs.Lines.{decimal}
 
 -- a move as `a>b`, from the position left to the position entered

@@ -13,9 +13,9 @@ use lib.ListN.{length, getD, drop}
 use lib.Seq.{drop-drop, getD-drop}
 use Rattle.field.specs.Bits.{field}
 use Rattle.recording.proofs.FrontLaws.{whole-as, whole-none}
-use Rattle.timetable.specs.Timetable.{stepLength, stepCount}
+use Rattle.timetable.specs.Timetable.{stepLength, stepCount, stepsLength, timetableLength}
 use Rattle.timetable.proofs.StepLaws.{stepLength-some}
-use Rattle.timetable.specs.RecordLength.{stepsLength, timetableLength, wholeTimetableLength}
+use Rattle.timetable.specs.RecordLength.{wholeTimetableLength}
 
 pub record Passing (s : List ℕ) (k i at : ℕ) : Type 0 where
   pub left : at + stepsLength (k - i) (drop at s) ≡ timetableLength s

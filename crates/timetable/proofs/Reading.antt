@@ -25,11 +25,11 @@ use Rattle.field.specs.Bits.{field, pad}
 use Rattle.field.proofs.BitLaws.{field-drop}
 use Rattle.field.proofs.RecordLaws.{rest-is, up-to-byte}
 use Rattle.order.specs.Floor.{some}
-use Rattle.timetable.specs.Timetable.{stepLength, wrongSteps, stepParts, stepPadSet, total, partsOf, stepCount, wrongTimetableLength}
+use Rattle.timetable.specs.Timetable.{stepLength, stepParts, stepPadSet, partsOf, stepCount, wrongTimetableLength}
 use Rattle.timetable.specs.Timetable.{timetablePaddingSet}
-use Rattle.timetable.specs.Reading.{stepsAnswer, readingAnswer}
+use Rattle.timetable.specs.Reading.{stepsAnswer, readingAnswer, wrongSteps, total}
 use Rattle.timetable.proofs.StepLaws.{partAt, nextAt, parts-next, parts-none, Room, wrong-past, wrong-short, wrong-next, wrong-left}
-use Rattle.timetable.proofs.StepLaws.{right-end, head-partAt, cut-is, cut-length}
+use Rattle.timetable.proofs.StepLaws.{right-end, wrong-length, head-partAt, cut-is, cut-length}
 
 module _ (p : List ℕ) (e : length p ≡ stepLength (getD p 0 0)) where
   pub pad-room : (c : ℕ) → c ≡ getD p 0 0 → 6 * (2 * c) + pad (6 * (2 * c)) ≤ 8 * length (take (length p - 1) (drop 1 p))
@@ -141,9 +141,9 @@ module _ (s : List ℕ) (k : ℕ) where
 reading-is : (s : List ℕ) → 3 ≤ length s
     → readingAnswer s
     ≡ passUp (stepsAnswer (stepCount s) (drop 3 s)) (refuse (not (eqb (field s 22 2) 0)) 41 0 (stepsAnswer (stepCount s) (drop 3 s)))
-unfolding readingAnswer stepsAnswer wrongTimetableLength timetablePaddingSet partsOf
+unfolding readingAnswer stepsAnswer timetablePaddingSet partsOf
 reading-is s h =
-    rw (le-ltb (length s) 3 h)
+    rw (wrong-length s, le-ltb (length s) 3 h)
     (chain (wrongSteps (stepCount s) (drop 3 s)) (not (eqb (field s 22 2) 0)) (some stepPadSet (stepParts (stepCount s) (drop 3 s))) _)
   where
     chain : (w x y : Bool) (v : List ℕ)
@@ -157,8 +157,8 @@ reading-is s h =
 
 module _ (s : List ℕ) where
   pub short : length s < 3 → refused 40 0 ≡ readingAnswer s
-  unfolding readingAnswer wrongTimetableLength
-  short h = simp (lt-ltb (length s) 3 h)
+  unfolding readingAnswer
+  short h = simp (wrong-length s, lt-ltb (length s) 3 h)
 
   module _ (h : 3 ≤ length s) (count : ℕ) (ec : count ≡ field s 0 22) (a : Answer) (ea : a ≡ stepsAnswer count (drop 3 s)) where
     steps-are : a ≡ stepsAnswer (stepCount s) (drop 3 s)

@@ -32,11 +32,11 @@ use Rattle.order.specs.Order.{orderAnswer, floorOf, startsOf, goalsOf}
 use Rattle.motion.specs.Replay.{replaySteps}
 use Rattle.motion.proofs.StepDecision.{legalStep?}
 use Rattle.motion.specs.Judgement.{judged}
-use Rattle.timetable.specs.Timetable.{wrongSteps, stepParts, partsOf, stepMoves, stepsOf, stepCount, total, wrongTimetableLength}
-use Rattle.timetable.specs.Timetable.{timetablePaddingSet, timetableAnswer, lengthOf, offset, stepPart, stepAnswer}
-use Rattle.timetable.specs.Reading.{readingAnswer, WellPacked, moveTotal, numberAnswer}
-use Rattle.timetable.proofs.StepLaws.{partAt, nextAt, parts-next, length-parts, Room, room, wrong-next, all-taken, length-partAt}
-use Rattle.timetable.proofs.StepLaws.{length-moves}
+use Rattle.timetable.specs.Timetable.{stepParts, partsOf, stepMoves, stepsOf, stepCount, wrongTimetableLength, moveTotal}
+use Rattle.timetable.specs.Timetable.{timetablePaddingSet, timetableAnswer, stepLength, stepsLength, offset, stepPart, stepAnswer}
+use Rattle.timetable.specs.Reading.{readingAnswer, WellPacked, numberAnswer, wrongSteps, total}
+use Rattle.timetable.proofs.StepLaws.{partAt, nextAt, parts-next, length-parts, Room, room, wrong-next, all-taken}
+use Rattle.timetable.proofs.StepLaws.{length-moves, wrong-length, steps-suc}
 
 pub reading-accepted : (s : List ℕ) → WellPacked s → readingAnswer s ≡ accepted (stepCount s ∷ total (partsOf s) ∷ [])
 unfolding readingAnswer
@@ -76,7 +76,8 @@ pub timetableAnswer-is : (o s : List ℕ)
     (judged 43 (goalsOf o) (stepCount s ∷ total (partsOf s) ∷ []) (replaySteps (legalStep? (floorOf o)) (startsOf o) (stepsOf s))))
 unfolding timetableAnswer readingAnswer
 timetableAnswer-is o s =
-    ap (passUp (orderAnswer o)) (chain (wrongTimetableLength s) (timetablePaddingSet s) (stepCount s ∷ total (partsOf s) ∷ []) _)
+    rw (total-moves s)
+    (ap (passUp (orderAnswer o)) (chain (wrongTimetableLength s) (timetablePaddingSet s) (stepCount s ∷ total (partsOf s) ∷ []) _))
   where
     chain : (a b : Bool) (v : List ℕ) (rest : Answer)
         → refuse a 40 0 (refuse b 41 0 rest) ≡ passUp (refuse a 40 0 (refuse b 41 0 (accepted v))) rest
@@ -97,16 +98,13 @@ stepAnswer-is s i =
     chain false false true v rest = refl
     chain false false false v rest = refl
 
--- the length of one part more
-lengthOf-suc : (i : ℕ) (l : List (List ℕ)) → lengthOf (suc i) l ≡ lengthOf i l + length (getD l i [])
-unfolding lengthOf
-lengthOf-suc zero [] = refl
-lengthOf-suc zero (p ∷ l) = omega arith
-lengthOf-suc (suc i) [] = refl
-lengthOf-suc (suc i) (p ∷ l) = rw (lengthOf-suc i l) (sym (add-assoc (length p) (lengthOf i l) (length (getD l i []))))
-
-lengthOf-next : (i : ℕ) (l : List (List ℕ)) → lengthOf (i + 1) l ≡ lengthOf i l + length (getD l i [])
-lengthOf-next i l = ap (λ (n : ℕ). lengthOf n l) (add-one i) ∙ lengthOf-suc i l
+-- where the step after the one that begins behind i steps begins
+next-is : (s : List ℕ) (i : ℕ) → nextAt s (3 + stepsLength i (drop 3 s)) ≡ 3 + stepsLength (i + 1) (drop 3 s)
+next-is s i =
+    let k = stepsLength i (drop 3 s) in
+    ap (λ (c : ℕ). 3 + k + stepLength c) (sym (getD-drop 3 s k 0))
+    ∙ add-assoc 3 k (stepLength (getD (drop 3 s) k 0))
+    ∙ ap (λ (n : ℕ). 3 + n) (sym (ap (λ (n : ℕ). stepsLength n (drop 3 s)) (add-one i) ∙ steps-suc i (drop 3 s)))
 
 drop-map : {X Y : Type 0} (f : X → Y) (i : ℕ) (l : List X) → drop i (map f l) ≡ map f (drop i l)
 drop-map f zero l = refl
@@ -114,19 +112,19 @@ drop-map f (suc i) [] = refl
 drop-map f (suc i) (x ∷ l) = drop-map f i l
 
 pub record Stands (s : List ℕ) (i at : ℕ) : Type 0 where
-  pub begins-at : at ≡ 3 + lengthOf i (partsOf s)
+  pub begins-at : at ≡ 3 + stepsLength i (drop 3 s)
   pub parts-left : drop i (partsOf s) ≡ stepParts (stepCount s - i) (drop at s)
   pub fits : wrongSteps (stepCount s - i) (drop at s) ≡ false
   pub within : at ≤ length s
 
 module _ (s : List ℕ) where
   pub stands-first : wrongTimetableLength s ≡ false → Stands s 0 3
-  unfolding partsOf wrongTimetableLength lengthOf
-  stands-first e = record {
+  unfolding partsOf stepsLength
+  stands-first e = let w = sym (wrong-length s) ∙ e in record {
     begins-at = refl;
     parts-left = rw (sub-zero (stepCount s)) refl;
-    fits = rw (sub-zero (stepCount s)) (or-right (ltb (length s) 3) _ e);
-    within = ltb-false (length s) 3 (or-left (ltb (length s) 3) _ e);
+    fits = rw (sub-zero (stepCount s)) (or-right (ltb (length s) 3) _ w);
+    within = ltb-false (length s) 3 (or-left (ltb (length s) 3) _ w);
   }
 
   module _ (i at : ℕ) (stands : Stands s i at) (h : i < stepCount s) where
@@ -156,8 +154,7 @@ module _ (s : List ℕ) where
 
     pub stands-next : Stands s (i + 1) (nextAt s at)
     stands-next = record {
-      begins-at =
-          omega (arith, stands .begins-at, lengthOf-next i (partsOf s), ap length part-stands, length-partAt s at stands-room);
+      begins-at = ap (nextAt s) (stands .begins-at) ∙ next-is s i;
       parts-left = left-after;
       fits = sym (wrong-next s at i (stepCount s) h stands-room) ∙ stands .fits;
       within = stands-room .ends;
@@ -167,12 +164,12 @@ module _ (s : List ℕ) where
   steps-none i h = drop-of-length-le (stepsOf s) {i = i} (omega (arith, count-steps s))
 
   module _ (e : wrongTimetableLength s ≡ false) where
-    pub stands-at : (i : ℕ) → i ≤ stepCount s → Stands s i (3 + lengthOf i (partsOf s))
-    unfolding lengthOf
+    pub stands-at : (i : ℕ) → i ≤ stepCount s → Stands s i (3 + stepsLength i (drop 3 s))
+    unfolding stepsLength
     stands-at zero h = stands-first e
     stands-at (suc i) h =
         let next = stands-next i _ (stands-at i (omega arith)) (omega arith) in
-        let moved : Stands s (i + 1) (3 + lengthOf (i + 1) (partsOf s)) = subst (Stands s (i + 1)) (next .begins-at) next in
+        let moved : Stands s (i + 1) (3 + stepsLength (i + 1) (drop 3 s)) = subst (Stands s (i + 1)) (next .begins-at) next in
         rw add-one at moved
 
     -- step i begins at its offset
@@ -193,7 +190,7 @@ module _ (s : List ℕ) where
       offset-next =
           let next = stands-next (i - 1) (offset s i) (stands-offset i (omega arith)) (omega arith) in
           let same : i - 1 + 1 ≡ i + 1 - 1 = omega arith in
-          ap (λ (n : ℕ). 3 + lengthOf n (partsOf s)) (sym same) ∙ sym (next .begins-at)
+          ap (λ (n : ℕ). 3 + stepsLength n (drop 3 s)) (sym same) ∙ sym (next .begins-at)
 
     pub offset-last : offset s (stepCount s + 1) ≡ length s
     offset-last =
@@ -201,5 +198,5 @@ module _ (s : List ℕ) where
         omega (arith, last .within, all-taken s (offset s (stepCount s + 1)) (stepCount s + 1 - 1) (stepCount s) (omega arith) (last .fits))
 
   pub offset-first : offset s 1 ≡ 3
-  unfolding offset lengthOf
+  unfolding offset stepsLength
   offset-first = refl

@@ -3,7 +3,7 @@
 --     timetable-length-found    that is the length of the front of s that 40 passes, and 0 exactly where 40 passes none
 -- Assumes nothing.
 use Prim.Native.Nat.{ℕ, zero, suc, _+_, _≤_}
-use mathlib.Core.Path.{_≡_, refl, sym}
+use mathlib.Core.Path.{_≡_, refl, sym, _∙_}
 use mathlib.Core.Bool.{false}
 use mathlib.Core.List.{List, [], _∷_, _++_}
 use native.Mathlib.Omega.{arith}
@@ -13,9 +13,10 @@ use lib.Seq.{drop-append-le}
 use lib.Dec.{ltb}
 use Rattle.recording.proofs.FrontLaws.{field-front, LengthFound, length-found}
 use Rattle.field.proofs.UnitLaws.{or-left, or-right}
-use Rattle.timetable.specs.Timetable.{stepLength, stepCount, wrongSteps, wrongTimetableLength}
-use Rattle.timetable.proofs.StepLaws.{stepLength-some}
-use Rattle.timetable.specs.RecordLength.{stepsLength, timetableLength, wholeTimetableLength}
+use Rattle.timetable.specs.Reading.{wrongSteps}
+use Rattle.timetable.specs.Timetable.{stepLength, stepCount, wrongTimetableLength, stepsLength, timetableLength}
+use Rattle.timetable.proofs.StepLaws.{stepLength-some, wrong-length}
+use Rattle.timetable.specs.RecordLength.{wholeTimetableLength}
 
 right-steps : (k : ℕ) (r rest : List ℕ) → wrongSteps k r ≡ false → stepsLength k (r ++ rest) ≡ length r
 unfolding wrongSteps stepsLength
@@ -52,17 +53,17 @@ unfolding timetableLength
 head-within s = omega arith
 
 right-size : (r rest : List ℕ) → wrongTimetableLength r ≡ false → timetableLength (r ++ rest) ≡ length r
-unfolding wrongTimetableLength
-right-size r rest w =
+right-size r rest e =
+    let w = sym (wrong-length r) ∙ e in
     let long : 3 ≤ length r = ltb-false (length r) 3 (or-left _ _ w) in
     let steps = right-steps (stepCount r) (drop 3 r) rest (or-right (ltb (length r) 3) _ w) in
     omega (arith, steps-front r rest long, steps, length-drop 3 r)
 
 size-right : (r rest : List ℕ) → timetableLength (r ++ rest) ≡ length r → wrongTimetableLength r ≡ false
-unfolding wrongTimetableLength
 size-right r rest e =
     let long : 3 ≤ length r = omega (arith, head-within (r ++ rest)) in
-    simp (le-ltb (length r) 3 long)
+    wrong-length r
+    ∙ simp (le-ltb (length r) 3 long)
     (steps-right (stepCount r) (drop 3 r) rest (omega (arith, steps-front r rest long, length-drop 3 r)))
 
 pub timetable-length-found : (s : List ℕ) → LengthFound (λ (r : List ℕ). wrongTimetableLength r ≡ false) s (wholeTimetableLength s)

@@ -9,6 +9,8 @@
 --     Room s at            the step that begins at byte `at` does not run past the end
 --     wrong-past, wrong-short, wrong-next, wrong-left, right-end    40, step by step: from the facts
 --     room, all-taken      and the facts from 40
+--     wrong-length         40 of a timetable, by 40 of its steps
+--     steps-suc            the length of one step more
 --     length-partAt, head-partAt    a step's length and its count byte
 --     cut-is, cut-length            the step as the part `&s[at..next]` that a loop cuts out
 --     length-moves                  it has as many moves as its count byte says
@@ -16,19 +18,20 @@
 -- Assumes nothing.
 use Prim.Native.Nat.{ℕ, zero, suc, _+_, _-_, _*_, _≤_, _<_}
 use mathlib.Core.Path.{_≡_, refl, sym, ap, _∙_}
-use mathlib.Core.Bool.{true, false, _||_}
+use mathlib.Core.Bool.{true, false, not, _||_}
 use mathlib.Core.List.{List, [], _∷_}
 use native.Mathlib.Omega.{arith}
-use native.Mathlib.Nat.{add-zero, lt-of-not-le}
-use native.Mathlib.Decide.{decLe}
+use native.Mathlib.Nat.{add-zero, add-assoc, lt-of-not-le}
+use native.Mathlib.Decide.{ℕ-discrete, decLe}
 use borrow.Author.Tests.{lt-ltb, le-ltb, eq-eqb, ne-eqb, ltb-false}
 use lib.ListN.{length, getD, take, drop, length-drop, drop-of-length-le}
 use lib.Seq.{drop-drop, drop-cons, getD-drop, getD-take, length-take-le}
-use lib.Dec.{ltb}
+use lib.Dec.{ltb, eqb}
 use Rattle.field.specs.Bits.{pairs}
 use Rattle.field.proofs.RecordLaws.{rest-is, length-pairs, pairs-drop}
 use Rattle.field.proofs.UnitLaws.{or-left}
-use Rattle.timetable.specs.Timetable.{stepLength, wrongSteps, stepParts, stepMoves}
+use Rattle.timetable.specs.Reading.{wrongSteps}
+use Rattle.timetable.specs.Timetable.{stepLength, stepsLength, timetableLength, stepParts, stepMoves, stepCount, wrongTimetableLength}
 
 abbrev pub partAt : List ℕ → ℕ → List ℕ
 partAt s at = take (stepLength (getD s at 0)) (drop at s)
@@ -133,6 +136,58 @@ module _ (s : List ℕ) (at i k : ℕ) (h : k ≤ i) where
     | yes p ↦ p
     | no p ↦ absurd (true-not-false (sym e ∙ wrong-left (lt-of-not-le p)))
   ]
+
+-- a length past n bytes, and what is behind them
+eqb-past : (n l x : ℕ) → n ≤ l → eqb (l - n) x ≡ eqb l (n + x)
+eqb-past n l x h = elim (ℕ-discrete l (n + x)) [
+  | yes e ↦ eq-eqb (l - n) x (omega arith) ∙ sym (eq-eqb l (n + x) e)
+  | no d ↦ ne-eqb (l - n) x (λ e. d (omega arith)) ∙ sym (ne-eqb l (n + x) d)
+]
+
+past-end : (n l x : ℕ) → l < n → not (eqb l (n + x)) ≡ true
+past-end n l x h = rw (ne-eqb l (n + x) (λ e. omega arith)) refl
+
+wrong-total : (k : ℕ) (t : List ℕ) → not (eqb (length t) (stepsLength k t)) ≡ wrongSteps k t
+unfolding wrongSteps stepsLength
+wrong-total zero t = refl
+wrong-total (suc k) [] = past-end (stepLength 0) 0 (stepsLength k (drop (stepLength 0) [])) (stepLength-some 0)
+wrong-total (suc k) (c ∷ t) = elim (decLe (stepLength c) (length (c ∷ t))) [
+  | yes fits ↦
+      let n = stepLength c in
+      let rest = drop n (c ∷ t) in
+      ap not (sym (eqb-past n (length (c ∷ t)) (stepsLength k rest) fits))
+      ∙ ap (λ (l : ℕ). not (eqb l (stepsLength k rest))) (sym (length-drop n (c ∷ t)))
+      ∙ wrong-total k rest
+      ∙ sym (rw (le-ltb (length (c ∷ t)) n fits) refl)
+  | no past ↦
+      let n = stepLength c in
+      let short : length (c ∷ t) < n = lt-of-not-le past in
+      past-end n (length (c ∷ t)) (stepsLength k (drop n (c ∷ t))) short ∙ sym (rw (lt-ltb (length (c ∷ t)) n short) refl)
+]
+
+pub wrong-length : (s : List ℕ) → wrongTimetableLength s ≡ (ltb (length s) 3 || wrongSteps (stepCount s) (drop 3 s))
+unfolding wrongTimetableLength timetableLength
+wrong-length s = elim (decLe 3 (length s)) [
+  | yes long ↦
+      let x = stepsLength (stepCount s) (drop 3 s) in
+      ap not (sym (eqb-past 3 (length s) x long))
+      ∙ ap (λ (l : ℕ). not (eqb l x)) (sym (length-drop 3 s))
+      ∙ wrong-total (stepCount s) (drop 3 s)
+      ∙ sym (rw (le-ltb (length s) 3 long) refl)
+  | no short ↦
+      let h : length s < 3 = lt-of-not-le short in
+      past-end 3 (length s) (stepsLength (stepCount s) (drop 3 s)) h ∙ sym (rw (lt-ltb (length s) 3 h) refl)
+]
+
+pub steps-suc : (i : ℕ) (t : List ℕ) → stepsLength (suc i) t ≡ stepsLength i t + stepLength (getD t (stepsLength i t) 0)
+unfolding stepsLength
+steps-suc zero t = omega arith
+steps-suc (suc i) t =
+    let n = stepLength (getD t 0 0) in
+    let rest = drop n t in
+    ap (λ (m : ℕ). n + m) (steps-suc i rest)
+    ∙ ap (λ (c : ℕ). n + (stepsLength i rest + stepLength c)) (getD-drop n t (stepsLength i rest) 0)
+    ∙ sym (add-assoc n (stepsLength i rest) (stepLength (getD t (n + stepsLength i rest) 0)))
 
 -- the part that begins at byte `at`
 module _ (s : List ℕ) (at : ℕ) (r : Room s at) where

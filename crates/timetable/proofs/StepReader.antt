@@ -15,7 +15,7 @@ use lib.ListN.{length, getD, take, drop}
 use lib.Dec.{ltb, eqb}
 use Rattle.answers.specs.Answer.{Answer, accepted, refused, refuse, passUp}
 use Rattle.answers.proofs.AnswerLaws.{passUp-accepted}
-use Rattle.timetable.specs.Timetable.{stepLength, stepCount, partsOf, lengthOf, offset, stepPart, stepAnswer}
+use Rattle.timetable.specs.Timetable.{stepLength, stepCount, stepsLength, offset, stepPart, stepAnswer}
 use Rattle.timetable.specs.Reading.{readingAnswer, numberAnswer, partGiven}
 use Rattle.timetable.proofs.StepLaws.{length-partAt}
 use Rattle.timetable.proofs.ReadingLaws.{reading-gave, stepAnswer-is, Stands, stands-next, stands-room, step-room, stepPart-is}
@@ -51,7 +51,7 @@ pub stands-there : (s : List ℕ) (k i at : ℕ) → 1 ≤ i → i ≤ k → k �
 unfolding offset
 stands-there s k i at low high within up stands =
     let same : i ≡ k = omega arith in
-    (stands .begins-at ∙ ap (λ (n : ℕ). 3 + lengthOf (n - 1) (partsOf s)) same, stands-room s (i - 1) at stands (omega arith) .begins)
+    (stands .begins-at ∙ ap (λ (n : ℕ). 3 + stepsLength (n - 1) (drop 3 s)) same, stands-room s (i - 1) at stands (omega arith) .begins)
 
 module _ (s : List ℕ) (i : ℕ) where
   pub not-found : (a : Answer) (n p : ℕ) → a ≡ numberAnswer s i → a ≡ refused n p → refused n p ≡ stepAnswer s i

@@ -30,10 +30,10 @@ use Rattle.field.proofs.RecordLaws.{toBytes-are, toBytes-from, pairs-lt}
 use Rattle.field.proofs.UnitLaws.{or-left, or-right}
 use Rattle.field.proofs.WholeBytes.{bitsOf-append, padded-whole, toBytes-whole, length-whole, toBytes-append}
 use Rattle.order.specs.Floor.{some}
-use Rattle.timetable.specs.Timetable.{allStepBits, timetableBits, timetableRecord, stepLength, stepCount, wrongSteps, stepParts}
+use Rattle.timetable.specs.Timetable.{allStepBits, timetableBits, timetableRecord, stepLength, stepCount, stepParts}
 use Rattle.timetable.specs.Timetable.{partsOf, wrongTimetableLength, stepPadSet, timetablePaddingSet, stepMoves, stepsOf}
-use Rattle.timetable.specs.Reading.{WellPacked}
-use Rattle.timetable.proofs.StepLaws.{stepLength-some, length-moves}
+use Rattle.timetable.specs.Reading.{WellPacked, wrongSteps}
+use Rattle.timetable.proofs.StepLaws.{stepLength-some, wrong-length, length-moves}
 use Rattle.timetable.proofs.ReadingLaws.{count-steps}
 use Rattle.timetable.proofs.StepRecord.{stepRecord, joined, Part, stepBits-are, length-stepBits, part-of-record, moves-of}
 use Rattle.timetable.proofs.StepRecord.{record-of-part, count-below}
@@ -169,9 +169,11 @@ module _ (l : List (List (ℕ × ℕ))) where
     stepsOf-record = ap (map stepMoves) parts-record ∙ moves-back (packable .steps-fit)
 
     pub record-well-packed : WellPacked (timetableRecord l)
-    unfolding wrongTimetableLength timetablePaddingSet
+    unfolding timetablePaddingSet
     record-well-packed = record {
-      length-right = rw (le-ltb (length (timetableRecord l)) 3 record-long, same-count, record-rest) (right-of are);
+      length-right =
+          wrong-length (timetableRecord l)
+          ∙ rw (le-ltb (length (timetableRecord l)) 3 record-long, same-count, record-rest) (right-of are);
       padding-clear = rw (spare-record, parts-record) (clear-of are);
     }
 
@@ -210,13 +212,12 @@ moves-fit (one-part {p = p} part rest) =
 
 module _ {s : List ℕ} (b : Bytes s) (w : WellPacked s) where
   long : 3 ≤ length s
-  unfolding wrongTimetableLength
-  long = ltb-false (length s) 3 (or-left _ _ (w .length-right))
+  long = ltb-false (length s) 3 (or-left _ _ (sym (wrong-length s) ∙ w .length-right))
 
   rest-right : Parts (partsOf s) × (joined (partsOf s) ≡ drop 3 s)
-  unfolding partsOf wrongTimetableLength timetablePaddingSet
+  unfolding partsOf timetablePaddingSet
   rest-right =
-      parts-right (stepCount s) (drop 3 s) (below-drop 3 b) (or-right (ltb (length s) 3) _ (w .length-right))
+      parts-right (stepCount s) (drop 3 s) (below-drop 3 b) (or-right (ltb (length s) 3) _ (sym (wrong-length s) ∙ w .length-right))
       (or-right (not (eqb (field s 22 2) 0)) _ (w .padding-clear))
 
   spare-zero : field s 22 2 ≡ 0

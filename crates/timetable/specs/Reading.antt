@@ -2,10 +2,11 @@
 -- checker and the step reader share, and the step that is handed out.
 --
 --     StepSize c n           n is the length in bytes of a step of c moves, which a count byte keeps below 385
+--     wrongSteps k t         t is not k steps one after another: one runs past the end, or bytes are left over
+--     total l                the sum of the count bytes of the parts l
 --     stepsAnswer k t        40 and 41 of the k steps of t alone
 --     readingAnswer s        40 and 41 of the timetable s; accepted, the counts are s and the sum of the bytes c
 --     WellPacked s           neither 40 nor 41 applies to s
---     moveTotal l            the moves of the steps l, in all
 --     numberAnswer s i       what the reading refused, else 45
 --     givenBy a p            the part p where the answer a is accepted, else the empty part
 --     beginsAt a             where the part of an accepted answer a begins, in bytes from the timetable's first; else 0
@@ -13,15 +14,15 @@
 --     placeGiven p s i       and where it stands in memory, where s stands at p: a place is a block and an offset in it, in bytes
 --     answerOfStep r         the step reader's verdict r as an answer
 -- Assumes nothing.
-use Prim.Native.Nat.{ℕ, _+_, _≤_}
+use Prim.Native.Nat.{ℕ, zero, suc, _+_, _≤_}
 use mathlib.Core.Path.{_≡_}
-use mathlib.Core.Bool.{false, _||_}
+use mathlib.Core.Bool.{Bool, true, false, not, _||_}
 use mathlib.Core.List.{List, [], _∷_}
-use lib.ListN.{length}
+use lib.ListN.{length, getD, drop}
 use lib.Dec.{ltb, eqb}
 use Rattle.answers.specs.Answer.{Answer, accepted, refused, refuse, refusedBy, passUp}
 use Rattle.order.specs.Floor.{some}
-use Rattle.timetable.specs.Timetable.{stepLength, wrongSteps, stepParts, stepPadSet, total, partsOf, stepCount, wrongTimetableLength}
+use Rattle.timetable.specs.Timetable.{stepLength, stepParts, stepPadSet, partsOf, stepCount, wrongTimetableLength}
 use Rattle.timetable.specs.Timetable.{timetablePaddingSet, stepAnswer, stepPart}
 use Rattle.timetable.specs.declared.StepVerdict.{StepVerdict}
 use Rattle.timetable.specs.declared.StepVerdict.the-variants.{Found, Refused}
@@ -31,6 +32,15 @@ pub record StepSize (c n : ℕ) : Type 0 where
   pub some-bytes : 1 ≤ n
   pub moves-within : c ≤ n
   pub few-bytes : n ≤ 384
+
+unfoldable pub wrongSteps : ℕ → List ℕ → Bool
+wrongSteps zero t = not (eqb (length t) 0)
+wrongSteps (suc k) [] = true
+wrongSteps (suc k) (c ∷ t) = ltb (length (c ∷ t)) (stepLength c) || wrongSteps k (drop (stepLength c) (c ∷ t))
+
+unfoldable pub total : List (List ℕ) → ℕ
+total [] = 0
+total (part ∷ l) = getD part 0 0 + total l
 
 unfoldable pub stepsAnswer : ℕ → List ℕ → Answer
 stepsAnswer k t =
@@ -43,10 +53,6 @@ readingAnswer s =
 pub record WellPacked (s : List ℕ) : Type 0 where
   pub length-right : wrongTimetableLength s ≡ false
   pub padding-clear : timetablePaddingSet s ≡ false
-
-unfoldable pub moveTotal : List (List (ℕ × ℕ)) → ℕ
-moveTotal [] = 0
-moveTotal (ms ∷ l) = length ms + moveTotal l
 
 unfoldable pub numberAnswer : List ℕ → ℕ → Answer
 numberAnswer s i = passUp (readingAnswer s) (refuse (eqb i 0 || ltb (stepCount s) i) 45 0 (readingAnswer s))

@@ -7,16 +7,16 @@
 --     timetableRecord l       the record of the steps l, as a byte string
 --     stepLength c            the length in bytes of a step of c moves
 --     stepCount s             s, the step count of the byte string s
---     wrongSteps k t          t is not k steps one after another: one runs past the end, or bytes are left over
+--     stepsLength k t         the length in bytes of the k steps that t begins with, by their count bytes alone
+--     timetableLength s       the length of the timetable that s begins with, by its step count and its count bytes alone
 --     stepParts k t           the k steps of t, each as the part of t that it is
 --     partsOf s, stepsOf s    the steps of a timetable, as parts and as lists of moves
 --     stepMoves p             the moves of the step that the part p is
 --     wrongTimetableLength s  40 applies to s
 --     stepPadSet p            a pad bit of the step p is set
 --     timetablePaddingSet s   41 applies to s
---     total l                 the sum of the count bytes of the parts l
+--     moveTotal l             the moves of the steps l, in all
 --     timetableAnswer o s     the timetable checker's answer for the order o and the timetable s
---     lengthOf i l            the length in bytes of the first i of the parts l
 --     offset s i              where step i begins, in bytes
 --     stepPart s i            the part of s that is step i
 --     stepAnswer s i          the step reader's answer for step i of s
@@ -55,10 +55,13 @@ stepLength c = 1 + (12 * c + 7) / 8
 unfoldable pub stepCount : List ℕ → ℕ
 stepCount s = field s 0 22
 
-unfoldable pub wrongSteps : ℕ → List ℕ → Bool
-wrongSteps zero t = not (eqb (length t) 0)
-wrongSteps (suc k) [] = true
-wrongSteps (suc k) (c ∷ t) = ltb (length (c ∷ t)) (stepLength c) || wrongSteps k (drop (stepLength c) (c ∷ t))
+-- Past the end of t a count byte is 0, and such a step one byte: the sum is then more than t has.
+unfoldable pub stepsLength : ℕ → List ℕ → ℕ
+stepsLength zero t = 0
+stepsLength (suc k) t = stepLength (getD t 0 0) + stepsLength k (drop (stepLength (getD t 0 0)) t)
+
+unfoldable pub timetableLength : List ℕ → ℕ
+timetableLength s = 3 + stepsLength (stepCount s) (drop 3 s)
 
 unfoldable pub stepParts : ℕ → List ℕ → List (List ℕ)
 stepParts zero t = []
@@ -67,9 +70,10 @@ stepParts (suc k) t = take (stepLength (getD t 0 0)) t ∷ stepParts k (drop (st
 unfoldable pub partsOf : List ℕ → List (List ℕ)
 partsOf s = stepParts (stepCount s) (drop 3 s)
 
--- 40: "timetable under 3 bytes, a step running past its end, or bytes left over"
+-- 40: "timetable under 3 bytes, a step running past its end, or bytes left over": it has fewer bytes than its counts say in the first two
+-- cases, more in the last
 unfoldable pub wrongTimetableLength : List ℕ → Bool
-wrongTimetableLength s = ltb (length s) 3 || wrongSteps (stepCount s) (drop 3 s)
+wrongTimetableLength s = not (eqb (length s) (timetableLength s))
 
 -- a pad bit of a step is set
 unfoldable pub stepPadSet : List ℕ → Bool
@@ -85,10 +89,10 @@ stepMoves part = pairs part 8 (getD part 0 0)
 unfoldable pub stepsOf : List ℕ → List (List (ℕ × ℕ))
 stepsOf s = map stepMoves (partsOf s)
 
--- "the sum of its bytes c"
-unfoldable pub total : List (List ℕ) → ℕ
-total [] = 0
-total (part ∷ l) = getD part 0 0 + total l
+-- "the sum of its bytes c": each step has as many moves as its count byte says
+unfoldable pub moveTotal : List (List (ℕ × ℕ)) → ℕ
+moveTotal [] = 0
+moveTotal (ms ∷ l) = length ms + moveTotal l
 
 -- the fault of the first step that is not legal, with the step's number; 43, rack: "after the timetable this rack, the lowest such, is not
 -- at its goal". Accepted, the counts are s and the sum of the bytes c.
@@ -97,17 +101,11 @@ timetableAnswer o s =
     passUp (orderAnswer o)
     (refuse (wrongTimetableLength s) 40 0
     (refuse (timetablePaddingSet s) 41 0
-    (judged 43 (goalsOf o) (stepCount s ∷ total (partsOf s) ∷ []) (replaySteps (legalStep? (floorOf o)) (startsOf o) (stepsOf s)))))
-
--- the length in bytes of the first i parts
-unfoldable pub lengthOf : ℕ → List (List ℕ) → ℕ
-lengthOf zero l = 0
-lengthOf (suc i) [] = 0
-lengthOf (suc i) (part ∷ l) = length part + lengthOf i l
+    (judged 43 (goalsOf o) (stepCount s ∷ moveTotal (stepsOf s) ∷ []) (replaySteps (legalStep? (floorOf o)) (startsOf o) (stepsOf s)))))
 
 -- "the first byte by its offset in the timetable"
 unfoldable pub offset : List ℕ → ℕ → ℕ
-offset s i = 3 + lengthOf (i - 1) (partsOf s)
+offset s i = 3 + stepsLength (i - 1) (drop 3 s)
 
 -- "Reading one step gives back that part of the lent timetable itself, its count byte first and its pad last."
 unfoldable pub stepPart : List ℕ → ℕ → List ℕ

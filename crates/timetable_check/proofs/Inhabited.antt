@@ -45,18 +45,18 @@ use Rattle.order.specs.Order.{counts, orderAnswer, WellFormed, orderBits, order
 use Rattle.motion.specs.Arrangement.{occupied, vacant}
 use Rattle.motion.specs.Move.{onFloor, goesTo, after}
 use Rattle.motion.specs.Step.{every, ascends, leaves, enters, enteredOnce, led, legalStep}
-use Rattle.motion.specs.Replay.{replayFrom, unlessLegal, stepFault, replaySteps, trace}
+use Rattle.motion.specs.Replay.{replayFrom, stepFault, replaySteps, trace}
 use Rattle.motion.proofs.StepDecision.{by-test, legalStep?}
 use Rattle.motion.proofs.StepCases.{lane, train}
 use Rattle.motion.specs.Judgement.{misplaced, judged}
 use Rattle.motion.specs.StepOf.{moved, insert, sort, stepOf}
-use Rattle.motion.specs.StepSolutions.{stepsThrough, stepsBetween}
-use Rattle.timetable.specs.Timetable.{stepBits, allStepBits, timetableBits, timetableRecord, stepLength, stepCount, wrongSteps}
+use Rattle.motion.specs.StepSolutions.{stepsBetween}
+use Rattle.timetable.specs.Timetable.{stepBits, allStepBits, timetableBits, timetableRecord, stepLength, stepCount, moveTotal}
 use Rattle.timetable.specs.Timetable.{stepParts, partsOf, wrongTimetableLength, stepPadSet, timetablePaddingSet, stepMoves, stepsOf}
-use Rattle.timetable.specs.Timetable.{total, timetableAnswer, lengthOf, offset, stepPart, stepAnswer}
-use Rattle.timetable.specs.Reading.{readingAnswer, WellPacked, moveTotal, partGiven, placeGiven}
+use Rattle.timetable.specs.Timetable.{timetableAnswer, stepsLength, offset, stepPart, stepAnswer, timetableLength}
+use Rattle.timetable.specs.Reading.{readingAnswer, WellPacked, partGiven, placeGiven, total}
 use Rattle.timetable.proofs.ReadingLaws.{Stands, stands-at}
-use Rattle.timetable.specs.RecordLength.{stepsLength, timetableLength, wholeTimetableLength}
+use Rattle.timetable.specs.RecordLength.{wholeTimetableLength}
 use Rattle.timetable.proofs.RecordLengthLaws.{timetable-length-found}
 use Rattle.timetable_check.specs.ByteString.{ByteString}
 use Rattle.timetable.proofs.StepRecord.{Part}
@@ -97,8 +97,8 @@ packable₁ = record {
 }
 
 pub packed₁ : WellPacked timetable₁
-unfolding wrongTimetableLength timetablePaddingSet wrongSteps some stepPadSet pad partsOf stepParts stepLength stepCount field number
-    bitsOf bits
+unfolding wrongTimetableLength timetablePaddingSet timetableLength stepsLength some stepPadSet pad partsOf stepParts stepLength stepCount
+    field number bitsOf bits
 packed₁ = record { length-right = refl; padding-clear = refl }
 
 pub length₁ : (rest : List ℕ) → wholeTimetableLength (timetable₁ ++ rest) ≡ 11
@@ -113,7 +113,7 @@ pub string₁ : ByteString timetable₁
 string₁ = below-each (lit< tt) bytes₁
 
 pub second-stands : Stands timetable₁ 1 7
-unfolding lengthOf partsOf stepParts stepLength stepCount field number bitsOf bits
+unfolding stepsLength partsOf stepParts stepLength stepCount field number bitsOf bits
 second-stands = stands-at timetable₁ (packed₁ .length-right) 1 (lit≤ tt)
 
 pub second-part : Part (0x02 ∷ 0x04 ∷ 0x30 ∷ 0x80 ∷ [])
@@ -125,38 +125,38 @@ second-part = record {
 }
 
 pub reading₁ : readingAnswer timetable₁ ≡ accepted (2 ∷ 4 ∷ [])
-unfolding readingAnswer total wrongTimetableLength timetablePaddingSet wrongSteps some stepPadSet pad partsOf stepParts stepLength
-    stepCount field number bitsOf bits
+unfolding readingAnswer total wrongTimetableLength timetablePaddingSet timetableLength stepsLength some stepPadSet pad partsOf stepParts
+    stepLength stepCount field number bitsOf bits
 reading₁ = refl
 
 pub step-zero : stepAnswer timetable₁ 0 ≡ refused 45 0
-unfolding stepAnswer wrongTimetableLength timetablePaddingSet wrongSteps some stepPadSet pad partsOf stepParts stepLength stepCount
-    field number bitsOf bits
+unfolding stepAnswer wrongTimetableLength timetablePaddingSet timetableLength stepsLength some stepPadSet pad partsOf stepParts stepLength
+    stepCount field number bitsOf bits
 step-zero = refl
 
 pub step-one : stepAnswer timetable₁ 1 ≡ accepted (3 ∷ 4 ∷ [])
-unfolding stepAnswer offset lengthOf stepPart wrongTimetableLength timetablePaddingSet wrongSteps some stepPadSet pad partsOf stepParts
-    stepLength stepCount field number bitsOf bits
+unfolding stepAnswer offset stepPart wrongTimetableLength timetablePaddingSet timetableLength stepsLength some stepPadSet pad partsOf
+    stepParts stepLength stepCount field number bitsOf bits
 step-one = refl
 
 pub step-two : stepAnswer timetable₁ 2 ≡ accepted (7 ∷ 4 ∷ [])
-unfolding stepAnswer offset lengthOf stepPart wrongTimetableLength timetablePaddingSet wrongSteps some stepPadSet pad partsOf stepParts
-    stepLength stepCount field number bitsOf bits
+unfolding stepAnswer offset stepPart wrongTimetableLength timetablePaddingSet timetableLength stepsLength some stepPadSet pad partsOf
+    stepParts stepLength stepCount field number bitsOf bits
 step-two = refl
 
 pub step-three : stepAnswer timetable₁ 3 ≡ refused 45 0
-unfolding stepAnswer wrongTimetableLength timetablePaddingSet wrongSteps some stepPadSet pad partsOf stepParts stepLength stepCount
-    field number bitsOf bits
+unfolding stepAnswer wrongTimetableLength timetablePaddingSet timetableLength stepsLength some stepPadSet pad partsOf stepParts stepLength
+    stepCount field number bitsOf bits
 step-three = refl
 
 pub second-given : partGiven timetable₁ 2 ≡ 0x02 ∷ 0x04 ∷ 0x30 ∷ 0x80 ∷ []
-unfolding partGiven stepAnswer offset lengthOf stepPart wrongTimetableLength timetablePaddingSet wrongSteps some stepPadSet pad partsOf
-    stepParts stepLength stepCount field number bitsOf bits
+unfolding partGiven stepAnswer offset stepPart wrongTimetableLength timetablePaddingSet timetableLength stepsLength some stepPadSet pad
+    partsOf stepParts stepLength stepCount field number bitsOf bits
 second-given = refl
 
 pub none-given : partGiven timetable₁ 3 ≡ []
-unfolding partGiven stepAnswer wrongTimetableLength timetablePaddingSet wrongSteps some stepPadSet pad partsOf stepParts stepLength
-    stepCount field number bitsOf bits
+unfolding partGiven stepAnswer wrongTimetableLength timetablePaddingSet timetableLength stepsLength some stepPadSet pad partsOf stepParts
+    stepLength stepCount field number bitsOf bits
 none-given = refl
 
 -- two steps without moves
@@ -164,38 +164,38 @@ abbrev pub alike : List ℕ
 alike = 0x00 ∷ 0x00 ∷ 0x08 ∷ 0x00 ∷ 0x00 ∷ []
 
 pub alike-bytes : partGiven alike 1 ≡ partGiven alike 2
-unfolding partGiven stepAnswer offset lengthOf stepPart wrongTimetableLength timetablePaddingSet wrongSteps some stepPadSet pad partsOf
-    stepParts stepLength stepCount field number bitsOf bits
+unfolding partGiven stepAnswer offset stepPart wrongTimetableLength timetablePaddingSet timetableLength stepsLength some stepPadSet pad
+    partsOf stepParts stepLength stepCount field number bitsOf bits
 alike-bytes = refl
 
 pub first-place : (block : ℕ) → placeGiven (block, 100) alike 1 ≡ (block, 103)
-unfolding placeGiven stepAnswer offset lengthOf stepPart wrongTimetableLength timetablePaddingSet wrongSteps some stepPadSet pad partsOf
-    stepParts stepLength stepCount field number bitsOf bits
+unfolding placeGiven stepAnswer offset stepPart wrongTimetableLength timetablePaddingSet timetableLength stepsLength some stepPadSet pad
+    partsOf stepParts stepLength stepCount field number bitsOf bits
 first-place block = refl
 
 pub second-place : (block : ℕ) → placeGiven (block, 100) alike 2 ≡ (block, 104)
-unfolding placeGiven stepAnswer offset lengthOf stepPart wrongTimetableLength timetablePaddingSet wrongSteps some stepPadSet pad partsOf
-    stepParts stepLength stepCount field number bitsOf bits
+unfolding placeGiven stepAnswer offset stepPart wrongTimetableLength timetablePaddingSet timetableLength stepsLength some stepPadSet pad
+    partsOf stepParts stepLength stepCount field number bitsOf bits
 second-place block = refl
 
 -- 40, by a byte too few and by a byte too many: the last step runs past the end, a byte is left over
 pub cut-short : readingAnswer (0x00 ∷ 0x00 ∷ 0x04 ∷ 0x02 ∷ 0x00 ∷ 0x10 ∷ []) ≡ refused 40 0
-unfolding readingAnswer wrongTimetableLength wrongSteps stepLength stepCount field number bitsOf bits
+unfolding readingAnswer wrongTimetableLength timetableLength stepsLength stepLength stepCount field number bitsOf bits
 cut-short = refl
 
 pub left-over : readingAnswer (0x00 ∷ 0x00 ∷ 0x04 ∷ 0x02 ∷ 0x00 ∷ 0x10 ∷ 0xC2 ∷ 0x00 ∷ []) ≡ refused 40 0
-unfolding readingAnswer wrongTimetableLength wrongSteps stepLength stepCount field number bitsOf bits
+unfolding readingAnswer wrongTimetableLength timetableLength stepsLength stepLength stepCount field number bitsOf bits
 left-over = refl
 
 -- 41, by a spare bit of the head and by a pad bit of a step of one move
 pub spare-bit : readingAnswer (0x00 ∷ 0x00 ∷ 0x05 ∷ 0x00 ∷ []) ≡ refused 41 0
-unfolding readingAnswer wrongTimetableLength timetablePaddingSet wrongSteps some stepPadSet pad partsOf stepParts stepLength stepCount
-    field number bitsOf bits
+unfolding readingAnswer wrongTimetableLength timetablePaddingSet timetableLength stepsLength some stepPadSet pad partsOf stepParts
+    stepLength stepCount field number bitsOf bits
 spare-bit = refl
 
 pub pad-bit : readingAnswer (0x00 ∷ 0x00 ∷ 0x04 ∷ 0x01 ∷ 0x00 ∷ 0x11 ∷ []) ≡ refused 41 0
-unfolding readingAnswer wrongTimetableLength timetablePaddingSet wrongSteps some stepPadSet pad partsOf stepParts stepLength stepCount
-    field number bitsOf bits
+unfolding readingAnswer wrongTimetableLength timetablePaddingSet timetableLength stepsLength some stepPadSet pad partsOf stepParts
+    stepLength stepCount field number bitsOf bits
 pad-bit = refl
 
 -- the order of document 01, "Programs": on F, racks at 0 and 3 with goals 3 and 0
@@ -217,11 +217,11 @@ abbrev pub swapTimetable : List ℕ
 swapTimetable = 0x00 ∷ 0x00 ∷ 0x04 ∷ 0x02 ∷ 0x00 ∷ 0x10 ∷ 0x40 ∷ []
 
 unfoldable pub timetable-open : List ℕ → List ℕ → Answer
-unfolding timetableAnswer judged misplaced replaySteps replayFrom stepFault unlessLegal legalStep? by-test legalStep every ascends
-    leaves enters enteredOnce led occupied vacant onFloor goesTo after joined some isPair orderAnswer counts wrongRacks wrongPlaces repeats
-    wrongEdges ascending precedes badEdge paddingSet wrongPositions wrongLength unitCount floorOf startsOf goalsOf orderOf positionCount
-    edgeCount rackCount padSet unclean misfits recordLength positions total stepsOf stepMoves pairs wrongTimetableLength timetablePaddingSet
-    wrongSteps stepPadSet pad partsOf stepParts stepLength stepCount field number bitsOf bits
+unfolding timetableAnswer judged misplaced replaySteps replayFrom stepFault legalStep? by-test legalStep every ascends leaves enters
+    enteredOnce led occupied vacant onFloor goesTo after joined some isPair orderAnswer counts wrongRacks wrongPlaces repeats wrongEdges
+    ascending precedes badEdge paddingSet wrongPositions wrongLength unitCount floorOf startsOf goalsOf orderOf positionCount edgeCount
+    rackCount padSet unclean misfits recordLength positions moveTotal stepsOf stepMoves pairs wrongTimetableLength timetablePaddingSet
+    timetableLength stepsLength stepPadSet pad partsOf stepParts stepLength stepCount field number bitsOf bits
 timetable-open o s = timetableAnswer o s
 
 pub answer₁ : timetableAnswer order₁ timetable₁ ≡ accepted (2 ∷ 4 ∷ [])
@@ -230,7 +230,7 @@ answer₁ = refl
 
 pub well-formed₁ : WellFormed order₁
 unfolding timetable-open
-well-formed₁ = record { length-right = refl; positions-right = refl; padding-clear = refl; edges-right = refl; racks-right = refl }
+well-formed₁ = refl
 
 pub replayed₁ : ReplayedTimetable order₁ timetable₁ (2 ∷ 4 ∷ [])
 replayed₁ = timetable-replayed order₁ .0 timetable₁ (2 ∷ 4 ∷ []) .0 answer₁
@@ -242,8 +242,8 @@ unfolding trace after goesTo startsOf edgeCount rackCount positions stepsOf step
 solution₁ = replayed₁ .solution
 
 pub accepted₁ : AcceptedTimetable order₁ timetable₁ (2 ∷ 4 ∷ [])
-unfolding stepsBetween stepsThrough stepOf sort insert moved moveTotal timetableRecord timetableBits allStepBits stepBits pairBits
-    padded pad toBytes bytes number bits
+unfolding stepsBetween stepOf sort insert moved moveTotal timetableRecord timetableBits allStepBits stepBits pairBits padded pad toBytes
+    bytes number bits
 accepted₁ =
     record {
       order-right = well-formed₁;
@@ -341,7 +341,7 @@ pub full-right : WellFormed fullOrder
 unfolding orderAnswer counts wrongRacks wrongPlaces repeats wrongEdges ascending precedes badEdge paddingSet wrongPositions wrongLength
     unitCount floorOf startsOf goalsOf orderOf positionCount edgeCount rackCount padSet unclean misfits recordLength positions pairs some
     pad field number bitsOf bits
-full-right = record { length-right = refl; positions-right = refl; padding-clear = refl; edges-right = refl; racks-right = refl }
+full-right = refl
 
 pub full-count : rackCount fullOrder ≡ floorOf fullOrder .positions
 unfolding floorOf positionCount rackCount field number bitsOf bits

@@ -22,8 +22,8 @@ use Rattle.tables.proofs.Layers.{all-accepted}
 use Rattle.tables.proofs.MovesOnLaws.{matrixOf, tableOf}
 use Rattle.tables.specs.Simulation.{Each}
 use Rattle.trains.proofs.StepsOnLaws.{each-map, steps-judged}
-use Rattle.timetable.specs.Timetable.{stepCount, partsOf, stepMoves, stepsOf, total, wrongTimetableLength, timetableAnswer}
-use Rattle.timetable.specs.Reading.{readingAnswer}
+use Rattle.timetable.specs.Timetable.{stepCount, partsOf, stepMoves, stepsOf, wrongTimetableLength, timetableAnswer}
+use Rattle.timetable.specs.Reading.{readingAnswer, total}
 use Rattle.timetable.proofs.ReadingLaws.{well-packed, reading-gave, timetableAnswer-is}
 use Rattle.timetable_check.specs.Judging.{tableAnswer}
 use Rattle.timetable_check.proofs.SizeLaws.{count-small}

@@ -14,8 +14,8 @@ use Rattle.motion.proofs.Lawful.{LeadsSteps, replaySteps-ended}
 use Rattle.motion.specs.StepSolutions.{stepsBetween}
 use Rattle.motion.proofs.StepSolutionsLaws.{solutions-iff}
 use Rattle.tables.proofs.AcceptedLaws.{well-placed}
-use Rattle.timetable.specs.Timetable.{stepCount, partsOf, stepsOf, total, timetableAnswer}
-use Rattle.timetable.specs.Reading.{WellPacked}
+use Rattle.timetable.specs.Timetable.{stepCount, partsOf, stepsOf, timetableAnswer}
+use Rattle.timetable.specs.Reading.{WellPacked, total}
 use Rattle.timetable.proofs.ReadingLaws.{count-steps}
 use Rattle.timetable_check.specs.Solutions.{SolutionOf}
 use Rattle.timetable_check.proofs.Replayed.{arrangements, ReplayedTimetable, timetable-replayed}

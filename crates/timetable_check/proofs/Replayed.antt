@@ -22,7 +22,7 @@ use Rattle.answers.proofs.AnswerLaws.{passUp-low, passUp-high, passUp-accepted}
 use Rattle.field.specs.Bytes.{Bytes, BelowPairs, none₂, more₂}
 use Rattle.order.specs.Floor.{Floor}
 use Rattle.order.specs.Order.{rackCount, floorOf, startsOf, goalsOf, counts, orderAnswer, WellFormed}
-use Rattle.order.proofs.OrderLaws.{well-formed, accepted-is}
+use Rattle.order.proofs.OrderLaws.{well-formed}
 use Rattle.motion.specs.Arrangement.{Arrangement}
 use Rattle.motion.specs.Move.{after}
 use Rattle.motion.proofs.MoveLaws.{after-length}
@@ -37,8 +37,8 @@ use Rattle.motion.proofs.StepLimits.{step-size}
 use Rattle.motion.specs.StepSolutions.{stepsBetween}
 use Rattle.motion.proofs.StepSolutionsLaws.{OnlySteps, solution-replay, solutions-iff}
 use Rattle.tables.proofs.AcceptedLaws.{well-placed}
-use Rattle.timetable.specs.Timetable.{timetableRecord, stepCount, partsOf, stepsOf, total, timetableAnswer}
-use Rattle.timetable.specs.Reading.{readingAnswer, WellPacked, moveTotal}
+use Rattle.timetable.specs.Timetable.{timetableRecord, stepCount, partsOf, stepsOf, timetableAnswer, moveTotal}
+use Rattle.timetable.specs.Reading.{readingAnswer, WellPacked, total}
 use Rattle.timetable.proofs.ReadingLaws.{well-packed, reading-accepted, count-steps, total-moves, timetableAnswer-is}
 use Rattle.timetable.proofs.TimetableRecord.{Steps, no-steps, one-step, Packable, record-bytes, stepsOf-record, record-well-packed}
 use Rattle.timetable.proofs.TimetableRecord.{record-only}
@@ -111,7 +111,7 @@ module _ (o s v : List ℕ) where
   accepted-from : ReplayedTimetable o s v → timetableAnswer o s ≡ accepted v
   accepted-from t =
       timetableAnswer-is o s
-      ∙ passUp-accepted (orderAnswer o) _ (counts o) (accepted-is o (t .order-right))
+      ∙ passUp-accepted (orderAnswer o) _ (counts o) (t .order-right)
       ∙ passUp-accepted (readingAnswer s) judgement _ (reading-accepted s (t .packed-right))
       ∙ judged-solution (t .order-right) .1 (t .counted, t .solution, t .listed)
 

@@ -1,7 +1,7 @@
 -- How large a timetable's numbers are, of which a byte string keeps each below 256: they fit the fields of the C interface.
 --
 --     count-small       s is below 2²²
---     total-small       the sum of the bytes c is below 2³⁰
+--     timetable-moves-small    the moves are below 2³⁰
 --     offset-small      a step of s begins below byte 2³¹
 --     length-small      and is at most 384 bytes long
 --     found-small       so are the values of the step reader's answer
@@ -21,8 +21,10 @@ use Rattle.answers.specs.Answer.{accepted, refuse}
 use Rattle.answers.proofs.AnswerLaws.{refuse-not, refuse-else}
 use Rattle.field.proofs.BitLaws.{field-lt}
 use Rattle.field.proofs.UnitLaws.{or-right}
-use Rattle.timetable.specs.Timetable.{stepLength, stepParts, partsOf, stepCount, total, lengthOf, offset, stepPart, stepAnswer}
-use Rattle.timetable.specs.Timetable.{wrongTimetableLength, timetablePaddingSet, timetableAnswer}
+use Rattle.timetable.specs.Reading.{total}
+use Rattle.timetable.specs.Timetable.{stepLength, stepParts, partsOf, stepsOf, stepCount, stepsLength, moveTotal, offset}
+use Rattle.timetable.specs.Timetable.{stepPart, stepAnswer, wrongTimetableLength, timetablePaddingSet, timetableAnswer}
+use Rattle.timetable.proofs.ReadingLaws.{total-moves}
 use Rattle.timetable.proofs.StepLaws.{stepLength-few, stepLength-some}
 use Rattle.timetable_check.proofs.Replayed.{ReplayedTimetable, timetable-replayed}
 use Rattle.timetable_check.specs.ByteString.{ByteString}
@@ -52,14 +54,13 @@ total-parts (suc k) t b = omega (
   total-parts k (drop (stepLength (getD t 0 0)) t) (dropped (stepLength (getD t 0 0)) t b),
 )
 
-lengths-parts : (i k : ℕ) (t : List ℕ) → ByteString t → lengthOf i (stepParts k t) ≤ 384 * i
-unfolding lengthOf stepParts
-lengths-parts zero k t b = omega arith
-lengths-parts (suc i) zero t b = omega arith
-lengths-parts (suc i) (suc k) t b = omega (
+lengths-small : (i : ℕ) (t : List ℕ) → ByteString t → stepsLength i t ≤ 384 * i
+unfolding stepsLength
+lengths-small zero t b = omega arith
+lengths-small (suc i) t b = omega (
   arith,
-  first-length t b,
-  lengths-parts i k (drop (stepLength (getD t 0 0)) t) (dropped (stepLength (getD t 0 0)) t b),
+  stepLength-few (getD t 0 0) (b 0),
+  lengths-small i (drop (stepLength (getD t 0 0)) t) (dropped (stepLength (getD t 0 0)) t b),
 )
 
 length-part : (j k : ℕ) (t : List ℕ) → ByteString t → length (getD (stepParts k t) j []) ≤ 384
@@ -69,9 +70,12 @@ length-part zero (suc k) t b = first-length t b
 length-part (suc j) (suc k) t b = length-part j k (drop (stepLength (getD t 0 0)) t) (dropped (stepLength (getD t 0 0)) t b)
 
 module _ (s : List ℕ) (b : ByteString s) where
-  pub total-small : total (partsOf s) < 2 ^ 30
+  total-small : total (partsOf s) < 2 ^ 30
   unfolding partsOf
   total-small = omega (arith, count-small s, total-parts (stepCount s) (drop 3 s) (dropped 3 s b))
+
+  pub timetable-moves-small : moveTotal (stepsOf s) < 2 ^ 30
+  timetable-moves-small = subst (λ (n : ℕ). n < 2 ^ 30) (sym (total-moves s)) total-small
 
   pub checked-small : (o : List ℕ) (steps moves : ℕ) → accepted (steps ∷ moves ∷ []) ≡ timetableAnswer o s
       → (steps < 2 ^ 22) × (moves < 2 ^ 30)
@@ -84,7 +88,7 @@ module _ (s : List ℕ) (b : ByteString s) where
   module _ (i : ℕ) where
     pub offset-small : i ≤ stepCount s → offset s i < 2 ^ 31
     unfolding offset partsOf
-    offset-small h = omega (arith, count-small s, lengths-parts (i - 1) (stepCount s) (drop 3 s) (dropped 3 s b))
+    offset-small h = omega (arith, count-small s, lengths-small (i - 1) (drop 3 s) (dropped 3 s b))
 
     pub length-small : length (stepPart s i) ≤ 384
     unfolding stepPart partsOf

@@ -9,8 +9,7 @@ use mathlib.Core.Path.{_≡_, refl, sym, ap, _∙_}
 use Rattle.answers.specs.Answer.{accepted}
 use Rattle.field.specs.Bytes.{Bytes}
 use Rattle.motion.specs.StepSolutions.{stepsBetween}
-use Rattle.timetable.specs.Timetable.{timetableRecord, stepCount, stepsOf, timetableAnswer}
-use Rattle.timetable.specs.Reading.{moveTotal}
+use Rattle.timetable.specs.Timetable.{timetableRecord, stepCount, stepsOf, timetableAnswer, moveTotal}
 use Rattle.timetable_check.specs.Solutions.{AcceptedTimetable}
 use Rattle.timetable.proofs.ReadingLaws.{total-moves}
 use Rattle.timetable_check.proofs.SizeLaws.{count-small}

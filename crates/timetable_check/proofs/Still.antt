@@ -30,9 +30,9 @@ use Rattle.motion.proofs.StepReplay.{steps-lead}
 use Rattle.motion.proofs.LegalStepLaws.{legalStep-iff, legal-nothing}
 use Rattle.motion.proofs.StepLimits.{step-racks, full-iff}
 use Rattle.tables.proofs.AcceptedLaws.{well-placed}
-use Rattle.timetable.specs.Timetable.{timetableRecord, stepCount, wrongSteps, stepParts, partsOf, wrongTimetableLength}
-use Rattle.timetable.specs.Timetable.{timetablePaddingSet, stepsOf, total, timetableAnswer}
-use Rattle.timetable.specs.Reading.{WellPacked, moveTotal}
+use Rattle.timetable.specs.Timetable.{timetableRecord, stepCount, stepParts, partsOf, wrongTimetableLength, moveTotal, stepsLength}
+use Rattle.timetable.specs.Timetable.{timetablePaddingSet, stepsOf, timetableAnswer, timetableLength}
+use Rattle.timetable.specs.Reading.{WellPacked, wrongSteps, total}
 use Rattle.timetable.proofs.ReadingLaws.{count-steps, total-moves}
 use Rattle.timetable.proofs.TimetableRecord.{Steps, one-step, Packable, stepsOf-record, record-well-packed}
 use Rattle.timetable_check.proofs.Leading.{LeadingTimetable, accepted-leads}
@@ -124,7 +124,7 @@ module _ (o s v : List ℕ) (w : WellFormed o) where
 
 -- the timetable without steps
 nothing-packed : WellPacked (0x00 ∷ 0x00 ∷ 0x00 ∷ [])
-unfolding wrongTimetableLength timetablePaddingSet wrongSteps some partsOf stepParts stepCount field number bitsOf bits
+unfolding wrongTimetableLength timetablePaddingSet timetableLength stepsLength some partsOf stepParts stepCount field number bitsOf bits
 nothing-packed = record { length-right = refl; padding-clear = refl }
 
 nothing-counted : stepCount (0x00 ∷ 0x00 ∷ 0x00 ∷ []) ≡ 0

@@ -13,8 +13,7 @@ use Rattle.order.specs.Order.{rackCount, floorOf, startsOf, goalsOf, WellFormed
 use Rattle.motion.specs.Arrangement.{Arrangement}
 use Rattle.motion.specs.TrainCap.{CappedSolution}
 use Rattle.motion.specs.StepSolutions.{stepsBetween}
-use Rattle.timetable.specs.Timetable.{timetableRecord}
-use Rattle.timetable.specs.Reading.{moveTotal}
+use Rattle.timetable.specs.Timetable.{timetableRecord, moveTotal}
 
 abbrev pub SolutionOf : List ℕ → ℕ → List Arrangement → Type 0
 SolutionOf o ζ S = CappedSolution (floorOf o) (rackCount o) (startsOf o) (goalsOf o) ζ S

@@ -12,7 +12,8 @@ use std::path::Path;
 const C_INTERFACE: &str = "crates/controller/src/lib.rt";
 
 /// Where a promise comes from: document 01, or a request of document 02 by its letter.
-pub const SOURCES: [&str; 10] = ["document 01", "(a)", "(d)", "(e)", "(g)", "(h)", "(k)", "(l)", "(m)", "(n)"];
+pub const SOURCES: [&str; 10] =
+    ["document 01", "(a)", "(d)", "(e)", "(g)", "(h)", "(k)", "(l)", "(m)", "(n)"];
 
 /// The functions of the C interface, each with its source.
 const FUNCTIONS: &[(&str, &str)] = &[
@@ -37,10 +38,9 @@ const FUNCTIONS: &[(&str, &str)] = &[
     ("(n)", "wichteab_one_vacancy"),
 ];
 
-/// The other contracts that somebody relies on, demand 3's and those of the programs: every definition that these files
-/// cite. Of the timetable program's crate and of the season program's it is the program's own contract.
+/// The other contracts that somebody relies on, those of the programs: every definition that these files cite. Of the
+/// timetable program's crate and of the season program's it is the program's own contract.
 const CONTRACTS: &[(&str, &str, &[&str])] = &[
-    ("document 01", "crates/delivery/src/lib.rt", &[]),
     ("document 01", "crates/plan_program/src/lib.rt", &[]),
     ("document 01", "crates/text/src/lib.rt", &["programText", "Wrote"]),
     ("(a)", "crates/order_program/src/lib.rt", &[]),
@@ -50,11 +50,11 @@ const CONTRACTS: &[(&str, &str, &[&str])] = &[
 /// The records that the main theorems state; of a file without names, all of it.
 const THEOREMS: &[(&str, &str, &[&str])] = &[
     ("document 01", "crates/order/specs/Theorems.antt", &[]),
-    ("document 01", "crates/plan_check/specs/Solutions.antt", &[]),
+    ("document 01", "crates/plan_check/specs/Solutions.antt", &["SolutionOf", "AcceptedPlan"]),
     ("document 01", "crates/timetable_check/specs/Solutions.antt", &[]),
     ("document 01", "crates/motion/specs/LegalStep.antt", &[]),
     ("document 01", "crates/floor/specs/Plannable.antt", &[]),
-    ("document 01", "crates/scheduling/specs/Maker.antt", &["Timetabled"]),
+    ("document 01", "crates/delivery/specs/Theorems.antt", &[]),
     ("(a)", "crates/models/specs/Theorems.antt", &[]),
     ("(d)", "crates/planner/specs/Rings.antt", &[]),
     ("(e)", "crates/shortening/specs/Theorems.antt", &[]),
@@ -65,14 +65,6 @@ const THEOREMS: &[(&str, &str, &[&str])] = &[
     ("(l)", "crates/season/specs/Theorems.antt", &[]),
     ("(m)", "crates/carry/specs/Theorems.antt", &[]),
     ("(n)", "crates/parity/specs/Theorems.antt", &[]),
-];
-
-/// A decision carries the proof that it decides: what it decides stands in its type, and nobody has to believe the rest.
-const DECISIONS: [&str; 4] = [
-    "crates/floor/specs/WayDecision.antt",
-    "crates/floor/specs/RoundDecision.antt",
-    "crates/parity/specs/ColourDecision.antt",
-    "crates/live/specs/HereDecision.antt",
 ];
 
 pub struct Definition {
@@ -97,7 +89,9 @@ impl Believed {
         let mut wanted: Vec<(String, String)> = Vec::new();
         let mut exported = source::exported(&read(&repository.join(C_INTERFACE)));
         assert_eq!(exported.len(), FUNCTIONS.len(), "every function of the C interface has a source");
-        exported.retain(|(name, _)| FUNCTIONS.iter().any(|(from, known)| known == name && sources.contains(from)));
+        exported.retain(|(name, _)| {
+            FUNCTIONS.iter().any(|(from, known)| known == name && sources.contains(from))
+        });
         wanted.extend(exported.into_iter().flat_map(|(_, cited)| cited));
         for &(_, file, names) in CONTRACTS.iter().filter(|(from, _, _)| sources.contains(from)) {
             let cited = source::cited(&read(&repository.join(file)));
@@ -140,7 +134,7 @@ fn close(
     while let Some((file, name)) = wanted.pop() {
         let Some(module) = modules.get(&file) else { continue };
         let Some(index) = module.find(&name) else { continue };
-        if DECISIONS.contains(&file.as_str()) || !taken.insert((file.clone(), index)) {
+        if !taken.insert((file.clone(), index)) {
             continue;
         }
         wanted.extend(made_of(&file, module, &module.blocks[index]));

@@ -1,6 +1,6 @@
 //! Prints the definitions that a reader has to believe: those that the promises below cite, and those that these
-//! are made of, file by file with their lines; then how many lines document 01's promises rest on, and how many more each request
-//! has brought; then how many each function of the C interface rests on.
+//! are made of, file by file with their lines; then how many lines document 01's promises rest on, and how many more
+//! each request has brought; then how many each function of the C interface rests on.
 
 use believed::{Believed, SOURCES};
 use std::path::Path;

@@ -33,6 +33,9 @@ impl Block {
 
     fn parse(lines: &[&str]) -> Block {
         let head = without_marks(lines[0]);
+        // A decision carries the proof that it decides: what it decides stands in its type, and nobody has to
+        // believe the rest.
+        let lines = if decides(lines[0]) { &lines[..1] } else { lines };
         let is_type = head.starts_with("record ") || head.starts_with("data ");
         let name = head.split_whitespace().nth(usize::from(is_type)).unwrap_or("").to_string();
         let mut names = BTreeSet::from([name.clone()]);
@@ -148,6 +151,13 @@ fn imports_of(line: &str) -> Vec<Import> {
 fn without_marks(line: &str) -> &str {
     let line = line.strip_prefix("abbrev ").or(line.strip_prefix("unfoldable ")).unwrap_or(line);
     line.strip_prefix("pub ").unwrap_or(line)
+}
+
+/// Whether a definition's type, on one line, ends in what a decision gives, as in
+/// `biConnected? : (F : Floor) → Dec (BiConnected ..)`.
+fn decides(line: &str) -> bool {
+    let result = line.rsplit("→ ").next().unwrap_or(line);
+    line.contains(" : ") && result.starts_with("Dec (") && result.ends_with(')')
 }
 
 /// The name that an indented line declares: a field, a constructor, or a definition of a section.

@@ -1,6 +1,6 @@
 //! docs/DECISIONS.md, "What a reader has to believe": its table names every file with such a definition, and no other.
 
-use believed::Believed;
+use believed::{Believed, SOURCES};
 use std::collections::BTreeSet;
 use std::fs;
 use std::path::Path;
@@ -36,6 +36,14 @@ fn the_table_names_just_the_files_with_such_definitions() {
         missing.is_empty() && needless.is_empty(),
         "not named: {missing:?}; named without need: {needless:?}"
     );
+}
+
+/// docs/DECISIONS.md: what document 01 asks for rests on under 700 lines, with all that the requests changed in it.
+#[test]
+fn what_document_01_asks_for_rests_on_under_700_lines() {
+    let repository = Path::new(env!("CARGO_MANIFEST_DIR")).join("../..");
+    let lines = Believed::of_sources(&repository, &SOURCES[..1]).lines();
+    assert!(lines > 0 && lines < 700, "it rests on {lines} lines");
 }
 
 /// README.md: for one function of the C interface a reader never has to believe more than 300 lines.

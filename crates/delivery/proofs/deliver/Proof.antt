@@ -5,7 +5,8 @@ use native.Mathlib.Omega.{arith}
 use lib.ListN.{take}
 use lib.Seq.{length-take-le}
 use Rattle.field.specs.Units.{recordLength}
-use Rattle.delivery.specs.Delivery.{planLength, planAlone, timetableAlone}
+use Rattle.delivery.specs.Delivery.{planLength, planAlone}
+use Rattle.delivery.specs.Theorems.{timetableAlone}
 use Rattle.delivery.proofs.Calls.{both, plan-made, few-moves, plan-ends, timetable-ends, refused-plan, refused-timetable, all-called}
 use borrow.Author.Needs.{needs}
 use Rattle.delivery.proofs.deliver.Statement.{statement}

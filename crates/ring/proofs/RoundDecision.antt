@@ -8,8 +8,8 @@ use Prim.Native.Nat.{ℕ, suc, _+_, _<_}
 use mathlib.Core.Logic.{_⊎_}
 use native.Mathlib.Decide.{decLe, decLt}
 use native.Mathlib.Omega.{arith}
 use Rattle.ring.specs.Order.{InTurn, Rack, SameOrder}
-use Rattle.floor.specs.WayDecision.{alike?, either?, both?, implies?, every?}
+use Rattle.graph.proofs.WayDecision.{alike?, either?, both?, implies?, every?}
 
 unfoldable pub rack? : (m r : ℕ) → Dec (Rack m r)
 unfolding decLe decLt alike? both?

@@ -16,9 +16,9 @@ use native.Mathlib.Omega.{arith}
 use Rattle.graph.specs.Walk.{Walk}
 use Rattle.graph.specs.Walk.Walk.{alone, step}
 use Rattle.graph.proofs.WalkLaws.{walk-first, walk-some}
-use Rattle.floor.specs.WayDecision.{alike?, both?}
+use Rattle.graph.proofs.WayDecision.{alike?, both?}
 use Rattle.shunting.specs.Distance.{WayFrom, NoWay, Distance}
 use Rattle.shunting.proofs.DistanceLaws.{at-most-below, at-most-less, distance-few}
 
 pub some? : (n : ℕ) {Q : ℕ → Type 0} → ((p : ℕ) → Dec (Q p)) → Dec ((p : ℕ) × (p < n) × Q p)
 some? zero d = no (λ x. absurd (not-suc-le-zero (x .1)))
