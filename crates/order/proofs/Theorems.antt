@@ -1,7 +1,9 @@
 -- What is proved of order records, as a whole.
 --
 --     one-record        two accepted records that describe the same are the same bytes (demand 2)
---     every-order       every floor of 1 to 64 positions and at most 255 edges, with distinct starts and distinct goals, has an accepted
+--     orderFor          the order of a floor that is given as a relation
+--     record-for        its record is accepted, and reading it gives floor, starts and goals back
+--     every-order       so every floor of 1 to 64 positions and at most 255 edges, with distinct starts and distinct goals, has an accepted
 --                       record, and reading it gives them back
 --     an-order          the hypotheses of `every-order` hold of something
 -- Assumes nothing.
@@ -62,20 +64,18 @@ one-record s t bs bt ws wt same = record-of s bs ws ∙ ap orderRecord read ∙ 
     read = unfold orderOf in λ i. record { floor = floor i; starts = same .starts i; goals = same .goals i }
 
 module _ (n : ℕ) (E : ℕ → ℕ → Bool) (starts goals : List ℕ) where
-  abbrev orderFor : Order
+  abbrev pub orderFor : Order
   orderFor = record { floor = floorFrom n E; starts = starts; goals = goals }
 
-  pub every-order : Choice n E starts goals → (s : List ℕ) × RecordFor n E starts goals s
-  every-order c = (
-    orderRecord orderFor,
-    record {
-      is-accepted = record-sound orderFor sound;
-      positions-back = ap (λ (F : Floor). F .positions) floor-back ∙ (unfold floorFrom in refl);
-      edges-back = λ a b. ap (λ (F : Floor). joined F a b) floor-back ∙ floorFrom-joined n E (c .few-positions) (c .relation) a b;
-      starts-back = unfold orderOf in ap (λ (o : Order). o .starts) back;
-      goals-back = unfold orderOf in ap (λ (o : Order). o .goals) back;
-    },
-  )
+  pub record-for : Choice n E starts goals → RecordFor n E starts goals (orderRecord orderFor)
+  record-for c =
+      record {
+        is-accepted = record-sound orderFor sound;
+        positions-back = ap (λ (F : Floor). F .positions) floor-back ∙ (unfold floorFrom in refl);
+        edges-back = λ a b. ap (λ (F : Floor). joined F a b) floor-back ∙ floorFrom-joined n E (c .few-positions) (c .relation) a b;
+        starts-back = unfold orderOf in ap (λ (o : Order). o .starts) back;
+        goals-back = unfold orderOf in ap (λ (o : Order). o .goals) back;
+      }
     where
       sound : SoundOrder orderFor
       sound =
@@ -95,6 +95,9 @@ module _ (n : ℕ) (E : ℕ → ℕ → Bool) (starts goals : List ℕ) where
 
       floor-back : floorOf (orderRecord orderFor) ≡ floorFrom n E
       floor-back = unfold orderOf in ap (λ (o : Order). o .floor) back
+
+  pub every-order : Choice n E starts goals → (s : List ℕ) × RecordFor n E starts goals s
+  every-order c = (orderRecord orderFor, record-for c)
 
 -- every two of four positions are joined
 abbrev allOfFour : ℕ → ℕ → Bool
