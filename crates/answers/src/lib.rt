@@ -1,4 +1,6 @@
 // The answers of the entry points: one fault for each number of document 01's table, its number, and its family word.
+#![tactic(auto)]
+
 ghost use Rattle.std.specs.Prelude.{◌≡◌, length};
 ghost use Rattle.answers.specs.Answer.{number_of, HasNumber};
 ghost use Rattle.answers.specs.Family.{family_word, family_bytes};

@@ -1,4 +1,6 @@
 // The base ring of a floor, settled when all else is: racks on it are exchanged in pairs through a position beside it.
+#![tactic(auto)]
+
 ghost use Rattle.std.specs.Prelude.{◌≡◌, ◌+◌, ◌≤◌, ◌<◌, length};
 ghost use Rattle.graph.specs.Rows.{row, Edge, Rows};
 ghost use Rattle.moving.specs.Went.{Same};
@@ -15,7 +17,7 @@ use moving::{Log, State};
 
 // A base ring of `size` positions in the order round it, on a floor that has so many positions, and a position beside its place 0 that is
 // not on it.
-#[derive(Drop)]
+#[derive(Clone, Copy)]
 pub struct Circle {
     pub at: [u8; 64],
     pub positions: usize,

@@ -1,4 +1,6 @@
 // The breakdown of a floor into a base ring and handles, shortest first.
+#![tactic(auto)]
+
 ghost use Rattle.std.specs.Prelude.{◌≡◌, ◌+◌, ◌≤◌, ◌<◌};
 ghost use Rattle.sets.specs.Sets.{Has};
 ghost use Rattle.graph.specs.Connected.{Except, Below, BiConnected};
@@ -22,7 +24,7 @@ struct Pair {
 // The base ring and the handles. `order` has every position once: first the ring's, in their order round it, then those inside handle 0,
 // inside handle 1, and so on. The inside of handle i is at the places from `start[i]` up to `start[i + 1]`; its ends are `left[i]`, beside
 // the first inner position, and `right[i]`, beside the last. A ring of 0 is no breakdown.
-#[derive(Drop)]
+#[derive(Clone, Copy)]
 pub struct Breakdown {
     pub ring: usize,
     pub handles: usize,

@@ -2,6 +2,8 @@
 // positions, and takes it off or is kept. Kept moves are marked by bits, which blocks and groups of them sum up, so that the search passes
 // over those that touch nothing. specs/Stack.antt has the rule on a stack, specs/Looking.antt what the marks tell; `mark_kept` is the
 // entry point.
+#![tactic(auto)]
+
 ghost use Rattle.std.specs.Prelude.{◌≡◌, true, ◌↔◌, ℕ, ◌+◌, ◌-◌, ◌*◌, ◌/◌, ◌%◌, ◌^◌, ◌≤◌, ◌<◌, max, min, length, get_or, set};
 ghost use Rattle.field.specs.Listed.{move_size};
 ghost use Rattle.sets.specs.Sets.{Has};
@@ -180,7 +182,7 @@ fn set_two(list: &mut [usize; 64], a: usize, b: usize, x: usize, y: usize)
 
 // The move that the pass has come to: its index, the positions that it leaves and enters, one more than the index of the latest kept move
 // that touches one of them, or 0, and whether the two cancel.
-#[derive(Drop)]
+#[derive(Clone, Copy)]
 struct Next {
     index: usize,
     first: usize,

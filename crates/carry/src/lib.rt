@@ -1,5 +1,7 @@
 // The dearest single carry: on a connected floor, the start and the goal whose shortest plan for one rack alone is longest, and that plan.
 // specs/Carry.antt says what they are, specs/CarryAnswer.antt has the answer and the buffer afterwards; `make` is the entry point.
+#![tactic(auto)]
+
 ghost use Rattle.std.specs.Prelude.{◌≡◌, true, [], ◌∷◌, ℕ, ◌+◌, ◌*◌, ◌/◌, ◌≤◌, ◌<◌, length, get_or};
 ghost use Rattle.answers.specs.Answer.{accepted, PassedUp};
 ghost use Rattle.field.specs.Listed.{all_units};

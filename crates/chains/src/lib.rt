@@ -1,6 +1,8 @@
 // The chains of a step's moves, on tables: each move enters a position that is vacant or that another one leaves, and so on to the leader.
 // specs/StepOn.antt says what a step on tables is, specs/Chains.antt what is noted of its moves. `note_moves` notes them, and `all_led`
 // follows each chain to its end.
+#![tactic(auto)]
+
 ghost use Rattle.std.specs.Prelude.{◌≡◌, true, ◌≤◌, ◌<◌, length};
 ghost use Rattle.chains.specs.StepOn.{entries, sound_moves, all_led};
 ghost use Rattle.tables.specs.Simulation.{Each};

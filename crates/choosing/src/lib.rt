@@ -1,6 +1,8 @@
 // The planner with a search beside it: the proved method's plan is made, a search looks for another one within a fixed budget, and the one
 // with the shorter timetable stays: crate `comparing` says when that is the search's. `make` is the entry point, and promises what the
 // proved method promises.
+#![tactic(auto)]
+
 ghost use Rattle.std.specs.Prelude.{◌≡◌, ◌≤◌, min, length};
 ghost use Rattle.planner.specs.Planner.{PlanMade, answer_of};
 

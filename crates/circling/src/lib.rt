@@ -1,6 +1,8 @@
 // A ring planned: its racks are driven round the circle, each straight to its goal. Which way each goes, and how far, is settled first:
 // of the ways to take all racks round without changing their order, the one with the fewest moves. Then those that go on are driven on,
 // and those that go back, back. specs/Drive.antt and specs/Needs.antt say what that means; `solve` is the entry point.
+#![tactic(auto)]
+
 ghost use Rattle.std.specs.Prelude.{◌≡◌, ℕ, ◌*◌, ◌≤◌, ◌<◌, length};
 ghost use Rattle.ring.specs.Order.{Rack, Places};
 ghost use Rattle.graph.specs.Rows.{row};

@@ -1,6 +1,8 @@
 // Two plans for an order compared: the search's may stand in the place of the proved method's where the plan checker accepts it and its
 // timetable is shorter, or as long with fewer moves. specs/Choosing.antt says when; `improves` decides it, and `take_better` leaves the
 // better one in the buffer.
+#![tactic(auto)]
+
 ghost use Rattle.std.specs.Prelude.{true, ◌↔◌, ◌≡◌, List, [], ◌∷◌, ℕ};
 ghost use Rattle.answers.specs.Answer.{accepted};
 ghost use Rattle.plan.specs.Plan.{move_count, plan_answer};

@@ -2,6 +2,8 @@
 // returns one number; none changes a byte that it was lent to read, and a refusal changes no byte at all. The number is an answer, packed,
 // or a length. The season report is five numbers more, in an array that the caller lends. The last four functions take the live floor's
 // picture, a struct that the caller holds: each copies it out, calls a function on the copy and stores what that left, without a branch.
+#![tactic(auto)]
+
 ghost use Rattle.std.specs.Prelude.{◌≡◌, ◌∷◌, length};
 ghost use Rattle.answers.specs.Answer.{Answer};
 ghost use Rattle.order.specs.Order.{order_answer};

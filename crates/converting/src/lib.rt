@@ -1,5 +1,7 @@
 // The converter: of a plan that the plan checker accepts it writes the other edition. specs/Converter.antt has the answer and the buffer
 // afterwards, specs/Theorems.antt what is proved of going there and back; `convert` is the entry point.
+#![tactic(auto)]
+
 ghost use Rattle.std.specs.Prelude.{◌≡◌, not, [], ◌∷◌, ◌+◌, ◌*◌, ◌/◌, ◌^◌, ◌≤◌, ◌<◌, length};
 ghost use Rattle.answers.specs.Answer.{accepted, PassedUp};
 ghost use Rattle.field.specs.Listed.{move_size, moves_at, all_units};

@@ -1,5 +1,7 @@
 // An order as tables: `decode` judges it as `order::read` does, in one pass with the floor's rows and the racks' tables, and `mark_edges`
 // and `place_racks` fill the checkers' tables. Crate `order` says what the tables are.
+#![tactic(auto)]
+
 ghost use Rattle.std.specs.Prelude.{◌≡◌, true, not, ◌+◌, ◌*◌, ◌≤◌, ◌<◌, length, replicate};
 ghost use Rattle.field.specs.Bits.{pairs, positions};
 ghost use Rattle.order.specs.Order.{order_answer, wrong_edges};

@@ -1,6 +1,8 @@
 // Demand 3 in one function: the planner on an order, the timetable maker on that order and the plan just written, and the timetable
 // checker on that order and the timetable just written. specs/Delivery.antt says what the three calls answer and leave (`Called`), and
 // that demand 3 (specs/Theorems.antt) is then true in their answers (`DeliversBy`).
+#![tactic(auto)]
+
 ghost use Rattle.delivery.specs.Delivery.{Called, DeliversBy, answers_of};
 
 use planner::PlannerVerdict;

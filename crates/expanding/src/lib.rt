@@ -1,6 +1,8 @@
 // The candidates of a search's next layer: for every arrangement of a layer the moves that lead on from it, each with what the arrangement
 // behind it costs. Crate `searching` says what an arrangement, its stage and its cost are, and what stands in the tables; `expand_layer` is
 // the entry point. Nothing of this is trusted: what is proved is that it is safe and ends.
+#![tactic(auto)]
+
 ghost use Rattle.std.specs.Prelude.{◌≤◌, ◌<◌};
 
 // What is no position.
@@ -47,7 +49,7 @@ const PATIENCE: usize = 16;
 
 // An arrangement of the beam, as its cost is found. `sum` is of weighed distances, `swapped` twice the pairs of neighbours that stand at
 // each other's goals, `span` the steps so far, `place` where the stage's rack stands, and its cells begin at `base`.
-#[derive(Drop)]
+#[derive(Clone, Copy)]
 struct State {
     vacant: u64,
     hash: u32,
@@ -62,7 +64,7 @@ struct State {
 // What the beam is about in this layer: the floor's positions, the stages, those with a table, the highest stage of an arrangement, which
 // half of the tables the layer is in, how many arrangements it has and may have, how many layers the front has waited, the least sum of an
 // arrangement at the last stage, and what the search has cost.
-#[derive(Drop)]
+#[derive(Clone, Copy)]
 pub struct Look {
     pub n: usize,
     pub stages: usize,
@@ -77,7 +79,7 @@ pub struct Look {
 }
 
 // An arrangement, its place in the layer, a vacancy that a rack is to enter, and how many candidates there are so far.
-#[derive(Drop)]
+#[derive(Clone, Copy)]
 struct Spot {
     state: State,
     index: usize,
@@ -87,7 +89,7 @@ struct Spot {
 
 // What a layer's arrangements are like: how many candidates they gave, the highest stage, the least sum of one at the last stage, and
 // which one is the goal, 1024 if none is.
-#[derive(Drop)]
+#[derive(Clone, Copy)]
 pub struct Layer {
     pub candidates: usize,
     pub front: usize,

@@ -1,5 +1,7 @@
 // The two positions of a floor that are farthest apart: the balls of moves round every position grow together, one move at a time, until
 // none misses a position. specs/Balls.antt says what that means; `dearest` is the entry point.
+#![tactic(auto)]
+
 ghost use Rattle.std.specs.Prelude.{ℕ, ◌≤◌, ◌<◌, ◌↔◌};
 ghost use Rattle.sets.specs.Sets.{Has};
 ghost use Rattle.graph.specs.Connected.{Connected};

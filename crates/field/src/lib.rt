@@ -1,5 +1,7 @@
 // Bit fields of byte strings, most significant bit first: the fields that the records are made of, read (document 01, "Records").
 // specs/Bits.antt says what a field is; proofs/BitLaws.antt reduces any field to bytes. Crate `recording` writes them.
+#![tactic(auto)]
+
 ghost use Rattle.std.specs.Prelude.{◌≡◌, not, false, ◌+◌, ◌*◌, ◌/◌, ◌%◌, ◌^◌, ◌≤◌, ◌<◌, length};
 ghost use Rattle.field.specs.Bits.{field, pad, PositionAt, PairAt, TripleAt};
 ghost use Rattle.field.specs.Units.{misfits, pad_set, unclean};

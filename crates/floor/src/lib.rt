@@ -1,5 +1,7 @@
 // The planner's judgement of an order before it measures its buffer: whether its floor can be planned at all. specs/FloorAnswer.antt says
 // what each number means; `judge` is the entry point: it decodes the order and hands on what it knows. `check` is the verdict alone.
+#![tactic(auto)]
+
 ghost use Rattle.std.specs.Prelude.{true, ◌↔◌, ◌≡◌, List, [], ℕ};
 ghost use Rattle.answers.specs.Answer.{accepted, pass_up};
 ghost use Rattle.order.specs.Order.{counts, floor_of, starts_of, goals_of};

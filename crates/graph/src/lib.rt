@@ -1,5 +1,7 @@
 // The floor as a graph: one breadth-first search, and the decisions that rest on it. A floor is a row of sets: `rows[a]` has the positions
 // that edges join to a.
+#![tactic(auto)]
+
 ghost use Rattle.std.specs.Prelude.{true, ◌↔◌, ◌≡◌, ℕ, ◌+◌, ◌-◌, ◌≤◌, ◌<◌, length};
 ghost use Rattle.sets.specs.Sets.{Has};
 ghost use Rattle.graph.specs.Walk.{Symmetric};
@@ -77,7 +79,7 @@ fn trace(rows: &[u64; 64], levels: &[u64; 64], depth: usize, from: usize) -> [u8
 }
 
 // A way: how many positions it has, 0 where there is none, and the positions, `at[0]` to `at[size - 1]`.
-#[derive(Drop)]
+#[derive(Clone, Copy)]
 pub struct Route {
     pub size: usize,
     pub at: [u8; 64],

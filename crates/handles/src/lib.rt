@@ -1,5 +1,7 @@
 // The handles of a floor, settled one after another, the last first: racks are pushed into a handle like a stack, by bringing each to the
 // handle's left end and turning a cycle through the handle by one place.
+#![tactic(auto)]
+
 ghost use Rattle.std.specs.Prelude.{true, ◌↔◌, ◌≡◌, ◌+◌, ◌-◌, ◌*◌, ◌≤◌, ◌<◌, length};
 ghost use Rattle.graph.specs.Rows.{row, Edge, Rows};
 ghost use Rattle.breakdown.specs.Part.{Places};

@@ -1,5 +1,7 @@
 // For the tests: a breakdown as bytes, a position cleared, the part that the step reader gives back byte by byte, and a delivery, through
 // C's conventions. This is no part of the product's interface, and include/wichteab.h does not declare it.
+#![tactic(auto)]
+
 ghost use Rattle.std.specs.Prelude.{◌≡◌, ◌+◌, ◌≤◌, ◌<◌, length};
 ghost use Rattle.graph.specs.Rows.{row};
 ghost use Rattle.answers.specs.Answer.{Answer, refused_by};

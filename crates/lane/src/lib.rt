@@ -1,6 +1,8 @@
 // A rack pushed into a handle: it is brought to the handle's left end, and the cycle through the handle is turned by one place.
 // specs/Lane.antt says what a handle's lane is and what holds of its racks, specs/Moves.antt how many moves that takes; `place` is the
 // entry point.
+#![tactic(auto)]
+
 ghost use Rattle.std.specs.Prelude.{◌≡◌, ◌+◌, ◌-◌, ◌≤◌, ◌<◌, length};
 ghost use Rattle.graph.specs.Rows.{row, Edge, Rows};
 ghost use Rattle.breakdown.specs.Part.{Places};
@@ -17,7 +19,7 @@ use moving::{Log, State};
 // A handle: the row of the breakdown, how many positions the floor has, the places of the row from `start` up to `end` at which the
 // handle's inner positions stand, its ends, `left` beside the first of them and `right` beside the last, and a position of the stage beside
 // the right end.
-#[derive(Drop)]
+#[derive(Clone, Copy)]
 pub struct Lane {
     pub order: [u8; 64],
     pub positions: usize,

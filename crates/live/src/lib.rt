@@ -1,6 +1,8 @@
 // The live floor: a picture of where the racks stand, which a controller holds, and who may drive it. specs/Picture.antt says what the
 // picture is, specs/Roles.antt who has which right, specs/Calls.antt what each call answers and leaves, specs/Theorems.antt what is proved
 // of sequences of calls. `open`, `read`, `run` and `take_back` are the entry points, on a picture that goes in and comes back by value.
+#![tactic(auto)]
+
 ghost use Rattle.std.specs.Prelude.{◌≡◌, not, ◌&&◌, [], ◌∷◌, leb, eqb};
 ghost use Rattle.answers.specs.Answer.{accepted, PassedUp};
 ghost use Rattle.timetable.specs.Checking.{answer_of_check};
@@ -15,7 +17,7 @@ use timetable::TimetableVerdict;
 // The picture: the rack at each position, 0 where there is none; how many steps were run and not taken back; and how many positions the
 // opening floor has, 0 while the picture is closed. The header's `wichteab_floor` is this struct.
 #[repr(C)]
-#[derive(Drop)]
+#[derive(Clone, Copy)]
 pub struct Floor {
     pub racks: [u8; 64],
     pub steps: u32,

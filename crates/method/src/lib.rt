@@ -1,5 +1,7 @@
 // The proved method on tables: the moves of a plan for an order that can be planned, by the floor's breakdown, or round a ring.
 // specs/Moves.antt says what is promised of them; `plan_moves` is the entry point.
+#![tactic(auto)]
+
 ghost use Rattle.std.specs.Prelude.{true, ◌↔◌, ◌≢◌, ◌≡◌, ℕ, ◌*◌, ◌≤◌, ◌<◌, length};
 ghost use Rattle.graph.specs.Rows.{row};
 ghost use Rattle.method.specs.Moves.{Differ, SomeTables, MovesMade};

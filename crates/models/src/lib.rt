@@ -1,6 +1,8 @@
 // Floors by model code: a short order names its floor's model and is written out as a full order. specs/Grid.antt has the models' floors,
 // specs/ShortOrder.antt the short order's record, specs/Expansion.antt what each number means; `expand` is the entry point. `put_grid`,
 // `put_pairs` and `put_head` write any order's edges, racks and head.
+#![tactic(auto)]
+
 ghost use Rattle.std.specs.Prelude.{◌≡◌, not, false, ◌+◌, ◌*◌, ◌%◌, ◌≤◌, ◌<◌, length};
 ghost use Rattle.field.specs.Bits.{pairs};
 ghost use Rattle.field.specs.Writing.{written};

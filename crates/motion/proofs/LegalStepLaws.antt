@@ -82,10 +82,10 @@ pub legal_nothing : (F : Floor) (A : Arrangement) → LegalStep F A [] × (after
 legal_nothing F A = (
   record {
     ascending = Pairwise.nil;
-    joins = λ m k. absurd (Memᴰ.not_nil k);
-    held = λ m k. absurd (Memᴰ.not_nil k);
+    joins = λ m k. absurd (Memᴰ.not-nil k);
+    held = λ m k. absurd (Memᴰ.not-nil k);
     once = Pairwise.nil;
-    trains = λ m k. absurd (Memᴰ.not_nil k);
+    trains = λ m k. absurd (Memᴰ.not-nil k);
   },
   after_nothing A,
 )

@@ -42,7 +42,7 @@ KeysDiffer {X} key l = Pairwise (λ (x y : X). key x ≢ key y) l
 
 module _ {X : Type 0} (key : X → ℕ) where
   pub keys_same : {x y : X} (l : List X) → KeysDiffer key l → Memᴰ x l → Memᴰ y l → key x ≡ key y → x ≡ y
-  keys_same [] p k n e = absurd (Memᴰ.not_nil k)
+  keys_same [] p k n e = absurd (Memᴰ.not-nil k)
   keys_same (z ∷ l) p k n e =
       by_member k (λ a. by_member n (λ b. a ∙ sym b) (λ b. absurd (pairwise_rel p b (sym (ap key a) ∙ e))))
       (λ a. by_member n (λ b. absurd (pairwise_rel p a (sym (e ∙ ap key b)))) (λ b. keys_same l (Pairwise.of_cons p) a b e))
@@ -81,4 +81,4 @@ module _ {X : Type 0} where
   length_is (x ∷ l) = ap suc (length_is l)
 
   pub pigeonhole : (l m : List X) → Nodup l → ((x : X) → Memᴰ x l → Memᴰ x m) → length l ≤ length m
-  pigeonhole l m d h = omega (arith, length_is l, length_is m, from_le (M.Subperm.length_le (M.Nodup.subperm d (λ x k. ∥∥₁_map k (h x)))))
+  pigeonhole l m d h = omega (arith, length_is l, length_is m, from_le (M.Subperm.length-le (M.Nodup.subperm d (λ x k. ∥∥₁_map k (h x)))))

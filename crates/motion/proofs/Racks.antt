@@ -43,7 +43,7 @@ use Rattle.motion.proofs.StepTestsLaws.{every_iff, vacant_iff}
 -- elements of lists, by place
 
 in_get_d : (l : List ℕ) {p : ℕ} → Memᴰ p l → (i : ℕ) × (i < length l) × (get_or l i 0 ≡ p)
-in_get_d [] k = absurd (Memᴰ.not_nil k)
+in_get_d [] k = absurd (Memᴰ.not-nil k)
 in_get_d (x ∷ l) {p} k =
     by_member {C = (i : ℕ) × (i < suc (length l)) × (get_or (x ∷ l) i 0 ≡ p)} k (λ e. (0, omega arith, sym e))
     (λ n. let w = in_get_d l n in (suc w.0, omega (arith, w.1), w.2))

@@ -84,7 +84,7 @@ full_still {F} {v} {A} (m ∷ ms) valid full s =
 pub full_iff : (F : Floor) (v : ℕ) (A G : Arrangement) (n : ℕ) (steps : List (List (ℕ × ℕ))) → UniquelyInvertible F v A → v ≡ F.positions
     → StepsLead F n A steps G ↔ ((A ≡ G) × ((ms : List (ℕ × ℕ)) → Memᴰ ms steps → ms ≡ []))
 full_iff F v A G n [] valid full =
-    (λ e. ((replay_none F n A G).0 e, λ ms k. absurd (mathlib.Core.List.Memᴰ.not_nil k)), λ w. (replay_none F n A G).1 w.0)
+    (λ e. ((replay_none F n A G).0 e, λ ms k. absurd (mathlib.Core.List.Memᴰ.not-nil k)), λ w. (replay_none F n A G).1 w.0)
 full_iff F v A G n (ms ∷ steps) valid full = (
   λ e.
       let w = (replay_cons F n A G ms steps).0 e in

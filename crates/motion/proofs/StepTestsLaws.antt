@@ -57,7 +57,7 @@ or_right false b t = t
 
 pub some_iff : {X : Type 0} (t : X → Bool) (l : List X) → T (some t l) ↔ ((x : X) × Memᴰ x l × T (t x))
 unfolding some
-some_iff t [] = (λ u. absurd u, λ w. Memᴰ.not_nil w.1)
+some_iff t [] = (λ u. absurd u, λ w. Memᴰ.not-nil w.1)
 some_iff {X} t (y ∷ l) = (
   λ u.
       ⊎_elim {C = (x : X) × Memᴰ x (y ∷ l) × T (t x)} (λ h. (y, Memᴰ.head refl, h))
@@ -93,7 +93,7 @@ enters_iff ms p = key_iff entered ms p
 
 pub every_iff : {X : Type 0} (t : X → Bool) (l : List X) → T (every t l) ↔ ((x : X) → Memᴰ x l → T (t x))
 unfolding every
-every_iff t [] = (λ h x k. absurd (Memᴰ.not_nil k), λ h. tt)
+every_iff t [] = (λ h x k. absurd (Memᴰ.not-nil k), λ h. tt)
 every_iff {X} t (y ∷ l) = (
   λ h x k.
       let b = and_yes (t y) (every t l) h in
@@ -102,7 +102,7 @@ every_iff {X} t (y ∷ l) = (
 )
 
 pub ascends_one : {m : ℕ × ℕ} → Ascends (m ∷ [])
-ascends_one = pairwise_more (λ x y. le_prop) (λ y k. absurd (Memᴰ.not_nil k)) Pairwise.nil
+ascends_one = pairwise_more (λ x y. le_prop) (λ y k. absurd (Memᴰ.not-nil k)) Pairwise.nil
 
 pub ascends_more : {m m' : ℕ × ℕ} {ms : List (ℕ × ℕ)} → m.0 < m'.0 → Ascends (m' ∷ ms) → Ascends (m ∷ m' ∷ ms)
 ascends_more {m} {m'} h up =
@@ -154,7 +154,7 @@ pub data Goes (ms : List (ℕ × ℕ)) (p : ℕ) : Type 0 where
 
 pub goes_to_cases : (ms : List (ℕ × ℕ)) (p : ℕ) → Goes ms p
 unfolding goes_to
-goes_to_cases [] p = stays (λ m k. absurd (Memᴰ.not_nil k)) refl
+goes_to_cases [] p = stays (λ m k. absurd (Memᴰ.not-nil k)) refl
 goes_to_cases (m ∷ ms) p = dite (ℕ_discrete p m.0) first (λ ne. later ne (goes_to_cases ms p))
   where
     first : p ≡ m.0 → Goes (m ∷ ms) p

@@ -47,7 +47,7 @@ module _ (A : Arrangement) (ms : List (ℕ × ℕ)) where
 
   -- from each position that a chain passes a chain leads on that is no longer
   chain_from : {p q : ℕ} {ps : List ℕ} → Chain p ps → Memᴰ q ps → (qs : List ℕ) × Chain q qs × (length qs ≤ length ps)
-  chain_from (ends v) k = absurd (Memᴰ.not_nil k)
+  chain_from (ends v) k = absurd (Memᴰ.not-nil k)
   chain_from {q} (leads {p = p} {ps = ps} o l c) k =
       by_member {C = (qs : List ℕ) × Chain q qs × (length qs ≤ suc (length ps))} k
       (λ e. (p ∷ ps, subst (λ (z : ℕ). Chain z (p ∷ ps)) (sym e) (leads o l c), omega arith))
@@ -64,7 +64,7 @@ module _ (A : Arrangement) (ms : List (ℕ × ℕ)) where
       (chain_nodup c)
 
   chain_left : {p q : ℕ} {ps : List ℕ} → Chain p ps → Memᴰ q ps → Memᴰ q (map left ms)
-  chain_left (ends v) k = absurd (Memᴰ.not_nil k)
+  chain_left (ends v) k = absurd (Memᴰ.not-nil k)
   chain_left (leads {p = p} o l c) k =
       by_member k (λ e. let w = (leaves_iff ms p).0 l in Memᴰ.cast (e ∙ sym w.2) (Memᴰ.map left w.1)) (λ n. chain_left c n)
 

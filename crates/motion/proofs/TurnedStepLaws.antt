@@ -44,7 +44,7 @@ use Rattle.motion.proofs.StepChange.{change-after}
 -- which moves a list turned round has
 map_turned : (x : ℕ × ℕ) (ms : List (ℕ × ℕ)) → Memᴰ x (map turned ms) ↔ Memᴰ (turned x) ms
 unfolding turned
-map_turned x [] = (λ k. absurd (Memᴰ.not_nil k), λ k. absurd (Memᴰ.not_nil k))
+map_turned x [] = (λ k. absurd (Memᴰ.not-nil k), λ k. absurd (Memᴰ.not-nil k))
 map_turned x (m ∷ ms) = (
   λ k. by_member k (λ e. Memᴰ.head (ap turned e)) (λ n. Memᴰ.tail ((map_turned x ms).0 n)),
   λ k. by_member k (λ e. Memᴰ.head (ap turned e)) (λ n. Memᴰ.tail ((map_turned x ms).1 n)),

@@ -1,5 +1,7 @@
 // Racks on the move: one move, and where a rack stands. Each move of a real rack is packed into the plan as it is made, and every move is
 // logged. specs/Journey.antt says what that means; `move_rack` and `make_move` are the entry points.
+#![tactic(auto)]
+
 ghost use Rattle.std.specs.Prelude.{◌≡◌, ◌≢◌, ◌+◌, ◌≤◌, ◌<◌};
 ghost use Rattle.graph.specs.Rows.{row};
 ghost use Rattle.moving.specs.Journey.{state_of, unlogged, Fits, Space, Moved};

@@ -1,6 +1,8 @@
 // The order record and its reader: a byte string is judged by 10 to 14 of document 01's table. specs/Order.antt says what an order record
 // is and what each number means; `read` is the entry point. `record_length` says where an order ends that other bytes follow. Crate
 // `decoding` puts an order into tables.
+#![tactic(auto)]
+
 ghost use Rattle.std.specs.Prelude.{◌≡◌, true, not, ◌+◌, ◌*◌, ◌≤◌, ◌<◌, length};
 ghost use Rattle.field.specs.Bits.{pairs, positions};
 ghost use Rattle.order.specs.Order.{CountsOf, order_answer, wrong_edges, wrong_places};
@@ -12,7 +14,7 @@ ghost use Rattle.order.specs.Verdict.{answer_of};
 use answers::Fault;
 
 // What an order's head says: n positions, e edges, m racks.
-#[derive(Drop)]
+#[derive(Clone, Copy)]
 pub struct Counts {
     pub positions: usize,
     pub edges: usize,

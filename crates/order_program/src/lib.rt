@@ -1,4 +1,6 @@
 // The order program on its whole input: a short order is written out as a full one. specs/Printed.antt says what it writes.
+#![tactic(auto)]
+
 ghost use Rattle.field.specs.Writing.{Wrote};
 ghost use Rattle.order_program.specs.Printed.{order_text};
 

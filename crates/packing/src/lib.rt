@@ -1,5 +1,7 @@
 // An answer as one number, as include/wichteab.h packs it: a refusal's number in the low 8 bits and its place above them, or the counts of
 // an accepted input above 8 bits of 0. specs/Packed.antt says it of any answer, and specs/Unpacked.antt how a caller takes it apart.
+#![tactic(auto)]
+
 ghost use Rattle.std.specs.Prelude.{◌<◌, ◌^◌, ◌≡◌, [], ◌∷◌};
 ghost use Rattle.answers.specs.Answer.{accepted, refused_by};
 ghost use Rattle.packing.specs.Packed.{packed, nothing, one_count, steps_and_moves, length_and_offset, start_goal_moves};

@@ -1,5 +1,7 @@
 // One vacant position, and whether the goal is hopeless. specs/OneVacancy.antt says what each answer means; `one_vacancy` is the entry
 // point.
+#![tactic(auto)]
+
 ghost use Rattle.std.specs.Prelude.{◌-◌, ◌≤◌, ◌<◌, [], ◌∷◌, ◌≡◌};
 ghost use Rattle.answers.specs.Answer.{accepted, PassedUp};
 ghost use Rattle.order.specs.Verdict.{answer_of as orderAnswerOf};

@@ -1,5 +1,7 @@
 // Passes over a whole plan, stretch by stretch: those without a move of the window are left out. specs/Stretches.antt has a plan in
 // stretches, crate `window` the pass over one of them. `pass_plan` and `latest_step` are the entry points.
+#![tactic(auto)]
+
 ghost use Rattle.std.specs.Prelude.{◌≡◌, ◌+◌, ◌*◌, ◌^◌, ◌≤◌, ◌<◌, length};
 ghost use Rattle.field.specs.Listed.{move_size, moves_at};
 ghost use Rattle.window.specs.Rows.{KeepsLeft};

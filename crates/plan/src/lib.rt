@@ -1,5 +1,7 @@
 // The plan record and its reader: any byte string is judged by 30 and 31 of document 01's table, in either edition. specs/Plan.antt says
 // what a plan record is and what each number means; `read_record` is the entry point. Crate `plan_check` judges a plan for an order.
+#![tactic(auto)]
+
 ghost use Rattle.std.specs.Prelude.{◌≡◌, ◌*◌, ◌^◌, ◌≤◌, ◌<◌, length};
 ghost use Rattle.field.specs.Listed.{move_size};
 ghost use Rattle.plan.specs.Plan.{spare_bits, named};

@@ -1,5 +1,7 @@
 // The plan checker: a plan of either edition is judged for an order by 10 to 14 and 30 to 36. What a plan record is and what each number
 // means stands in crate `plan`; specs/Solutions.antt says which byte strings are accepted, in Surynek's words. `check` is the entry point.
+#![tactic(auto)]
+
 ghost use Rattle.std.specs.Prelude.{◌≡◌, cond, [], ◌∷◌, ◌+◌, ◌*◌, ◌^◌, ◌≤◌, ◌<◌, length};
 ghost use Rattle.answers.specs.Answer.{accepted, PassedUp};
 ghost use Rattle.field.specs.Listed.{move_size, listed_moves};

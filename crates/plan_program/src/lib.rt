@@ -1,4 +1,6 @@
 // The plan program on its whole input. specs/Printed.antt says what it writes, field's specs/Writing.antt what it leaves in the lent bytes.
+#![tactic(auto)]
+
 ghost use Rattle.plan_program.specs.Printed.{Printed};
 
 use planner::PlannerVerdict;

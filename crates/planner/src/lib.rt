@@ -1,5 +1,7 @@
 // The planner: an order is judged, the buffer measured, and the plan's moves are made behind its head, by crate `method`.
 // specs/Planner.antt has the answers and the buffer afterwards; `make` is the entry point.
+#![tactic(auto)]
+
 ghost use Rattle.std.specs.Prelude.{[], ◌∷◌};
 ghost use Rattle.answers.specs.Answer.{accepted, PassedUp};
 ghost use Rattle.floor.specs.Verdict.{answer_of as floorAnswerOf};

@@ -1,5 +1,7 @@
 // The fields of the records written (document 01, "Records"): positions, pairs, moves with their racks, and the head with its count.
 // Crate `field` has what they are and reads them; specs/Head.antt says what the three bytes of a head are.
+#![tactic(auto)]
+
 ghost use Rattle.std.specs.Prelude.{◌≡◌, true, [], ◌∷◌, ◌+◌, ◌*◌, ◌/◌, ◌^◌, ◌≤◌, ◌<◌, length};
 ghost use Rattle.field.specs.Packing.{put_position, put_positions, put_pair};
 ghost use Rattle.field.specs.Listed.{move_size, units, RackFits};

@@ -1,5 +1,7 @@
 // The circle of a ring floor, and the order of the racks round it. A floor is a row of sets: `rows[a]` has the positions that edges join
 // to a. A circle is a row of its positions in their order round it; places on it are counted from 0.
+#![tactic(auto)]
+
 ghost use Rattle.std.specs.Prelude.{true, ◌↔◌, ◌≢◌, ◌≡◌, ℕ, ◌≤◌, ◌<◌, get_or};
 ghost use Rattle.graph.specs.Connected.{Ring};
 ghost use Rattle.graph.specs.EdgeCount.{edge_count};

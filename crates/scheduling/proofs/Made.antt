@@ -61,7 +61,7 @@ steps_few (ms ∷ steps) h = omega (arith, h ms (Memᴰ.head refl), steps_few st
 
 pub leads_size : (F : Floor) {A B : Arrangement} {steps : List (List (ℕ × ℕ))} → LeadsSteps F A steps B → (ms : List (ℕ × ℕ))
     → Memᴰ ms steps → length ms ≤ min (length A) (F.positions - 1)
-leads_size F still ms k = absurd (Memᴰ.not_nil k)
+leads_size F still ms k = absurd (Memᴰ.not-nil k)
 leads_size F (◌then◌ {A = A} {x = x} {xs = steps} l p) ms k =
     by_member k (λ e. rw e (omega (arith, step_size x ((legal_step_iff F A x).0 l)))) (λ n. rw (after-length A x) at (leads_size F p ms n))
 

@@ -70,11 +70,11 @@ pub step_moves_none : (F : Floor) (A : Arrangement) (at : ℕ → ℕ) → StepM
 step_moves_none F A at =
     record {
       lefts = Pairwise.nil;
-      joins = λ m k. absurd (Memᴰ.not_nil k);
-      held = λ m k. absurd (Memᴰ.not_nil k);
-      alone = λ m m' k. absurd (Memᴰ.not_nil k);
-      apart = λ m k. absurd (Memᴰ.not_nil k);
-      trains = λ m k. absurd (Memᴰ.not_nil k);
+      joins = λ m k. absurd (Memᴰ.not-nil k);
+      held = λ m k. absurd (Memᴰ.not-nil k);
+      alone = λ m m' k. absurd (Memᴰ.not-nil k);
+      apart = λ m k. absurd (Memᴰ.not-nil k);
+      trains = λ m k. absurd (Memᴰ.not-nil k);
       leads = after_nothing A;
     }
 

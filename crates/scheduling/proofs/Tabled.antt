@@ -119,7 +119,7 @@ agrees_started A first =
       leavings = λ p h. zeros_at 64 p;
       entries = λ i p h k. zeros_at 262144 (i * 64 + p);
       greatest_is = refl;
-      within = λ i x n. absurd (Memᴰ.not_nil n);
+      within = λ i x n. absurd (Memᴰ.not-nil n);
     }
 
 module _ (F : Floor) (few : F.positions ≤ 64) (A : Arrangement) (l : List Timed) (first : ℕ) (P : Pass) (sound : Sound F.positions A)

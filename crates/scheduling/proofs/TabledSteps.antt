@@ -64,7 +64,7 @@ pub record Entered (t : List ℕ) (i p k : ℕ) (x : ℕ × ℕ) : Type 0 where
 
 row_to : (t : List ℕ) (i p k : ℕ) (x : ℕ × ℕ) → Memᴰ x (row_from t i p k) → Entered t i p k x
 unfolding row_from
-row_to t i p zero x n = absurd (mathlib.Core.List.Memᴰ.not_nil n)
+row_to t i p zero x n = absurd (mathlib.Core.List.Memᴰ.not-nil n)
 row_to t i p (suc k) x n =
     ⊎_elim
     (λ (z : get_or t (i * 64 + p) 0 ≡ 0). let e = row_to t i (p + 1) k x (rw (row_none t i p k z) at n) in later e)
@@ -117,7 +117,7 @@ row-ascends t i p (suc k) =
 pub entry_iff : (l : List Timed) (i : ℕ) (x : ℕ × ℕ) → KeysDiffer left (in_step i l)
     → (entry_of l i x.0 ≡ suc x.1) ↔ Memᴰ x (in_step i l)
 unfolding in_step entry_of
-entry_iff [] i x d = (λ e. absurd (omega arith), λ n. absurd (mathlib.Core.List.Memᴰ.not_nil n))
+entry_iff [] i x d = (λ e. absurd (omega arith), λ n. absurd (mathlib.Core.List.Memᴰ.not-nil n))
 entry_iff (t ∷ l) i x d =
     ⊎_elim
     (λ (e : t.step ≡ i).

@@ -227,7 +227,7 @@ steps_length_lem (suc k) i l = ap suc (steps_length_lem k (suc i) l)
 pub steps_at : (k i : ℕ) (l : List Timed) (ms : List (ℕ × ℕ)) → Memᴰ ms (steps_from i k l)
     → (j : ℕ) × (i ≤ j) × (j < i + k) × (ms ≡ moves_in j l)
 unfolding steps_from
-steps_at zero i l ms n = absurd (Memᴰ.not_nil n)
+steps_at zero i l ms n = absurd (Memᴰ.not-nil n)
 steps_at (suc k) i l ms n =
     by_member {C = (j : ℕ) × (i ≤ j) × (j < i + suc k) × (ms ≡ moves_in j l)} n (λ e. (i, omega arith, omega arith, e))
     (λ n. let w = steps_at k (suc i) l ms n in (w.0, omega (arith, w.1), omega (arith, w.2), w.3))
@@ -250,7 +250,7 @@ in_step-turned i (t ∷ l) k =
     (equal? t.step i)
 
 turned_iff : (xs ys : List (ℕ × ℕ)) (z : ℕ × ℕ) → Memᴰ z (reverse_aux xs ys) ↔ (Memᴰ z xs ⊎ Memᴰ z ys)
-turned_iff [] ys z = (inr, ⊎_elim (λ k. absurd (Memᴰ.not_nil k)) (λ k. k))
+turned_iff [] ys z = (inr, ⊎_elim (λ k. absurd (Memᴰ.not-nil k)) (λ k. k))
 turned_iff (x ∷ xs) ys z =
     let w = turned_iff xs (x ∷ ys) z in (
       λ k. ⊎_elim (λ n. inl (Memᴰ.tail n)) (λ n. by_member n (λ e. inl (Memᴰ.head e)) inr) (w.0 k),
@@ -259,7 +259,7 @@ turned_iff (x ∷ xs) ys z =
 
 turned-differ : (xs ys : List (ℕ × ℕ)) → KeysDiffer left (reverse_aux xs ys)
     → KeysDiffer left xs × KeysDiffer left ys × ((x y : ℕ × ℕ) → Memᴰ x xs → Memᴰ y ys → x.0 ≢ y.0)
-turned-differ [] ys d = (Pairwise.nil, d, λ x y k. absurd (Memᴰ.not_nil k))
+turned-differ [] ys d = (Pairwise.nil, d, λ x y k. absurd (Memᴰ.not-nil k))
 turned-differ (x ∷ xs) ys d =
     let w = turned-differ xs (x ∷ ys) d in (
       pairwise_more (λ a b. ¬_prop) (λ y k e. w.2 y x k (Memᴰ.head refl) (sym e)) w.0,
@@ -274,7 +274,7 @@ sort-turned xs d =
     let a = sort_iff x (reverse xs) in
     let b = sort_iff x xs in
     let w = turned_iff xs [] x in
-    (λ k. b.1 (⊎_elim (λ n. n) (λ n. absurd (Memᴰ.not_nil n)) (w.0 (a.0 k))), λ k. a.1 (w.1 (inl (b.0 k)))))
+    (λ k. b.1 (⊎_elim (λ n. n) (λ n. absurd (Memᴰ.not-nil n)) (w.0 (a.0 k))), λ k. a.1 (w.1 (inl (b.0 k)))))
 
 turned_differs : (i : ℕ) (l : List Timed) → KeysDiffer left (in_step i (reverse l)) → moves_in i (reverse l) ≡ moves_in i l
 unfolding moves_in in_step

@@ -2,6 +2,8 @@
 // specs/Making.antt has the rule, specs/Maker.antt the answer and the buffer afterwards; `make` is the entry point. A pass over the plan
 // fills a window of 4096 steps (crates/passing), which is then written; most plans need one. specs/Windows.antt has the steps window by
 // window.
+#![tactic(auto)]
+
 ghost use Rattle.std.specs.Prelude.{◌≡◌, [], ◌∷◌, ◌+◌, ◌*◌, ◌^◌, ◌≤◌, ◌<◌, length};
 ghost use Rattle.answers.specs.Answer.{accepted, PassedUp};
 ghost use Rattle.field.specs.Listed.{move_size, moves_at};

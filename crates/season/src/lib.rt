@@ -1,5 +1,7 @@
 // The season report: order and timetable pairs, one after another, counted by the timetable checker's verdicts. specs/Season.antt says what
 // is reported. A season may have any length; each pair's bytes are read a bounded number of times, and nothing is kept but the totals.
+#![tactic(auto)]
+
 ghost use Rattle.std.specs.Prelude.{◌≡◌, ◌+◌, ◌*◌, ◌^◌, ◌<◌};
 ghost use Rattle.timetable.specs.Timetable.{timetable_answer};
 ghost use Rattle.season.specs.Season.{counted, season_answer, parallelism, answer_of, told_by};
@@ -12,7 +14,7 @@ use timetable::TimetableVerdict;
 const MOST: u32 = 65535;
 
 // Pairs accepted and refused, and the steps and the moves of the accepted ones, in all.
-#[derive(Drop)]
+#[derive(Clone, Copy)]
 pub struct Totals {
     pub accepted: u64,
     pub refused: u64,

@@ -1,5 +1,7 @@
 // The season program on its whole input. specs/Printed.antt says what it prints, field's specs/Writing.antt what a writer leaves in the
 // buffer, byte for byte, and where the next one begins.
+#![tactic(auto)]
+
 ghost use Rattle.field.specs.Writing.{Fits, Wrote};
 ghost use Rattle.season.specs.Season.{told_by};
 ghost use Rattle.season_program.specs.Printed.{count_line, quotient_text, count_lines, parallelism_line, report_text, season_text};

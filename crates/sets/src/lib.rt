@@ -1,4 +1,6 @@
 // Sets of positions: position p is in the set s where bit p of the word s is 1. A union is `|` and an intersection `&`.
+#![tactic(auto)]
+
 ghost use Rattle.std.specs.Prelude.{true, ◌↔◌, ◌≢◌, ◌⊎◌, ◌≡◌, ℕ, ◌≤◌, ◌<◌};
 ghost use Rattle.std.specs.Int.Count.{ones};
 ghost use Rattle.sets.specs.Sets.{Has};

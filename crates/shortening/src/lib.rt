@@ -1,6 +1,8 @@
 // The shortener: of a plan of either edition that the plan checker accepts it takes away the moves that cancel. specs/Rule.antt has the
 // rule, specs/Shortener.antt the answer and the buffer afterwards; `shorten` is the entry point. One pass over the plan marks the moves
 // that are kept (crate `cancelling`), a second one writes them, each with the rack that it names.
+#![tactic(auto)]
+
 ghost use Rattle.std.specs.Prelude.{◌≡◌, [], ◌∷◌, ◌+◌, ◌*◌, ◌/◌, ◌^◌, ◌≤◌, ◌<◌, length};
 ghost use Rattle.answers.specs.Answer.{accepted, PassedUp};
 ghost use Rattle.field.specs.Listed.{move_size};

@@ -1,6 +1,8 @@
 // Positions cleared and racks brought: a position is cleared by the nearest vacancy that can come to it, and a rack is brought to a
 // position along a way that is cleared before it. specs/Distance.antt and specs/Cleared.antt say what that means; `clear`, `clear_within`
 // and `bring` are the entry points.
+#![tactic(auto)]
+
 ghost use Rattle.std.specs.Prelude.{◌≡◌, ◌+◌, ◌-◌, ◌≤◌, ◌<◌};
 ghost use Rattle.sets.specs.Sets.{Has};
 ghost use Rattle.graph.specs.Connected.{Robust};

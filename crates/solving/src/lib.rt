@@ -1,5 +1,7 @@
 // From one arrangement of a floor to another: the heart of the planner. Whatever the two are, a floor with a breakdown leads from the one
 // to the other in at most 4 × n × n × n moves.
+#![tactic(auto)]
+
 ghost use Rattle.std.specs.Prelude.{◌≡◌, ◌+◌, ◌-◌, ◌*◌, ◌≤◌, length};
 ghost use Rattle.graph.specs.Connected.{BiConnected};
 ghost use Rattle.graph.specs.Rows.{row, Edge, Rows};

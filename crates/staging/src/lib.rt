@@ -12,10 +12,12 @@
 //     weights  64 for each rack: what it weighs at each position
 //     togo     16 tables of 4096 entries, one for a stage: 64 for each place of the rack, one for each place of the vacancy
 //     shifts   the moves that shift the goal, the position left times 64 and the position entered
+#![tactic(auto)]
+
 ghost use Rattle.std.specs.Prelude.{◌≤◌, ◌<◌};
 
 // How many stages there are, how many positions are vacant, and how many moves shift the goal.
-#[derive(Drop)]
+#[derive(Clone, Copy)]
 pub struct Prepared {
     pub stages: usize,
     pub vacancies: usize,

@@ -56,7 +56,7 @@ origins_other w (m ∷ ms) q away =
 pub origins_entered : (w : List ℕ) (ms : List (ℕ × ℕ)) {m : ℕ × ℕ} → EnteredOnce ms → Memᴰ m ms → m.1 < length w
     → get_or (origins_of w ms) m.1 0 ≡ m.0 + 1
 unfolding origins_of
-origins_entered w [] o k l = absurd (mathlib.Core.List.Memᴰ.not_nil k)
+origins_entered w [] o k l = absurd (mathlib.Core.List.Memᴰ.not-nil k)
 origins_entered w (x ∷ ms) {m} o k l =
     by_member k
     (λ e.
@@ -77,7 +77,7 @@ origins_low w (more₂ {p = m} {l = ms} a b r) n low =
     (equal? q m.1))
 
 below_entered : {ms : List (ℕ × ℕ)} → BelowPairs 64 ms → {y : ℕ × ℕ} → Memᴰ y ms → y.1 < 64
-below_entered none₂ k = absurd (mathlib.Core.List.Memᴰ.not_nil k)
+below_entered none₂ k = absurd (mathlib.Core.List.Memᴰ.not-nil k)
 below_entered (more₂ {p = m} a b r) {y} k = by_member k (λ e. subst (λ (x : ℕ × ℕ). x.1 < 64) (sym e) b) (λ n. below_entered r n)
 
 -- the moves of the row
@@ -141,7 +141,7 @@ module _ (w : List ℕ) (p k : ℕ) (m : ℕ × ℕ) (rest : Memᴰ m (row_moves
 
 pub row_iff : (w : List ℕ) (p k : ℕ) (m : ℕ × ℕ) → Memᴰ m (row_moves w p k) ↔ Has w p k m
 row_iff w p zero m = (
-  λ n. absurd (mathlib.Core.List.Memᴰ.not_nil (subst (Memᴰ m) (row_end w p) n)),
+  λ n. absurd (mathlib.Core.List.Memᴰ.not-nil (subst (Memᴰ m) (row_end w p) n)),
   λ h. let low : p ≤ m.0 = h.0 in let high : m.0 < p + 0 = h.1 in absurd (omega arith),
 )
 row_iff w p (suc k) m =

@@ -1,5 +1,7 @@
 // One step of a lent timetable on a table of racks: run, or taken back, which is run with its moves turned round. specs/Judging.antt says
 // what that means; `run_lent` and `take_back_lent` are the entry points.
+#![tactic(auto)]
+
 ghost use Rattle.std.specs.Prelude.{◌≡◌, ◌≤◌, length};
 ghost use Rattle.order.specs.Order.{floor_of, WellFormed};
 ghost use Rattle.motion.specs.Step.{every};

@@ -1,5 +1,7 @@
 // Replay on tables: the laws in proofs/ say how a matrix of edges and a table of racks stand for a floor and an arrangement. Here is what
 // the plan checker and the timetable checker share: how a replay ended, and the test that both end with.
+#![tactic(auto)]
+
 ghost use Rattle.std.specs.Prelude.{◌≡◌, ◌+◌, ◌*◌, ◌≤◌, length};
 ghost use Rattle.field.specs.Bits.{positions};
 ghost use Rattle.tables.specs.Tables.{MisplacedOn};

@@ -1,5 +1,7 @@
 // The timetable program and the text that it prints, written into a lent buffer. specs/Program.antt and specs/Text.antt say what is
 // printed, field's specs/Writing.antt what a writer leaves in the buffer, byte for byte, and where the next one begins.
+#![tactic(auto)]
+
 ghost use Rattle.std.specs.Prelude.{◌≡◌, false, ◌*◌, ◌≤◌, length, get_or};
 ghost use Rattle.answers.specs.Answer.{number_of};
 ghost use Rattle.field.specs.Bits.{pairs};

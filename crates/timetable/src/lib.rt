@@ -2,6 +2,8 @@
 // (45). specs/Timetable.antt says what a timetable record is and what each number means; specs/Reading.antt and specs/Checking.antt give
 // the verdicts document 01's numbers and values. `read`, `find_step` and `step` are the entry points; `record_length` says where a
 // timetable ends that other bytes follow. Crate `timetable_check` judges a timetable for an order.
+#![tactic(auto)]
+
 ghost use Rattle.std.specs.Prelude.{◌≡◌, false, ◌≤◌, ◌<◌, length, get_or, drop};
 ghost use Rattle.timetable.specs.Timetable.{step_length, step_pad_set, wrong_timetable_length, step_count};
 ghost use Rattle.timetable.specs.Timetable.{offset, step_answer};

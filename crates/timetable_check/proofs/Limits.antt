@@ -30,7 +30,7 @@ use Rattle.timetable_check.proofs.Leading.{accepted_leads}
 
 leads_legal : (F : Floor) {A B : Arrangement} {steps : List (List (ℕ × ℕ))} → LeadsSteps F A steps B
     → (ms : List (ℕ × ℕ)) → Memᴰ ms steps → (C : Arrangement) × LegalStep F C ms × (length C ≡ length A)
-leads_legal F still ms k = absurd (Memᴰ.not_nil k)
+leads_legal F still ms k = absurd (Memᴰ.not-nil k)
 leads_legal F (◌then◌ {A = A} {x = x} l rest) ms k =
     by_member k (λ e. (A, subst (LegalStep F A) (sym e) ((legal_step_iff F A x).0 l), refl))
     (λ n. let there = leads_legal F rest ms n in (there.0, there.1, there.2 ∙ after-length A x))

@@ -79,7 +79,7 @@ length_none (x ∷ l) h = absurd (omega arith)
 
 -- without a rack no step can move one
 rackless : (F : Floor) {A B : Arrangement} {steps : List (List (ℕ × ℕ))} → length A ≡ 0 → LeadsSteps F A steps B → Waiting steps
-rackless F none still ms k = absurd (Memᴰ.not_nil k)
+rackless F none still ms k = absurd (Memᴰ.not-nil k)
 rackless F none (◌then◌ {A = A} {x = x} l rest) ms k =
     by_member k
     (λ e. e ∙ length_none x (omega (arith, none, step_racks ((legal_step_iff F A x).0 l))))
@@ -121,7 +121,7 @@ module _ (o s v : List ℕ) (w : WellFormed o) where
 
   pub no_steps : step_count s ≡ 0 → (timetable_answer o s ≡ accepted v) ↔ StillTimetable o s v
   no_steps none =
-      still_timetables (λ l ms k. absurd (Memᴰ.not_nil (subst (Memᴰ ms) (length_none (steps_of s) (count_steps s ∙ none)) k)))
+      still_timetables (λ l ms k. absurd (Memᴰ.not-nil (subst (Memᴰ ms) (length_none (steps_of s) (count_steps s ∙ none)) k)))
 
 -- the timetable without steps
 nothing-packed : WellPacked (0x00 ∷ 0x00 ∷ 0x00 ∷ [])
@@ -140,7 +140,7 @@ nothing o w =
           by.1
           (record {
             packed_right = nothing-packed;
-            waits = λ ms k. absurd (Memᴰ.not_nil (subst (Memᴰ ms) (length_none _ (count_steps _ ∙ nothing-counted)) k));
+            waits = λ ms k. absurd (Memᴰ.not-nil (subst (Memᴰ ms) (length_none _ (count_steps _ ∙ nothing-counted)) k));
             counted = ap (λ (k : ℕ). k ∷ 0 ∷ []) nothing-counted;
             settled = e;
           }),

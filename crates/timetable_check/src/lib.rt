@@ -1,6 +1,8 @@
 // The timetable checker: a byte string is judged for an order, by 10 to 14, 40 and 41, and its steps are replayed on tables, for 42 and 43.
 // What each number means stands in crate `timetable`; specs/Solutions.antt says which byte strings are accepted, in Surynek's words.
 // `check` is the entry point.
+#![tactic(auto)]
+
 ghost use Rattle.std.specs.Prelude.{◌≡◌, false, [], ◌∷◌, ◌+◌, ◌*◌, ◌^◌, ◌≤◌, ◌<◌, length, get_or};
 ghost use Rattle.answers.specs.Answer.{accepted, PassedUp};
 ghost use Rattle.order.specs.Verdict.{answer_of as orderAnswerOf};

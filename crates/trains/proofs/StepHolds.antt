@@ -63,7 +63,7 @@ taken_up_none h (m ∷ ms) q l e =
 
 pub taken_up-left : (h : List ℕ) (ms : List (ℕ × ℕ)) {m : ℕ × ℕ} → Memᴰ m ms → m.0 < length h → get_or (taken_up h ms) m.0 0 ≡ 0
 unfolding taken_up
-taken_up-left h [] k l = absurd (Memᴰ.not_nil k)
+taken_up-left h [] k l = absurd (Memᴰ.not-nil k)
 taken_up-left h (x ∷ ms) {m} k l =
     by_member k
     (λ e. taken_up_none (set h x.0 0) ms m.0 (rw (length-set h x.0 0) l) (rw (← e) (get_or-set_same h m.0 0 0 l)))
@@ -80,7 +80,7 @@ put_down_other b h (m ∷ ms) q away =
 pub put_down-entered : (b h : List ℕ) (ms : List (ℕ × ℕ)) {m : ℕ × ℕ} → EnteredOnce ms → Memᴰ m ms → m.1 < length h
     → get_or (put_down b h ms) m.1 0 ≡ get_or b m.0 0
 unfolding put_down
-put_down-entered b h [] o k l = absurd (Memᴰ.not_nil k)
+put_down-entered b h [] o k l = absurd (Memᴰ.not-nil k)
 put_down-entered b h (x ∷ ms) {m} o k l =
     by_member k
     (λ e.

@@ -1,5 +1,7 @@
 // One step of a timetable on tables: judged, and made if it is legal. specs/StepOn.antt says what that means; proofs/LegalOn.antt says that
 // it is document 01's legal step. `run_entries` takes a step as the numbers of its moves, `run_step` as the record has it.
+#![tactic(auto)]
+
 ghost use Rattle.std.specs.Prelude.{◌≡◌, true, ◌+◌, ◌*◌, ◌≤◌, leb, length};
 ghost use Rattle.field.specs.Bits.{pairs};
 ghost use Rattle.chains.specs.StepOn.{entries, legal_step_on, taken_up, put_down, step_on, ran_on};

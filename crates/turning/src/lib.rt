@@ -1,5 +1,7 @@
 // A cycle turned by one place, and a log taken back: runs of single moves. specs/Turned.antt and specs/Undone.antt say what they do; `turn`
 // and `undo` are the entry points.
+#![tactic(auto)]
+
 ghost use Rattle.std.specs.Prelude.{◌≡◌, ◌-◌};
 ghost use Rattle.graph.specs.Rows.{row};
 ghost use Rattle.moving.specs.Journey.{state_of, Fits, Space};

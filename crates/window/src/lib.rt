@@ -1,6 +1,8 @@
 // One pass over a stretch of a plan: the making rule's step of each move, by a row of the positions in place of the moves before it, and
 // the window of 4096 steps that is filled with those of its steps. specs/Filling.antt has the pass and the window, specs/Rows.antt the
 // row; `fill` is the entry point.
+#![tactic(auto)]
+
 ghost use Rattle.std.specs.Prelude.{◌≡◌, ◌+◌, ◌-◌, ◌*◌, ◌^◌, ◌≤◌, ◌<◌, max, min, length};
 ghost use Rattle.field.specs.Listed.{move_size, moves_at};
 ghost use Rattle.window.specs.Rows.{KeepsLeft};

@@ -1,6 +1,8 @@
 // Writers of text into a lent buffer, one behind another: a byte, a number in decimal, bytes as they are, and the line of a refusal.
 // specs/Lines.antt says what the text is, field's specs/Writing.antt what a writer leaves in the buffer, byte for byte, and where the next
 // one begins.
+#![tactic(auto)]
+
 ghost use Rattle.std.specs.Prelude.{[], ◌∷◌};
 ghost use Rattle.answers.specs.Family.{family_word};
 ghost use Rattle.field.specs.Writing.{Fits, Wrote};

@@ -1,0 +1,98 @@
+-- `carry::make` meets its contract: a refusal of the order reader is passed up, and `Making` has the answers above its acceptance.
+-- Assumes nothing.
+use mathlib.Core.Path.{ap, sym, ◌∙◌}
+use mathlib.Core.Bool.{false≢true}
+use native.Mathlib.Omega.{arith}
+use borrow.Author.Rules.{rules}
+use borrow.Author.Tests.{not-true, not-false}
+use Rattle.answers.proofs.AnswerLaws.{passed_up}
+use Rattle.order.specs.Verdict.{answer_of as orderAnswerOf}
+use Rattle.tables.proofs.AcceptedLaws.{order_accepted}
+use Rattle.floor.proofs.FloorRows.{filled_rows}
+use Rattle.carry.proofs.Making.{carry_refused, some_position, carry-apart, carry_short}
+use Rattle.carry.proofs.Making.{way_nearest, places_below, moves_room, part_back, carry-made}
+use Rattle.carry.proofs.make.Goals as goal
+
+pub make_spec : {M : Type 1} → statement M
+make_spec =
+    tie.close
+    (tie.spec
+    (λ c κs. search rules) (λ c. search rules) (λ c. search rules) (λ c κs. search rules) returns is-connected-requires returns-2 sub-if2
+    mul-if2 add-if2 add-if2-2 returns-3 dearest-requires below-requires only-requires search-requires (λ c. search rules)
+    (λ c. search rules) (λ c. search rules) list-way-requires put-head-requires (λ c. search rules) returns-4)
+
+pub returns-in_default : goal.returns-in_default
+returns-in_default c =
+    let all = carry_refused c.args.order.now c.args.buffer.now _ _ _ _ c.decode-below.ensures.result_value
+    (ap orderAnswerOf c.in_default.is) (passed_up c.passed_up.ensures) in
+    record {
+      result_value = all.0;
+      buffer_after = all.1;
+    }
+
+pub is_connected-requires : goal.is_connected-requires
+is_connected-requires c = (filled_rows (order_accepted c.decode-below.ensures.result_value c.in-Accepted.is) c.decode-below.ensures.rows_after)
+
+pub returns-then-not-is_connected : goal.returns-then-not-is_connected
+returns-then-not-is_connected c =
+    let all = carry-apart c.args.order.now c.args.buffer.now (order_accepted c.decode-below.ensures.result_value c.in-Accepted.is) c.decode-below.ensures.rows_after
+    (λ w. false≢true (sym (not-true _ c.if-not-is_connected.true-raw) ∙ c.is_connected.ensures.1 w)) in
+    record {
+      result_value = all.0;
+      buffer_after = all.1;
+    }
+
+pub overflow_sub-n : goal.overflow_sub-n
+overflow_sub-n c = omega (arith, (some_position ((order_accepted c.decode-below.ensures.result_value c.in-Accepted.is) c)))
+
+pub overflow_mul-n : goal.overflow_mul-n
+overflow_mul-n c = omega (arith, (some_position ((order_accepted c.decode-below.ensures.result_value c.in-Accepted.is) c)), (((filled_rows (order_accepted c.decode-below.ensures.result_value c.in-Accepted.is) c.decode-below.ensures.rows_after) c).small))
+
+pub overflow_add-n : goal.overflow_add-n
+overflow_add-n c = omega (arith, (some_position ((order_accepted c.decode-below.ensures.result_value c.in-Accepted.is) c)), (((filled_rows (order_accepted c.decode-below.ensures.result_value c.in-Accepted.is) c.decode-below.ensures.rows_after) c).small))
+
+pub overflow_add-n-2 : goal.overflow_add-n-2
+overflow_add-n-2 c = omega (arith, (some_position ((order_accepted c.decode-below.ensures.result_value c.in-Accepted.is) c)), (((filled_rows (order_accepted c.decode-below.ensures.result_value c.in-Accepted.is) c.decode-below.ensures.rows_after) c).small))
+
+pub returns-then-buffer-n : goal.returns-then-buffer-n
+returns-then-buffer-n c =
+    let all = carry_short c.args.order.now c.args.buffer.now (order_accepted c.decode-below.ensures.result_value c.in-Accepted.is) c.decode-below.ensures.rows_after (c.is_connected.ensures.0 (not-false _ c.if-not-is_connected.false-raw)) c.if-buffer-n.true in
+    record {
+      result_value = all.0;
+      buffer_after = all.1;
+    }
+
+pub dearest-carry-requires : goal.dearest-carry-requires
+dearest-carry-requires c =
+    (omega (arith, (some_position ((order_accepted c.decode-below.ensures.result_value c.in-Accepted.is) c))), (filled_rows (order_accepted c.decode-below.ensures.result_value c.in-Accepted.is) c.decode-below.ensures.rows_after), (c.is_connected.ensures.0 (not-false _ c.if-not-is_connected.false-raw)))
+
+pub below-requires : goal.below-requires
+below-requires c = (((filled_rows (order_accepted c.decode-below.ensures.result_value c.in-Accepted.is) c.decode-below.ensures.rows_after) c).small)
+
+pub only-requires : goal.only-requires
+only-requires c =
+    omega (arith, c.dearest-carry.ensures.goal_below, (((filled_rows (order_accepted c.decode-below.ensures.result_value c.in-Accepted.is) c.decode-below.ensures.rows_after) c).small))
+
+pub search-way-requires : goal.search-way-requires
+search-way-requires c = record {
+      symmetric = (filled_rows (order_accepted c.decode-below.ensures.result_value c.in-Accepted.is) c.decode-below.ensures.rows_after).symmetric;
+      from_bound = omega (arith, c.dearest-carry.ensures.start_below, (((filled_rows (order_accepted c.decode-below.ensures.result_value c.in-Accepted.is) c.decode-below.ensures.rows_after) c).small));
+    }
+
+pub list_way-requires : goal.list_way-requires
+list_way-requires c = let f = (record { (order_accepted c.decode-below.ensures.result_value c.in-Accepted.is) = (order_accepted c.decode-below.ensures.result_value c.in-Accepted.is) (c c); filled = (c (c c)).decode.ensures.1.0; (c.is_connected.ensures.0 (not-false _ c.if-not-is_connected.false-raw)) = (c.is_connected.ensures.0 (not-false _ c.if-not-is_connected.false-raw)) c; room = c.if-buffer-n.false; dear = c.dearest-carry.ensures; size = c.search-way.result.size; way = way_nearest (c.in-Accepted.counts (c c)).positions c.below.result c.only.result _ _ _ (c.decode-below.new.rows (c c)) c.search-way.result.at c.below.ensures c.only.ensures c.search-way.ensures; }) in
+    record {
+      k_bound = places_below f;
+      k_in_bounds = moves_room f;
+    }
+
+pub put_head-requires : goal.put_head-requires
+put_head-requires c = part_back (record { (order_accepted c.decode-below.ensures.result_value c.in-Accepted.is) = (order_accepted c.decode-below.ensures.result_value c.in-Accepted.is) (c c); filled = (c (c c)).decode.ensures.1.0; (c.is_connected.ensures.0 (not-false _ c.if-not-is_connected.false-raw)) = (c.is_connected.ensures.0 (not-false _ c.if-not-is_connected.false-raw)) c; room = c.if-buffer-n.false; dear = c.dearest-carry.ensures; size = c.search-way.result.size; way = way_nearest (c.in-Accepted.counts (c c)).positions c.below.result c.only.result _ _ _ (c.decode-below.new.rows (c c)) c.search-way.result.at c.below.ensures c.only.ensures c.search-way.ensures; }) _
+
+pub returns : goal.returns
+returns c =
+    let all = carry-made (record { (order_accepted c.decode-below.ensures.result_value c.in-Accepted.is) = (order_accepted c.decode-below.ensures.result_value c.in-Accepted.is) (c c); filled = (c (c c)).decode.ensures.1.0; (c.is_connected.ensures.0 (not-false _ c.if-not-is_connected.false-raw)) = (c.is_connected.ensures.0 (not-false _ c.if-not-is_connected.false-raw)) c; room = c.if-buffer-n.false; dear = c.dearest-carry.ensures; size = c.search-way.result.size; way = way_nearest (c.in-Accepted.counts (c c)).positions c.below.result c.only.result _ _ _ (c.decode-below.new.rows (c c)) c.search-way.result.at c.below.ensures c.only.ensures c.search-way.ensures; }) c.list_way.ensures c.put_head.ensures in
+    record {
+      result_value = all.0;
+      buffer_after = all.1;
+    }

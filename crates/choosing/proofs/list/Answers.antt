@@ -1,0 +1,14 @@
+-- `choosing::list` meets its contract: the room keeps its length.
+-- Assumes nothing.
+use borrow.Author.Rules.{rules}
+use Rattle.field.specs.Listed.{move_size}
+use Rattle.choosing.proofs.list.Goals as goal
+
+pub put_listed-requires : goal.put_listed-requires
+unfolding move_size
+put_listed-requires c =
+    let all = search rules in
+    record {
+      a_bound = all.0;
+      j_in_bounds = all.1;
+    }

@@ -1,0 +1,22 @@
+-- `controller::live_number` meets its contract: the verdict's answer, packed; its count and its place have 32 bits. Assumes nothing.
+use mathlib.Core.Path.{sym, ap, ◌∙◌, subst}
+use native.Mathlib.Omega.{arith}
+use Rattle.answers.proofs.AnswerLaws.{number_of-some, number_of_le}
+use Rattle.live.specs.Calls.{answer_of}
+use Rattle.packing.specs.Packed.{packed, one_count}
+use Rattle.packing.proofs.Sized.{Sized, accepts, refuses, WordCount, word_count}
+use Rattle.packing.proofs.PackedLaws.{tells, floor_steps_pack}
+use Rattle.controller.proofs.live_number.Goals as goal
+
+pub returns-in-Accepted : goal.returns-in-Accepted
+returns-in-Accepted c =
+    let is = sym (ap answer_of c.in-Accepted.is) in
+    tells floor_steps_pack (subst (Sized WordCount) is (accepts (word_count (omega arith))))
+    (c.one_count.ensures ∙ ap (packed one_count) is)
+
+pub returns-in-Refused : goal.returns-in-Refused
+returns-in-Refused c =
+    let is = sym (ap answer_of c.in-Refused.is) in
+    tells floor_steps_pack
+    (subst (Sized WordCount) is (refuses (omega (arith, number_of-some c.in-Refused.fault)) (omega (arith, number_of_le c.in-Refused.fault)) (omega arith)))
+    (c.refusal.ensures ∙ ap (packed one_count) is)

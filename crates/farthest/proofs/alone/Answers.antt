@@ -1,0 +1,24 @@
+-- `farthest::alone` meets its contract. The loop's invariant: the ball of each position before u is the position alone.
+-- Assumes nothing.
+use native.Mathlib.Omega.{arith}
+use Prim.Native.Nat.{ℕ}
+use mathlib.Core.Path.{◌≡◌}
+use mathlib.Core.Logic.{◌↔◌}
+use Rattle.sets.specs.Sets.{Has}
+use Rattle.farthest.proofs.BallLaws.{filled_none, filled_next}
+use Rattle.farthest.proofs.alone.Goals as goal
+
+-- the position alone
+abbrev Lone : ℕ → ℕ → Type 0
+Lone a s = (b : ℕ) → Has s b ↔ (b ≡ a)
+
+pub loop-u-init : goal.loop-u-init
+loop-u-init c = (omega arith, filled_none)
+
+pub loop-u-preserved : goal.loop-u-preserved
+loop-u-preserved c =
+    (omega arith, filled_next _ _ _ (omega arith) c.only.ensures c.loop-u.invariant.1)
+
+pub returns : goal.returns
+returns c =
+    record { long = c.loop-u.invariant.1.long; is = λ a b h. c.loop-u.invariant.1.entry a (omega arith) b }

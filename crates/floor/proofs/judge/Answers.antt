@@ -1,0 +1,140 @@
+-- `floor::judge` meets its contract: a refusal of the order reader is passed up, and `Layers` has the answers above its acceptance.
+-- Assumes nothing.
+use Prim.Native.Nat.{ℕ}
+use mathlib.Core.Bool.{true, false, false≢true}
+use mathlib.Core.Path.{ap, sym, subst, ◌∙◌}
+use native.Mathlib.Omega.{arith}
+use borrow.Author.Tests.{not-true, not-false}
+use Rattle.order.specs.Order.{floor_of, starts_of, goals_of}
+use Rattle.order.specs.Verdict.{answer_of as orderAnswerOf}
+use Rattle.tables.proofs.AcceptedLaws.{order_accepted}
+use Rattle.floor.specs.FloorAnswer.{SameRound}
+use Rattle.floor.proofs.FloorRows.{filled_rows}
+use Rattle.floor.proofs.Layers.{order_refused, order_handed, handed, refused_too, crowded, ring_full, ring_other, ring-plain}
+use Rattle.floor.proofs.Layers.{rows-counted, rings, ring-tables, apart, many_sided, plain}
+use Rattle.floor.proofs.judge.Goals as goal
+
+pub returns-in_default : goal.returns-in_default
+returns-in_default c =
+    let down = ap orderAnswerOf c.in_default.is in
+    let all = order_refused c.args.order.now _ _ _ _ c.decode-below.ensures.result_value down c.passed_up.ensures.result_value in
+    let none = order_handed c.args.order.now _ _ _ _ _ all c.passed_up.ensures.result_value c.passed_up.ensures.result_value_2 down in
+    record {
+      result_value = all;
+      result_value_2 = none;
+      rows_after = c.decode-below.ensures.rows_after;
+      starts_after = c.decode-below.ensures.starts_after;
+      goals_after = c.decode-below.ensures.goals_after;
+    }
+
+pub is_ring-requires : goal.is_ring-requires
+is_ring-requires c = record {
+  rows = filled_rows (order_accepted c.decode-below.ensures.result_value c.in-Accepted.is) c.decode-below.ensures.rows_after;
+  e_value = rows-counted (order_accepted c.decode-below.ensures.result_value c.in-Accepted.is) c.decode-below.ensures.rows_after;
+}
+
+pub returns-then-n-m : goal.returns-then-n-m
+returns-then-n-m c =
+    let down = ring_full (order_accepted c.decode-below.ensures.result_value c.in-Accepted.is) ((rings ((order_accepted c.decode-below.ensures.result_value c.in-Accepted.is) c) (c c).decode.ensures.1.0).0 (c.is_ring.ensures.0 c.if-is_ring.true)) c.if-n-m.true in
+    record {
+      result_value = down;
+      result_value_2 = refused_too c.args.order.now 20 0 down;
+      rows_after = c.decode-below.ensures.rows_after;
+      starts_after = c.decode-below.ensures.starts_after;
+      goals_after = c.decode-below.ensures.goals_after;
+    }
+
+pub same_round-requires : goal.same_round-requires
+same_round-requires c = ((let rows-lent = ((c c).before.before.before).before.before.before in rows-lent.before.before.args.order.now), (let d = (c (c c)).decode.ensures.1 in ring-tables ((order_accepted c.decode-below.ensures.result_value c.in-Accepted.is) (c c)) d.0 (c.is_ring.ensures.0 c.if-is_ring.true) c.if-n-m.false d.1.0 d.1.1))
+
+pub returns-then-not-same_round : goal.returns-then-not-same_round
+returns-then-not-same_round c =
+    let k = (c c) in
+    let o = (let rows-lent = (k.before.before.before).before.before.before in rows-lent.before.before.args.order.now) in
+    let down = ring_other (order_accepted k.before.before.before.decode.ensures.0 k.before.below.given.1) ((rings ((order_accepted c.decode-below.ensures.result_value c.in-Accepted.is) c) (c c).decode.ensures.1.0).0 (c.is_ring.ensures.0 c.if-is_ring.true)) c.if-n-m.false
+    (λ s. false≢true (sym (not-true _ c.if-not-same_round.true-raw) ∙ (c.same_round.ensures o (let d = (c (c c)).decode.ensures.1 in ring-tables ((order_accepted c.decode-below.ensures.result_value c.in-Accepted.is) (c c)) d.0 (c.is_ring.ensures.0 c.if-is_ring.true) c.if-n-m.false d.1.0 d.1.1)).1
+    (subst (λ (m : ℕ). SameRound (floor_of o) m (starts_of o) (goals_of o)) (sym (order_accepted k.before.before.before.decode.ensures.0 k.before.below.given.1).racks_are) s))) in
+    record {
+      result_value = down;
+      result_value_2 = refused_too o 24 0 down;
+      rows_after = k.before.before.before.decode.ensures.1.0;
+      starts_after = k.before.before.before.decode.ensures.1.1.0;
+      goals_after = k.before.before.before.decode.ensures.1.1.1;
+    }
+
+pub returns-then-is_ring : goal.returns-then-is_ring
+returns-then-is_ring c =
+    let k = (c c) in
+    let o = (let rows-lent = (k.before.before.before).before.before.before in rows-lent.before.before.args.order.now) in
+    let up = ring-plain (order_accepted k.before.before.before.decode.ensures.0 k.before.below.given.1) ((rings ((order_accepted c.decode-below.ensures.result_value c.in-Accepted.is) c) (c c).decode.ensures.1.0).0 (c.is_ring.ensures.0 c.if-is_ring.true)) c.if-n-m.false
+    (subst (λ (m : ℕ). SameRound (floor_of o) m (starts_of o) (goals_of o)) (order_accepted k.before.before.before.decode.ensures.0 k.before.below.given.1).racks_are
+    ((c.same_round.ensures o (let d = (c (c c)).decode.ensures.1 in ring-tables ((order_accepted c.decode-below.ensures.result_value c.in-Accepted.is) (c c)) d.0 (c.is_ring.ensures.0 c.if-is_ring.true) c.if-n-m.false d.1.0 d.1.1)).0 (not-false _ c.if-not-same_round.false-raw))) in
+    record {
+      result_value = up;
+      result_value_2 = handed (order_accepted k.before.before.before.decode.ensures.0 k.before.below.given.1) up;
+      rows_after = k.before.before.before.decode.ensures.1.0;
+      starts_after = k.before.before.before.decode.ensures.1.1.0;
+      goals_after = k.before.before.before.decode.ensures.1.1.1;
+    }
+
+pub overflow_add-m : goal.overflow_add-m
+overflow_add-m c = omega (arith, (order_accepted c.decode-below.ensures.result_value c.in-Accepted.is))
+
+pub returns-then-n-m-2 : goal.returns-then-n-m-2
+returns-then-n-m-2 c =
+    let down = crowded (order_accepted c.decode-below.ensures.result_value c.in-Accepted.is) (is_none c c.if-is_ring.false) (omega arith) in
+    record {
+      result_value = down;
+      result_value_2 = refused_too c.args.order.now 20 0 down;
+      rows_after = c.decode-below.ensures.rows_after;
+      starts_after = c.decode-below.ensures.starts_after;
+      goals_after = c.decode-below.ensures.goals_after;
+    }
+
+pub is_biconnected-requires : goal.is_biconnected-requires
+is_biconnected-requires c = let k = (c c) in filled_rows (order_accepted k.before.before.before.decode.ensures.0 k.before.below.given.1) k.before.before.before.decode.ensures.1.0
+
+pub returns-then-not-is_biconnected : goal.returns-then-not-is_biconnected
+returns-then-not-is_biconnected c =
+    let k = (c c) in
+    let d = k.before.before.before.decode.ensures.1 in
+    let down = apart (order_accepted k.before.before.before.decode.ensures.0 k.before.below.given.1) d.0 ((is_none c) c c.if-is_ring.false) c.if-n-m-2.false _ c.is_biconnected.ensures (not-true _ c.if-not-is_biconnected.true-raw) in
+    record {
+      result_value = down;
+      result_value_2 = refused_too (let rows-lent = (k.before.before.before).before.before.before in rows-lent.before.before.args.order.now) 21 0 down;
+      rows_after = d.0;
+      starts_after = d.1.0;
+      goals_after = d.1.1;
+    }
+
+pub is_four_sided-requires : goal.is_four_sided-requires
+is_four_sided-requires c =
+    let k = (c c) in
+    filled_rows (order_accepted k.before.before.before.decode.ensures.0 k.before.below.given.1) k.before.before.before.decode.ensures.1.0
+
+pub returns-then-not-is_four_sided : goal.returns-then-not-is_four_sided
+returns-then-not-is_four_sided c =
+    let k = (c c) in
+    let d = k.before.before.before.decode.ensures.1 in
+    let down = many_sided (order_accepted k.before.before.before.decode.ensures.0 k.before.below.given.1) d.0 ((is_none c) c c.if-is_ring.false) c.if-n-m-2.false _ c.is_biconnected.ensures
+    (not-false _ c.if-not-is_biconnected.false-raw) _ c.is_four_sided.ensures (not-true _ c.if-not-is_four_sided.true-raw) in
+    record {
+      result_value = down;
+      result_value_2 = refused_too (let rows-lent = (k.before.before.before).before.before.before in rows-lent.before.before.args.order.now) 26 0 down;
+      rows_after = d.0;
+      starts_after = d.1.0;
+      goals_after = d.1.1;
+    }
+
+pub returns : goal.returns
+returns c =
+    let k = (c c) in
+    let up = plain (order_accepted k.before.before.before.decode.ensures.0 k.before.below.given.1) k.before.before.before.decode.ensures.1.0 ((is_none c) c c.if-is_ring.false) c.if-n-m-2.false _ c.is_biconnected.ensures
+    (not-false _ c.if-not-is_biconnected.false-raw) _ c.is_four_sided.ensures (not-false _ c.if-not-is_four_sided.false-raw) in
+    record {
+      result_value = up;
+      result_value_2 = handed (order_accepted k.before.before.before.decode.ensures.0 k.before.below.given.1) up;
+      rows_after = k.before.before.before.decode.ensures.1.0;
+      starts_after = k.before.before.before.decode.ensures.1.1.0;
+      goals_after = k.before.before.before.decode.ensures.1.1.1;
+    }

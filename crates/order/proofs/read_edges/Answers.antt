@@ -1,0 +1,28 @@
+-- `order::read_edges` meets its contract: a refusal of the head reader is passed up, and `Layers` has the answers above an accepted head.
+-- Assumes nothing.
+use native.Mathlib.Omega.{arith}
+use borrow.Author.Tests.{not-true, not-false}
+use Rattle.order.specs.Readers.{edges_answer}
+use Rattle.order.proofs.Layers.{passed_down, head_gave, tail_there, tail_room, edges_wrong, edges_right}
+use Rattle.order.proofs.read_edges.Goals as goal
+
+pub returns-in_default : goal.returns-in_default
+unfolding edges_answer
+returns-in_default c = passed_down c.read_head-head.ensures c.in_default.is _
+
+pub slice_bounds-edges_sound-count : goal.slice_bounds-edges_sound-count
+slice_bounds-edges_sound-count c = tail_there (head_gave c.read_head-head.ensures c.in-Accepted.is)
+
+pub slice_bounds-edges_sound-start : goal.slice_bounds-edges_sound-start
+slice_bounds-edges_sound-start c = tail_there (head_gave c.read_head-head.ensures c.in-Accepted.is)
+
+pub edges_sound-requires : goal.edges_sound-requires
+edges_sound-requires c = omega (arith, tail_room (head_gave c.read_head-head.ensures c.in-Accepted.is))
+
+pub returns-then-not-edges_sound : goal.returns-then-not-edges_sound
+returns-then-not-edges_sound c =
+    edges_wrong (head_gave c.read_head-head.ensures c.in-Accepted.is) c.edges_sound.ensures (not-true _ c.if-not-edges_sound.true-raw)
+
+pub returns : goal.returns
+returns c =
+    edges_right (head_gave c.read_head-head.ensures c.in-Accepted.is) c.edges_sound.ensures (not-false _ c.if-not-edges_sound.false-raw)

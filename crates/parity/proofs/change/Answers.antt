@@ -1,0 +1,26 @@
+-- `parity::change` meets its contract.
+-- Assumes nothing.
+use lib.ListN.{length-set}
+use Rattle.parity.proofs.WorkLaws.{sent_next}
+use native.Mathlib.Omega.{arith}
+use Rattle.parity.proofs.change.Goals as goal
+
+pub overflow_cast-sent : goal.overflow_cast-sent
+overflow_cast-sent c =
+    omega (arith, c.requires.few, c.requires.below c.loop-p.p c.loop-p-test.true)
+
+pub bounds-at-starts : goal.bounds-at-starts
+bounds-at-starts c =
+    omega (arith, c.requires.few, c.requires.below c.loop-p.p c.loop-p-test.true)
+
+pub loop-p-preserved : goal.loop-p-preserved
+loop-p-preserved c = (
+  omega arith,
+  (
+    simp length-set c.loop-p.invariant.1.0,
+    sent_next c.args.starts.now c.args.at.now c.loop-p.sent c.loop-p.p c.loop-p.invariant.1.0 (omega (arith, c.requires.few)) c.loop-p.invariant.1.1,
+  ),
+)
+
+pub returns : goal.returns
+returns c = λ p h. c.loop-p.invariant.1.1 p (omega arith)

@@ -1,0 +1,49 @@
+-- `timetable::step` meets its contract: `StepReader` has the part that is given back. Assumes nothing.
+use native.Mathlib.Omega.{arith}
+use mathlib.Core.Path.{sym, ap, ◌∙◌}
+use Rattle.timetable.specs.Reading.{answer_of_step}
+use Rattle.timetable.proofs.StepReader.{part_given_lem}
+use Rattle.timetable.proofs.HandedOut.{given_none, none_place, given_place, end_within}
+use borrow.Author.Rules.{rules}
+use Rattle.timetable.proofs.step.Goals as goal
+
+pub step_spec : {M : Type 1} → statement M
+step_spec =
+    tie.close
+    (tie.spec
+    (λ c κs. search rules) (λ c. search rules) (λ c. search rules) (λ c. search rules) (λ c. search rules) (λ c. search rules) returns
+    add-end (λ c. search rules) (λ c. search rules) part-result-end-2 returns-2)
+
+pub returns-in_default : goal.returns-in_default
+returns-in_default c =
+    let refused-there = sym c.find_step-found.ensures ∙ ap answer_of_step c.in_default.is in
+    let bytes = given_none c.args.timetable.now c.args.number _ _ refused-there in
+    let place = none_place c.args.timetable.now c.args.number _ _ refused-there c.args.timetable.ref_ptr in
+    record {
+      bytes = sym bytes;
+      place = sym place;
+    }
+
+pub overflow_add-end : goal.overflow_add-end
+overflow_add-end c =
+    omega (
+      arith,
+      end_within c.args.timetable.now c.args.number c.in-Found.offset c.in-Found.len
+          (sym c.find_step-found.ensures ∙ ap answer_of_step c.in-Found.is),
+    )
+
+pub slice_bounds-result-end-2 : goal.slice_bounds-result-end-2
+slice_bounds-result-end-2 c =
+    omega (
+      arith,
+      end_within c.args.timetable.now c.args.number c.in-Found.offset c.in-Found.len
+          (sym c.find_step-found.ensures ∙ ap answer_of_step c.in-Found.is),
+    )
+
+pub returns : goal.returns
+returns c =
+    let found-there = sym c.find_step-found.ensures ∙ ap answer_of_step c.in-Found.is in
+    record {
+      bytes = part_given_lem c.args.timetable.now c.args.number c.in-Found.offset c.in-Found.len found-there;
+      place = sym (given_place c.args.timetable.now c.args.number c.in-Found.offset c.in-Found.len found-there c.args.timetable.ref_ptr);
+    }

@@ -1,0 +1,10 @@
+-- `trains::read_moves` meets its contract. The loop's invariant: the first j moves are kept. Assumes nothing.
+use Prim.Native.Nat.{◌≤◌, ◌-◌}
+use Rattle.chains.proofs.Moves.{Kept}
+use Rattle.trains.proofs.read_moves.Given as goal
+
+abbrev pub invariant-loop-j : goal.invariant-loop-j
+invariant-loop-j l = (l.j ≤ l.c) × (l.c ≤ 64) × Kept l.moves l.step l.j
+
+abbrev pub decreases-loop-j : goal.decreases-loop-j
+decreases-loop-j l = l.c - l.j

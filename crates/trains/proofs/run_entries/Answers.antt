@@ -1,0 +1,24 @@
+-- `trains::run_entries` meets its contract: judged, then made. Assumes nothing.
+use mathlib.Core.Path.{sym, ◌∙◌}
+use borrow.Author.Tests.{not-true, not-false}
+use Rattle.chains.specs.StepOn.{entries}
+use Rattle.trains.proofs.Running.{stays, ran}
+use Rattle.trains.proofs.run_entries.Goals as goal
+
+pub returns-then-not-judge_entries : goal.returns-then-not-judge_entries
+returns-then-not-judge_entries c =
+    let no = not-true _ c.if-not-judge_entries.true-raw in
+    let is = sym no ∙ c.judge_entries.ensures in
+    record {
+      judged = is;
+      made = stays c.args.matrix.now c.args.racks.now (entries c.args.step.now 0 c.args.c) (sym is);
+    }
+
+pub returns : goal.returns
+returns c =
+    let yes = not-false _ c.if-not-judge_entries.false-raw in
+    let is = sym yes ∙ c.judge_entries.ensures in
+    record {
+      judged = is;
+      made = ran c.args.matrix.now c.args.racks.now (entries c.args.step.now 0 c.args.c) _ (sym is) c.make_step.ensures;
+    }

@@ -1,0 +1,57 @@
+-- `window::fill` meets its contract. The loop's invariant: what is left to pass decides the pass at the end. Assumes nothing.
+use native.Mathlib.Omega.{arith}
+use borrow.Author.Rules.{rules}
+use Rattle.field.proofs.ListedLaws.{room_at}
+use Rattle.window.proofs.Passing.{pass-first, pass-next, pass_last, row-left_early}
+use Rattle.window.proofs.fill.Goals as goal
+
+pub fill_spec : {M : Type 1} → statement M
+fill_spec =
+    tie.close
+    (tie.spec
+    invariant-loop decreases-loop loop-holds move-at-requires (λ c. omega arith) (λ c. omega arith) (λ c κs. search rules) add-later mul-later
+    (λ c. omega arith) (λ c. omega arith) (λ c. omega arith) (λ c κs. search rules) add-later-2 (λ c κs. search rules) cast-row
+    (λ c. omega arith) (λ c. omega arith) cast-row-2 (λ c. omega arith) (λ c. omega arith) (λ c. omega arith) (λ c κs. search rules)
+    (λ c κs. search rules) (λ c. omega arith) (λ c. omega arith) loop-again returns)
+
+pub loop-j-init : goal.loop-j-init
+loop-j-init c =
+    let start = pass-first c.args.tail.now c.args.named c.args.from c.args.end c.args.first c.args.row.now c.args.window.now _ c.requires.early in
+    (omega arith, start, λ left. left)
+
+pub move_at-step-requires : goal.move_at-step-requires
+move_at-step-requires c =
+    room_at c.args.named c.loop-j.j c.args.end _ c.loop-j-test.true c.requires.from_le_end.2
+
+pub overflow_add-wide : goal.overflow_add-wide
+overflow_add-wide c = omega (arith, arrived-few c)
+
+pub overflow_mul-wide : goal.overflow_mul-wide
+overflow_mul-wide c = omega (arith, arrived-few c)
+
+pub overflow_add-wide-in-loop-j : goal.overflow_add-wide-in-loop-j
+overflow_add-wide-in-loop-j c = omega (arith, (omega (arith, c.wide-in-loop-j.ensures, row-left_early _ _ _ _ _ _ _ c.loop-j.row _ _ _ c.loop-j.j c.loop-j.invariant.1 c.move_at-step.result.second)))
+
+pub overflow_cast-row : goal.overflow_cast-row
+overflow_cast-row c = omega (arith, turn-few c)
+
+pub overflow_cast-row-in-loop-j : goal.overflow_cast-row-in-loop-j
+overflow_cast-row-in-loop-j c = omega (arith, turn-few c)
+
+pub loop-j-preserved : goal.loop-j-preserved
+loop-j-preserved c = (
+  omega arith,
+  pass-next c.args.tail.now c.args.named c.args.from c.args.end c.args.first c.args.row.now c.args.window.now c.loop-j.row c.loop-j.window c.loop-j.greatest
+      c.loop-j.due c.loop-j.j c.loop-j.invariant.1 (omega arith) c.move_at-step.result.first c.move_at-step.result.second c.move_at-step.ensures.first_is
+      c.move_at-step.ensures.second_is (omega arith) (omega arith) c.later-turn.result
+      (omega (arith, c.later-turn.ensures, c.wide.ensures, c.wide-in-loop-j.ensures)) _ c.enter-due.ensures.window_after.0
+      c.later-greatest.result c.later-greatest.ensures c.enter-due.result c.enter-due.ensures.window_after.1 c.enter-due.ensures.window_after.2,
+  λ left. c.enter-due.ensures.keeps_left (c.loop-j.invariant.2 left),
+)
+
+pub returns : goal.returns
+returns c = record {
+  pass_made = pass_last c.args.tail.now c.args.named c.args.from c.args.end c.args.first c.args.row.now c.args.window.now c.loop-j.row c.loop-j.window c.loop-j.greatest
+      c.loop-j.due c.loop-j.j c.loop-j.invariant.1 (omega arith);
+  keeps_left = c.loop-j.invariant.2;
+}
