@@ -4,21 +4,20 @@
 use mathlib.Core.Bool.{false≢true}
 use mathlib.Core.Path.{sym, ◌∙◌}
 use native.Mathlib.Omega.{arith}
-use borrow.Author.Tests.{not-true, not-false}
 use Rattle.breakdown.proofs.ChoiceLaws.{handle_skip, handle_enter, handle_stop, handle_turn, handle_leave, rest_less}
 use Rattle.breakdown.proofs.choose_handle_at.Goals as goal
 
 pub returns-then-not-has : goal.returns-then-not-has
 returns-then-not-has c =
     handle_skip c.args.rows.now c.args.settled c.args.u _ _ _
-    (λ h. false≢true (sym (not-true _ c.if-not-has.true-raw) ∙ c.has.ensures.1 h)) c.requires.handle_choice
+    (λ h. false≢true (sym c.if-not-has.true ∙ c.has.ensures.1 h)) c.requires.handle_choice
 
 pub minus-rest-requires : goal.minus-rest-requires
 minus-rest-requires c = tt
 
 pub loop-rest-init : goal.loop-rest-init
 loop-rest-init c =
-    let on = c.has.ensures.0 (not-false _ c.if-not-has.false-raw) in (
+    let on = c.has.ensures.0 c.if-not-has.false in (
       handle_enter c.args.rows.now c.args.settled c.args.u _ _ _ _ c.minus-rest.ensures c.requires.handle_choice,
       λ y h. record { edge = ((c.minus-rest.ensures y).0 h).0; settled = on; new = ((c.minus-rest.ensures y).0 h).1 },
     )

@@ -4,7 +4,6 @@ use mathlib.Core.Path.{ap, sym, ◌∙◌}
 use mathlib.Core.Bool.{false≢true}
 use native.Mathlib.Omega.{arith}
 use borrow.Author.Rules.{rules}
-use borrow.Author.Tests.{not-true, not-false}
 use Rattle.answers.proofs.AnswerLaws.{passed_up}
 use Rattle.order.specs.Verdict.{answer_of as orderAnswerOf}
 use Rattle.tables.proofs.AcceptedLaws.{order_accepted}
@@ -36,7 +35,7 @@ is_connected-requires c = (filled_rows (order_accepted c.decode-below.ensures.re
 pub returns-then-not-is_connected : goal.returns-then-not-is_connected
 returns-then-not-is_connected c =
     let all = carry-apart c.args.order.now c.args.buffer.now (order_accepted c.decode-below.ensures.result_value c.in-Accepted.is) c.decode-below.ensures.rows_after
-    (λ w. false≢true (sym (not-true _ c.if-not-is_connected.true-raw) ∙ c.is_connected.ensures.1 w)) in
+    (λ w. false≢true (sym c.if-not-is_connected.true ∙ c.is_connected.ensures.1 w)) in
     record {
       result_value = all.0;
       buffer_after = all.1;
@@ -56,7 +55,7 @@ overflow_add-n-2 c = omega (arith, (some_position ((order_accepted c.decode-belo
 
 pub returns-then-buffer-n : goal.returns-then-buffer-n
 returns-then-buffer-n c =
-    let all = carry_short c.args.order.now c.args.buffer.now (order_accepted c.decode-below.ensures.result_value c.in-Accepted.is) c.decode-below.ensures.rows_after (c.is_connected.ensures.0 (not-false _ c.if-not-is_connected.false-raw)) c.if-buffer-n.true in
+    let all = carry_short c.args.order.now c.args.buffer.now (order_accepted c.decode-below.ensures.result_value c.in-Accepted.is) c.decode-below.ensures.rows_after (c.is_connected.ensures.0 c.if-not-is_connected.false) c.if-buffer-n.true in
     record {
       result_value = all.0;
       buffer_after = all.1;
@@ -64,7 +63,7 @@ returns-then-buffer-n c =
 
 pub dearest-carry-requires : goal.dearest-carry-requires
 dearest-carry-requires c =
-    (omega (arith, (some_position ((order_accepted c.decode-below.ensures.result_value c.in-Accepted.is) c))), (filled_rows (order_accepted c.decode-below.ensures.result_value c.in-Accepted.is) c.decode-below.ensures.rows_after), (c.is_connected.ensures.0 (not-false _ c.if-not-is_connected.false-raw)))
+    (omega (arith, (some_position ((order_accepted c.decode-below.ensures.result_value c.in-Accepted.is) c))), (filled_rows (order_accepted c.decode-below.ensures.result_value c.in-Accepted.is) c.decode-below.ensures.rows_after), (c.is_connected.ensures.0 c.if-not-is_connected.false))
 
 pub below-requires : goal.below-requires
 below-requires c = (((filled_rows (order_accepted c.decode-below.ensures.result_value c.in-Accepted.is) c.decode-below.ensures.rows_after) c).small)
@@ -80,18 +79,18 @@ search-way-requires c = record {
     }
 
 pub list_way-requires : goal.list_way-requires
-list_way-requires c = let f = (record { (order_accepted c.decode-below.ensures.result_value c.in-Accepted.is) = (order_accepted c.decode-below.ensures.result_value c.in-Accepted.is) (c c); filled = (c (c c)).decode.ensures.1.0; (c.is_connected.ensures.0 (not-false _ c.if-not-is_connected.false-raw)) = (c.is_connected.ensures.0 (not-false _ c.if-not-is_connected.false-raw)) c; room = c.if-buffer-n.false; dear = c.dearest-carry.ensures; size = c.search-way.result.size; way = way_nearest (c.in-Accepted.counts (c c)).positions c.below.result c.only.result _ _ _ (c.decode-below.new.rows (c c)) c.search-way.result.at c.below.ensures c.only.ensures c.search-way.ensures; }) in
+list_way-requires c = let f = (record { (order_accepted c.decode-below.ensures.result_value c.in-Accepted.is) = (order_accepted c.decode-below.ensures.result_value c.in-Accepted.is) (c c); filled = (c (c c)).decode.ensures.1.0; (c.is_connected.ensures.0 c.if-not-is_connected.false) = (c.is_connected.ensures.0 c.if-not-is_connected.false) c; room = c.if-buffer-n.false; dear = c.dearest-carry.ensures; size = c.search-way.result.size; way = way_nearest (c.in-Accepted.counts (c c)).positions c.below.result c.only.result _ _ _ (c.decode-below.new.rows (c c)) c.search-way.result.at c.below.ensures c.only.ensures c.search-way.ensures; }) in
     record {
       k_bound = places_below f;
       k_in_bounds = moves_room f;
     }
 
 pub put_head-requires : goal.put_head-requires
-put_head-requires c = part_back (record { (order_accepted c.decode-below.ensures.result_value c.in-Accepted.is) = (order_accepted c.decode-below.ensures.result_value c.in-Accepted.is) (c c); filled = (c (c c)).decode.ensures.1.0; (c.is_connected.ensures.0 (not-false _ c.if-not-is_connected.false-raw)) = (c.is_connected.ensures.0 (not-false _ c.if-not-is_connected.false-raw)) c; room = c.if-buffer-n.false; dear = c.dearest-carry.ensures; size = c.search-way.result.size; way = way_nearest (c.in-Accepted.counts (c c)).positions c.below.result c.only.result _ _ _ (c.decode-below.new.rows (c c)) c.search-way.result.at c.below.ensures c.only.ensures c.search-way.ensures; }) _
+put_head-requires c = part_back (record { (order_accepted c.decode-below.ensures.result_value c.in-Accepted.is) = (order_accepted c.decode-below.ensures.result_value c.in-Accepted.is) (c c); filled = (c (c c)).decode.ensures.1.0; (c.is_connected.ensures.0 c.if-not-is_connected.false) = (c.is_connected.ensures.0 c.if-not-is_connected.false) c; room = c.if-buffer-n.false; dear = c.dearest-carry.ensures; size = c.search-way.result.size; way = way_nearest (c.in-Accepted.counts (c c)).positions c.below.result c.only.result _ _ _ (c.decode-below.new.rows (c c)) c.search-way.result.at c.below.ensures c.only.ensures c.search-way.ensures; }) _
 
 pub returns : goal.returns
 returns c =
-    let all = carry-made (record { (order_accepted c.decode-below.ensures.result_value c.in-Accepted.is) = (order_accepted c.decode-below.ensures.result_value c.in-Accepted.is) (c c); filled = (c (c c)).decode.ensures.1.0; (c.is_connected.ensures.0 (not-false _ c.if-not-is_connected.false-raw)) = (c.is_connected.ensures.0 (not-false _ c.if-not-is_connected.false-raw)) c; room = c.if-buffer-n.false; dear = c.dearest-carry.ensures; size = c.search-way.result.size; way = way_nearest (c.in-Accepted.counts (c c)).positions c.below.result c.only.result _ _ _ (c.decode-below.new.rows (c c)) c.search-way.result.at c.below.ensures c.only.ensures c.search-way.ensures; }) c.list_way.ensures c.put_head.ensures in
+    let all = carry-made (record { (order_accepted c.decode-below.ensures.result_value c.in-Accepted.is) = (order_accepted c.decode-below.ensures.result_value c.in-Accepted.is) (c c); filled = (c (c c)).decode.ensures.1.0; (c.is_connected.ensures.0 c.if-not-is_connected.false) = (c.is_connected.ensures.0 c.if-not-is_connected.false) c; room = c.if-buffer-n.false; dear = c.dearest-carry.ensures; size = c.search-way.result.size; way = way_nearest (c.in-Accepted.counts (c c)).positions c.below.result c.only.result _ _ _ (c.decode-below.new.rows (c c)) c.search-way.result.at c.below.ensures c.only.ensures c.search-way.ensures; }) c.list_way.ensures c.put_head.ensures in
     record {
       result_value = all.0;
       buffer_after = all.1;

@@ -79,7 +79,7 @@ slice_bounds-take_better-end-3 c =
 
 pub take_better-moves-requires : goal.take_better-moves-requires
 take_better-moves-requires c =
-    record { buffer = c.args.buffer.now; overwritten = (record { (subst (λ (v : PlannerVerdict). PlanMade ((let known = (let lent = ((=.before.before.before).before.before).before.before.before in let begun = lent.before.before in begun.before.before).before.before.before in known.before.before.before).args.order.now) ((let known = (let lent = ((=.before.before.before).before.before).before.before.before in let begun = lent.before.before in begun.before.before).before.before.before in known.before.before.before).args.buffer.now) (answer_of v) (((=.before.before.before).before.before).make-on.last.1.1.1.1.0)) =.before.planned.given.1 ((=.before.before.before).before.before).make-on.ensures) (subst (λ (v : PlannerVerdict). PlanMade c.args.order.now c.args.buffer.now (answer_of v) c.make_on-planned.new.buffer) c.in-Planned.is c.make_on-planned.ensures); c = omega (arith, c.if-k-eq0.false); (3 + (9 * (=.before.planned.given.0.0) + 3) / 4) (omega (arith, length-take (3 + (9 * c.in-Planned.k + 3) / 4) c.put_bytes.new.out, ((omega (arith, (ap length c.put_bytes.ensures.bytes_are ∙ (length-written c.args.kept.now 0 (take c.args.saved c.args.buffer.now) (record { c.args.kept.now = omega (arith, (omega (arith, length-take c.args.saved c.args.buffer.now, c.requires.1)), c.requires.0) }))), c.requires.0))))); front = ap (take (3 + (9 * c.in-Planned.k + 3) / 4)) c.put_bytes.ensures.bytes_are ∙ kept_front c.args.buffer.now c.args.kept.now (3 + (9 * c.in-Planned.k + 3) / 4) c.args.saved c.if-saved-length.false c.requires.1 ∙ ap (λ (n : ℕ). take n c.args.buffer.now) (sym (omega (arith, length-take (3 + (9 * c.in-Planned.k + 3) / 4) c.put_bytes.new.out, ((omega (arith, (ap length c.put_bytes.ensures.bytes_are ∙ (length-written c.args.kept.now 0 (take c.args.saved c.args.buffer.now) (record { c.args.kept.now = omega (arith, (omega (arith, length-take c.args.saved c.args.buffer.now, c.requires.1)), c.requires.0) }))), c.requires.0)))))); }) }
+    record { buffer = c.args.buffer.now; overwritten = (record { plan_made = (subst (λ (v : PlannerVerdict). PlanMade c.args.order.now c.args.buffer.now (answer_of v) c.make_on-planned.new.buffer) c.in-Planned.is c.make_on-planned.ensures); some = omega (arith, c.if-k-eq0.false); long = (omega (arith, length-take (3 + (9 * c.in-Planned.k + 3) / 4) c.put_bytes.new.out, ((omega (arith, (ap length c.put_bytes.ensures.bytes_are ∙ (length-written c.args.kept.now 0 (take c.args.saved c.args.buffer.now) (record { c.args.kept.now = omega (arith, (omega (arith, length-take c.args.saved c.args.buffer.now, c.requires.1)), c.requires.0) }))), c.requires.0))))); front = ap (take (3 + (9 * c.in-Planned.k + 3) / 4)) c.put_bytes.ensures.bytes_are ∙ kept_front c.args.buffer.now c.args.kept.now (3 + (9 * c.in-Planned.k + 3) / 4) c.args.saved c.if-saved-length.false c.requires.1 ∙ ap (λ (n : ℕ). take n c.args.buffer.now) (sym (omega (arith, length-take (3 + (9 * c.in-Planned.k + 3) / 4) c.put_bytes.new.out, ((omega (arith, (ap length c.put_bytes.ensures.bytes_are ∙ (length-written c.args.kept.now 0 (take c.args.saved c.args.buffer.now) (record { c.args.kept.now = omega (arith, (omega (arith, length-take c.args.saved c.args.buffer.now, c.requires.1)), c.requires.0) }))), c.requires.0)))))); }) }
 
 pub shape_of-kept : goal.shape_of-kept
 shape_of-kept c =
@@ -91,4 +91,4 @@ shape_of-buffer c =
 
 pub returns : goal.returns
 returns c =
-    one_to_give (c.take_better-moves.ensures c.args.buffer.now (record { (subst (λ (v : PlannerVerdict). PlanMade ((let known = (let lent = ((=.before.before.before).before.before).before.before.before in let begun = lent.before.before in begun.before.before).before.before.before in known.before.before.before).args.order.now) ((let known = (let lent = ((=.before.before.before).before.before).before.before.before in let begun = lent.before.before in begun.before.before).before.before.before in known.before.before.before).args.buffer.now) (answer_of v) (((=.before.before.before).before.before).make-on.last.1.1.1.1.0)) =.before.planned.given.1 ((=.before.before.before).before.before).make-on.ensures) (subst (λ (v : PlannerVerdict). PlanMade c.args.order.now c.args.buffer.now (answer_of v) c.make_on-planned.new.buffer) c.in-Planned.is c.make_on-planned.ensures); c = omega (arith, c.if-k-eq0.false); (3 + (9 * (=.before.planned.given.0.0) + 3) / 4) (omega (arith, length-take (3 + (9 * c.in-Planned.k + 3) / 4) c.put_bytes.new.out, ((omega (arith, (ap length c.put_bytes.ensures.bytes_are ∙ (length-written c.args.kept.now 0 (take c.args.saved c.args.buffer.now) (record { c.args.kept.now = omega (arith, (omega (arith, length-take c.args.saved c.args.buffer.now, c.requires.1)), c.requires.0) }))), c.requires.0))))); front = ap (take (3 + (9 * c.in-Planned.k + 3) / 4)) c.put_bytes.ensures.bytes_are ∙ kept_front c.args.buffer.now c.args.kept.now (3 + (9 * c.in-Planned.k + 3) / 4) c.args.saved c.if-saved-length.false c.requires.1 ∙ ap (λ (n : ℕ). take n c.args.buffer.now) (sym (omega (arith, length-take (3 + (9 * c.in-Planned.k + 3) / 4) c.put_bytes.new.out, ((omega (arith, (ap length c.put_bytes.ensures.bytes_are ∙ (length-written c.args.kept.now 0 (take c.args.saved c.args.buffer.now) (record { c.args.kept.now = omega (arith, (omega (arith, length-take c.args.saved c.args.buffer.now, c.requires.1)), c.requires.0) }))), c.requires.0)))))); }))
+    one_to_give (c.take_better-moves.ensures c.args.buffer.now (record { plan_made = (subst (λ (v : PlannerVerdict). PlanMade c.args.order.now c.args.buffer.now (answer_of v) c.make_on-planned.new.buffer) c.in-Planned.is c.make_on-planned.ensures); some = omega (arith, c.if-k-eq0.false); long = (omega (arith, length-take (3 + (9 * c.in-Planned.k + 3) / 4) c.put_bytes.new.out, ((omega (arith, (ap length c.put_bytes.ensures.bytes_are ∙ (length-written c.args.kept.now 0 (take c.args.saved c.args.buffer.now) (record { c.args.kept.now = omega (arith, (omega (arith, length-take c.args.saved c.args.buffer.now, c.requires.1)), c.requires.0) }))), c.requires.0))))); front = ap (take (3 + (9 * c.in-Planned.k + 3) / 4)) c.put_bytes.ensures.bytes_are ∙ kept_front c.args.buffer.now c.args.kept.now (3 + (9 * c.in-Planned.k + 3) / 4) c.args.saved c.if-saved-length.false c.requires.1 ∙ ap (λ (n : ℕ). take n c.args.buffer.now) (sym (omega (arith, length-take (3 + (9 * c.in-Planned.k + 3) / 4) c.put_bytes.new.out, ((omega (arith, (ap length c.put_bytes.ensures.bytes_are ∙ (length-written c.args.kept.now 0 (take c.args.saved c.args.buffer.now) (record { c.args.kept.now = omega (arith, (omega (arith, length-take c.args.saved c.args.buffer.now, c.requires.1)), c.requires.0) }))), c.requires.0)))))); }))

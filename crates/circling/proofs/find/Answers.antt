@@ -64,7 +64,7 @@ returns-then-need-rack-ne0 c =
       most = omega arith;
       ready = λ l. record {
         needs = omega arith;
-        c = ap (λ (x : ℕ). row c.args.racks.now (row c.args.circle.now x)) (sym c.next.ensures) ∙ c.if-racks-b-eq0.true;
+        vacant = ap (λ (x : ℕ). row c.args.racks.now (row c.args.circle.now x)) (sym c.next.ensures) ∙ c.if-racks-b-eq0.true;
       };
       none = λ e. absurd (omega arith);
     }

@@ -5,10 +5,10 @@ use Rattle.circling.proofs.reach.Goals as goal
 
 pub distance-requires : goal.distance-requires
 distance-requires c = record {
-      n_bound = c.requires.n_bound;
-      rack = c.requires.rack;
-      places = c.requires.places;
-    }
+  n_bound = c.requires.n_bound;
+  rack = c.requires.rack;
+  places = c.requires.places;
+}
 
 pub overflow_add-result : goal.overflow_add-result
 overflow_add-result c =
@@ -18,4 +18,4 @@ overflow_add-result c =
 pub returns : goal.returns
 returns c =
     let far = distance_below c.requires.places c.args.r c.requires.rack in
-    record { c.distance.ensures = omega arith; lap = omega arith }
+    record { is = omega arith; lap = omega arith }

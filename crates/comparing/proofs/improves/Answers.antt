@@ -3,7 +3,6 @@ use mathlib.Core.Path.{ap, sym, ◌∙◌}
 use mathlib.Core.Bool.{true, false}
 use native.Mathlib.Omega.{arith}
 use Rattle.scheduling.specs.Maker.{answer_of}
-use borrow.Author.Tests.{not-true, not-false}
 use Rattle.comparing.proofs.Improving.{positions_below, cubes, not_so, so, not_counted, steps_told, heads_there}
 use Rattle.comparing.proofs.Improving.{no_plan, edition_one, too_long, in_fewer_steps, longer, by_fewer_moves, no_shorter}
 use Rattle.comparing.proofs.improves.Goals as goal
@@ -25,7 +24,7 @@ names_racks-requires c = (heads_there ((c c).args.order.now) ((c c).args.found.n
 
 pub returns-then-not-names_racks : goal.returns-then-not-names_racks
 returns-then-not-names_racks c =
-    not_so (edition_one ((c c).args.order.now) ((c c).args.proved.now) ((c c).args.found.now) (sym c.names_racks.ensures ∙ not-true _ c.if-not-names_racks.true-raw))
+    not_so (edition_one ((c c).args.order.now) ((c c).args.proved.now) ((c c).args.found.now) (sym c.names_racks.ensures ∙ c.if-not-names_racks.true))
 
 pub counts_of-n-requires : goal.counts_of-n-requires
 counts_of-n-requires c = (heads_there ((c c).args.order.now) ((c c).args.found.now) _ (steps_told ((c c).args.order.now) ((c c).args.found.now) c.in-Accepted-other.fewer (ap answer_of (sym c.in-Accepted-other.is) ∙ c.count_steps-other.ensures)).1).1
@@ -50,13 +49,13 @@ pub returns-then-fewer-steps : goal.returns-then-fewer-steps
 returns-then-fewer-steps c =
     so
     (in_fewer_steps ((c c).args.order.now) ((c c).args.proved.now) ((c c).args.found.now) c.counts_of-n.result.positions _ c.counts_of-n.ensures.positions_are c.count_at_head-moves.ensures _ _ ((steps_told ((c c).args.order.now) ((c c).args.proved.now) (c.in-Accepted.steps c) ((ap answer_of (sym c.in-Accepted.is) ∙ c.count_steps-made.ensures) c)).0)
-    (steps_told ((c c).args.order.now) ((c c).args.found.now) c.in-Accepted-other.fewer (ap answer_of (sym c.in-Accepted-other.is) ∙ c.count_steps-other.ensures)).0 (steps_told ((c c).args.order.now) ((c c).args.found.now) c.in-Accepted-other.fewer (ap answer_of (sym c.in-Accepted-other.is) ∙ c.count_steps-other.ensures)).1 (sym c.names_racks.ensures ∙ not-false _ c.if-not-names_racks.false-raw) c.if-n-moves.false c.if-fewer-steps.true)
+    (steps_told ((c c).args.order.now) ((c c).args.found.now) c.in-Accepted-other.fewer (ap answer_of (sym c.in-Accepted-other.is) ∙ c.count_steps-other.ensures)).0 (steps_told ((c c).args.order.now) ((c c).args.found.now) c.in-Accepted-other.fewer (ap answer_of (sym c.in-Accepted-other.is) ∙ c.count_steps-other.ensures)).1 (sym c.names_racks.ensures ∙ c.if-not-names_racks.false) c.if-n-moves.false c.if-fewer-steps.true)
 
 pub returns-then-steps-fewer : goal.returns-then-steps-fewer
 returns-then-steps-fewer c =
     not_so
     (longer ((c c).args.order.now) ((c c).args.proved.now) ((c c).args.found.now) c.counts_of-n.result.positions _ c.counts_of-n.ensures.positions_are c.count_at_head-moves.ensures _ _ ((steps_told ((c c).args.order.now) ((c c).args.proved.now) (c.in-Accepted.steps c) ((ap answer_of (sym c.in-Accepted.is) ∙ c.count_steps-made.ensures) c)).0) (steps_told ((c c).args.order.now) ((c c).args.found.now) c.in-Accepted-other.fewer (ap answer_of (sym c.in-Accepted-other.is) ∙ c.count_steps-other.ensures)).0
-    (steps_told ((c c).args.order.now) ((c c).args.found.now) c.in-Accepted-other.fewer (ap answer_of (sym c.in-Accepted-other.is) ∙ c.count_steps-other.ensures)).1 (sym c.names_racks.ensures ∙ not-false _ c.if-not-names_racks.false-raw) c.if-n-moves.false c.if-steps-fewer.true)
+    (steps_told ((c c).args.order.now) ((c c).args.found.now) c.in-Accepted-other.fewer (ap answer_of (sym c.in-Accepted-other.is) ∙ c.count_steps-other.ensures)).1 (sym c.names_racks.ensures ∙ c.if-not-names_racks.false) c.if-n-moves.false c.if-steps-fewer.true)
 
 pub count_at_head-most-requires : goal.count_at_head-most-requires
 count_at_head-most-requires c =
@@ -67,12 +66,12 @@ pub returns-then-moves-most : goal.returns-then-moves-most
 returns-then-moves-most c =
     so
     (by_fewer_moves ((c c).args.order.now) ((c c).args.proved.now) ((c c).args.found.now) c.counts_of-n.result.positions _ c.counts_of-n.ensures.positions_are c.count_at_head-moves.ensures _ _ ((steps_told ((c c).args.order.now) ((c c).args.proved.now) (c.in-Accepted.steps c) ((ap answer_of (sym c.in-Accepted.is) ∙ c.count_steps-made.ensures) c)).0)
-    (steps_told ((c c).args.order.now) ((c c).args.found.now) c.in-Accepted-other.fewer (ap answer_of (sym c.in-Accepted-other.is) ∙ c.count_steps-other.ensures)).0 (steps_told ((c c).args.order.now) ((c c).args.found.now) c.in-Accepted-other.fewer (ap answer_of (sym c.in-Accepted-other.is) ∙ c.count_steps-other.ensures)).1 (sym c.names_racks.ensures ∙ not-false _ c.if-not-names_racks.false-raw) c.if-n-moves.false _ c.count_at_head-most.ensures c.if-fewer-steps.false c.if-steps-fewer.false
+    (steps_told ((c c).args.order.now) ((c c).args.found.now) c.in-Accepted-other.fewer (ap answer_of (sym c.in-Accepted-other.is) ∙ c.count_steps-other.ensures)).0 (steps_told ((c c).args.order.now) ((c c).args.found.now) c.in-Accepted-other.fewer (ap answer_of (sym c.in-Accepted-other.is) ∙ c.count_steps-other.ensures)).1 (sym c.names_racks.ensures ∙ c.if-not-names_racks.false) c.if-n-moves.false _ c.count_at_head-most.ensures c.if-fewer-steps.false c.if-steps-fewer.false
     c.if-moves-most.true)
 
 pub returns : goal.returns
 returns c =
     not_so
     (no_shorter ((c c).args.order.now) ((c c).args.proved.now) ((c c).args.found.now) c.counts_of-n.result.positions _ c.counts_of-n.ensures.positions_are c.count_at_head-moves.ensures _ _ ((steps_told ((c c).args.order.now) ((c c).args.proved.now) (c.in-Accepted.steps c) ((ap answer_of (sym c.in-Accepted.is) ∙ c.count_steps-made.ensures) c)).0)
-    (steps_told ((c c).args.order.now) ((c c).args.found.now) c.in-Accepted-other.fewer (ap answer_of (sym c.in-Accepted-other.is) ∙ c.count_steps-other.ensures)).0 (steps_told ((c c).args.order.now) ((c c).args.found.now) c.in-Accepted-other.fewer (ap answer_of (sym c.in-Accepted-other.is) ∙ c.count_steps-other.ensures)).1 (sym c.names_racks.ensures ∙ not-false _ c.if-not-names_racks.false-raw) c.if-n-moves.false _ c.count_at_head-most.ensures c.if-fewer-steps.false c.if-steps-fewer.false
+    (steps_told ((c c).args.order.now) ((c c).args.found.now) c.in-Accepted-other.fewer (ap answer_of (sym c.in-Accepted-other.is) ∙ c.count_steps-other.ensures)).0 (steps_told ((c c).args.order.now) ((c c).args.found.now) c.in-Accepted-other.fewer (ap answer_of (sym c.in-Accepted-other.is) ∙ c.count_steps-other.ensures)).1 (sym c.names_racks.ensures ∙ c.if-not-names_racks.false) c.if-n-moves.false _ c.count_at_head-most.ensures c.if-fewer-steps.false c.if-steps-fewer.false
     c.if-moves-most.false)

@@ -1,6 +1,5 @@
 -- `comparing::take_better` meets its contract: `Choices` has what stays and what takes its place. Assumes nothing.
 use native.Mathlib.Omega.{arith}
-use borrow.Author.Tests.{not-false}
 use lib.ListN.{length, length-take}
 use Rattle.plan.specs.Plan.{move_count}
 use Rattle.comparing.proofs.Improving.{heads_there}
@@ -18,21 +17,21 @@ pub improves-requires : goal.improves-requires
 improves-requires c = front_checked c.args.order.now c.requires.buffer c.args.kept.now c.args.k c.args.buffer.now c.requires.overwritten
 
 pub returns-then-not-improves : goal.returns-then-not-improves
-returns-then-not-improves c = stays c.args.order.now tt c.args.kept.now c.args.k c.args.buffer.now tt
+returns-then-not-improves c B' w = stays c.args.order.now B' c.args.kept.now c.args.k c.args.buffer.now w
 
 pub put_bytes-requires : goal.put_bytes-requires
 put_bytes-requires c = back_fits c.args.order.now c.requires.buffer c.args.kept.now c.args.k c.args.buffer.now c.requires.overwritten
 
 pub put_bytes-requires-2 : goal.put_bytes-requires-2
 put_bytes-requires-2 c =
-    rw c.put_bytes.ensures.bytes_are (found_fits c.args.order.now c.requires.buffer c.args.kept.now c.args.k c.args.buffer.now c.requires.overwritten c.args.found.now (bytes-by c.args.found.now (λ i. (c.type_inv.found i).fits)) (c.improves.ensures.0 (not-false _ c.if-not-improves.false-raw)))
+    rw c.put_bytes.ensures.bytes_are (found_fits c.args.order.now c.requires.buffer c.args.kept.now c.args.k c.args.buffer.now c.requires.overwritten c.args.found.now (bytes-by c.args.found.now (λ i. (c.type_inv.found i).fits)) (c.improves.ensures.0 c.if-not-improves.false))
 
 pub count_at_head-requires : goal.count_at_head-requires
 count_at_head-requires c =
-    (heads_there c.args.order.now c.args.found.now _ (c.improves.ensures.0 (not-false _ c.if-not-improves.false-raw)).checked).0
+    (heads_there c.args.order.now c.args.found.now _ (c.improves.ensures.0 c.if-not-improves.false).checked).0
 
 pub returns : goal.returns
 unfolding move_count
-returns c =
+returns c B' w =
     rw (c.count_at_head.ensures, c.put_bytes-2.ensures.bytes_are, c.put_bytes.ensures.bytes_are)
-    (replaced c.args.order.now tt c.args.kept.now c.args.k c.args.buffer.now tt c.args.found.now (bytes-by c.args.found.now (λ i. (c.type_inv.found i).fits)) (c.improves.ensures.0 (not-false _ c.if-not-improves.false-raw)))
+    (replaced c.args.order.now B' c.args.kept.now c.args.k c.args.buffer.now w c.args.found.now (bytes-by c.args.found.now (λ i. (c.type_inv.found i).fits)) (c.improves.ensures.0 c.if-not-improves.false))

@@ -3,7 +3,6 @@
 -- Assumes nothing.
 use mathlib.Core.Path.{ap, sym, ◌∙◌}
 use native.Mathlib.Omega.{arith}
-use borrow.Author.Tests.{not-true, not-false}
 use Rattle.order.specs.Verdict.{answer_of}
 use Rattle.order.proofs.Layers.{edges_gave, edges_down, tail_there, tail_room, racks_wrong, racks_right}
 use Rattle.order.proofs.Layers.{rows_filled, starts_filled, goals_filled, no_rows, no_starts, no_goals}
@@ -37,7 +36,7 @@ racks_sound-requires c =
 
 pub returns-then-not-racks_sound : goal.returns-then-not-racks_sound
 returns-then-not-racks_sound c =
-    let down = racks_wrong (edges_gave c.decode_edges-edges.ensures.result_value c.in-Accepted.is) c.racks_sound.ensures (not-true _ c.if-not-racks_sound.true-raw) in
+    let down = racks_wrong (edges_gave c.decode_edges-edges.ensures.result_value c.in-Accepted.is) c.racks_sound.ensures c.if-not-racks_sound.true in
     record {
       result_value = down;
       rows_after = no_rows c.args.order.now 14 0 down;
@@ -47,7 +46,7 @@ returns-then-not-racks_sound c =
 
 pub returns : goal.returns
 returns c =
-    let yes = not-false _ c.if-not-racks_sound.false-raw in
+    let yes = c.if-not-racks_sound.false in
     let rows = c.decode_edges-edges.ensures.filled_rows.rows_are _ (ap answer_of c.in-Accepted.is) in
     record {
       result_value = racks_right (edges_gave c.decode_edges-edges.ensures.result_value c.in-Accepted.is) c.racks_sound.ensures yes;

@@ -2,7 +2,6 @@
 -- head. Assumes nothing.
 use mathlib.Core.Path.{refl, ap}
 use native.Mathlib.Omega.{arith}
-use borrow.Author.Tests.{not-true, not-false}
 use Rattle.order.specs.Readers.{edges_answer}
 use Rattle.order.specs.Verdict.{answer_of}
 use Rattle.order.proofs.Layers.{passed_down, head_gave, tail_there, tail_room, tail-rows}
@@ -27,7 +26,7 @@ join_edges-requires c = omega (arith, tail_room (head_gave c.read_head-head.ensu
 
 pub returns-then-not-join_edges : goal.returns-then-not-join_edges
 returns-then-not-join_edges c =
-    let right = edges_wrong (head_gave c.read_head-head.ensures c.in-Accepted.is) c.join_edges.ensures.value (not-true _ c.if-not-join_edges.true-raw) in
+    let right = edges_wrong (head_gave c.read_head-head.ensures c.in-Accepted.is) c.join_edges.ensures.value c.if-not-join_edges.true in
     record {
       result_value = right;
       filled_rows = none_filled _ _ _ 13 0 refl;
@@ -36,7 +35,7 @@ returns-then-not-join_edges c =
 pub returns : goal.returns
 returns c =
     let g = (head_gave c.read_head-head.ensures c.in-Accepted.is) in
-    let yes = not-false _ c.if-not-join_edges.false-raw in
+    let yes = c.if-not-join_edges.false in
     record {
       result_value = edges_right g c.join_edges.ensures.value yes;
       filled_rows = record { rows_are = λ v up. tail-rows g (c.join_edges.ensures.rows_after yes) };

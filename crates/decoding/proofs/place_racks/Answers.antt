@@ -6,15 +6,15 @@ use Rattle.decoding.proofs.place_racks.Goals as goal
 pub loop-i-init : goal.loop-i-init
 loop-i-init c = (
   omega arith,
-  place-first c.before.args.tail.now c.before.args.from c.before.args.m c.before.args.racks.now,
+  place-first c.args.tail.now c.args.from c.args.m c.args.racks.now,
+)
 
 pub loop-i-preserved : goal.loop-i-preserved
-loop-i-preserved c =
-    (
-      omega arith,
-      place-next c.args.tail.now c.args.from c.args.m c.args.racks.now c.loop-i.racks
-          c.loop-i.i c.position_at-p.result c.loop-i.invariant.1 (omega arith) c.position_at-p.ensures.is,
-    )
+loop-i-preserved c = (
+  omega arith,
+  place-next c.args.tail.now c.args.from c.args.m c.args.racks.now c.loop-i.racks
+      c.loop-i.i c.position_at-p.result c.loop-i.invariant.1 (omega arith) c.position_at-p.ensures.is,
+)
 
 pub returns : goal.returns
 returns c =

@@ -4,7 +4,6 @@ use Prim.Native.Nat.{ℕ}
 use mathlib.Core.Bool.{true, false, false≢true}
 use mathlib.Core.Path.{ap, sym, subst, ◌∙◌}
 use native.Mathlib.Omega.{arith}
-use borrow.Author.Tests.{not-true, not-false}
 use Rattle.order.specs.Order.{floor_of, starts_of, goals_of}
 use Rattle.order.specs.Verdict.{answer_of as orderAnswerOf}
 use Rattle.tables.proofs.AcceptedLaws.{order_accepted}
@@ -52,7 +51,7 @@ returns-then-not-same_round c =
     let k = (c c) in
     let o = (let rows-lent = (k.before.before.before).before.before.before in rows-lent.before.before.args.order.now) in
     let down = ring_other (order_accepted k.before.before.before.decode.ensures.0 k.before.below.given.1) ((rings ((order_accepted c.decode-below.ensures.result_value c.in-Accepted.is) c) (c c).decode.ensures.1.0).0 (c.is_ring.ensures.0 c.if-is_ring.true)) c.if-n-m.false
-    (λ s. false≢true (sym (not-true _ c.if-not-same_round.true-raw) ∙ (c.same_round.ensures o (let d = (c (c c)).decode.ensures.1 in ring-tables ((order_accepted c.decode-below.ensures.result_value c.in-Accepted.is) (c c)) d.0 (c.is_ring.ensures.0 c.if-is_ring.true) c.if-n-m.false d.1.0 d.1.1)).1
+    (λ s. false≢true (sym c.if-not-same_round.true ∙ (c.same_round.ensures o (let d = (c (c c)).decode.ensures.1 in ring-tables ((order_accepted c.decode-below.ensures.result_value c.in-Accepted.is) (c c)) d.0 (c.is_ring.ensures.0 c.if-is_ring.true) c.if-n-m.false d.1.0 d.1.1)).1
     (subst (λ (m : ℕ). SameRound (floor_of o) m (starts_of o) (goals_of o)) (sym (order_accepted k.before.before.before.decode.ensures.0 k.before.below.given.1).racks_are) s))) in
     record {
       result_value = down;
@@ -68,7 +67,7 @@ returns-then-is_ring c =
     let o = (let rows-lent = (k.before.before.before).before.before.before in rows-lent.before.before.args.order.now) in
     let up = ring-plain (order_accepted k.before.before.before.decode.ensures.0 k.before.below.given.1) ((rings ((order_accepted c.decode-below.ensures.result_value c.in-Accepted.is) c) (c c).decode.ensures.1.0).0 (c.is_ring.ensures.0 c.if-is_ring.true)) c.if-n-m.false
     (subst (λ (m : ℕ). SameRound (floor_of o) m (starts_of o) (goals_of o)) (order_accepted k.before.before.before.decode.ensures.0 k.before.below.given.1).racks_are
-    ((c.same_round.ensures o (let d = (c (c c)).decode.ensures.1 in ring-tables ((order_accepted c.decode-below.ensures.result_value c.in-Accepted.is) (c c)) d.0 (c.is_ring.ensures.0 c.if-is_ring.true) c.if-n-m.false d.1.0 d.1.1)).0 (not-false _ c.if-not-same_round.false-raw))) in
+    ((c.same_round.ensures o (let d = (c (c c)).decode.ensures.1 in ring-tables ((order_accepted c.decode-below.ensures.result_value c.in-Accepted.is) (c c)) d.0 (c.is_ring.ensures.0 c.if-is_ring.true) c.if-n-m.false d.1.0 d.1.1)).0 c.if-not-same_round.false)) in
     record {
       result_value = up;
       result_value_2 = handed (order_accepted k.before.before.before.decode.ensures.0 k.before.below.given.1) up;
@@ -98,7 +97,7 @@ pub returns-then-not-is_biconnected : goal.returns-then-not-is_biconnected
 returns-then-not-is_biconnected c =
     let k = (c c) in
     let d = k.before.before.before.decode.ensures.1 in
-    let down = apart (order_accepted k.before.before.before.decode.ensures.0 k.before.below.given.1) d.0 ((is_none c) c c.if-is_ring.false) c.if-n-m-2.false _ c.is_biconnected.ensures (not-true _ c.if-not-is_biconnected.true-raw) in
+    let down = apart (order_accepted k.before.before.before.decode.ensures.0 k.before.below.given.1) d.0 ((is_none c) c c.if-is_ring.false) c.if-n-m-2.false _ c.is_biconnected.ensures c.if-not-is_biconnected.true in
     record {
       result_value = down;
       result_value_2 = refused_too (let rows-lent = (k.before.before.before).before.before.before in rows-lent.before.before.args.order.now) 21 0 down;
@@ -117,7 +116,7 @@ returns-then-not-is_four_sided c =
     let k = (c c) in
     let d = k.before.before.before.decode.ensures.1 in
     let down = many_sided (order_accepted k.before.before.before.decode.ensures.0 k.before.below.given.1) d.0 ((is_none c) c c.if-is_ring.false) c.if-n-m-2.false _ c.is_biconnected.ensures
-    (not-false _ c.if-not-is_biconnected.false-raw) _ c.is_four_sided.ensures (not-true _ c.if-not-is_four_sided.true-raw) in
+    c.if-not-is_biconnected.false _ c.is_four_sided.ensures c.if-not-is_four_sided.true in
     record {
       result_value = down;
       result_value_2 = refused_too (let rows-lent = (k.before.before.before).before.before.before in rows-lent.before.before.args.order.now) 26 0 down;
@@ -130,7 +129,7 @@ pub returns : goal.returns
 returns c =
     let k = (c c) in
     let up = plain (order_accepted k.before.before.before.decode.ensures.0 k.before.below.given.1) k.before.before.before.decode.ensures.1.0 ((is_none c) c c.if-is_ring.false) c.if-n-m-2.false _ c.is_biconnected.ensures
-    (not-false _ c.if-not-is_biconnected.false-raw) _ c.is_four_sided.ensures (not-false _ c.if-not-is_four_sided.false-raw) in
+    c.if-not-is_biconnected.false _ c.is_four_sided.ensures c.if-not-is_four_sided.false in
     record {
       result_value = up;
       result_value_2 = handed (order_accepted k.before.before.before.decode.ensures.0 k.before.below.given.1) up;

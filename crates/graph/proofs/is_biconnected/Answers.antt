@@ -4,7 +4,6 @@ use mathlib.Core.Bool.{false≢true}
 use mathlib.Core.Path.{sym, ◌∙◌}
 use native.Mathlib.Omega.{arith}
 use borrow.Author.Count.{below_more, below_none}
-use borrow.Author.Tests.{not-true, not-false}
 use Rattle.graph.proofs.ConnectedLaws.{bi_connected_without}
 use Rattle.graph.proofs.Decision.{says-yes, says_no}
 use Rattle.graph.proofs.is_biconnected.Goals as goal
@@ -23,12 +22,12 @@ is_connected_without-requires c = record {
 
 pub returns-then-not-is_connected_without : goal.returns-then-not-is_connected_without
 returns-then-not-is_connected_without c =
-    says_no (λ b. false≢true (sym (not-true _ c.if-not-is_connected_without.true-raw) ∙ c.is_connected_without.ensures.1
+    says_no (λ b. false≢true (sym c.if-not-is_connected_without.true ∙ c.is_connected_without.ensures.1
     (b.without c.loop-x.x (omega arith))))
 
 pub loop-x-preserved : goal.loop-x-preserved
 loop-x-preserved c =
-    (omega arith, omega arith, below_more _ _ c.loop-x.invariant.2 (c.is_connected_without.ensures.0 (not-false _ c.if-not-is_connected_without.false-raw)))
+    (omega arith, omega arith, below_more _ _ c.loop-x.invariant.2 (c.is_connected_without.ensures.0 c.if-not-is_connected_without.false))
 
 pub returns : goal.returns
 returns c =

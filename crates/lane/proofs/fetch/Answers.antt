@@ -77,7 +77,7 @@ pub returns-then-has-2 : goal.returns-then-has-2
 returns-then-has-2 c =
     let there = c.has-2.ensures.0 c.if-has-2.true in
     let vacancy : Vacancy (LaneStage c.args.lane) (row c.open_end-open.result.racks) = record {
-      c = c.args.lane.right;
+      at = c.args.lane.right;
       there = c.requires.lane_on.handle.right;
       vacant = c.open_end-open.ensures.lane_open.end;
     } in

@@ -20,20 +20,20 @@ use Rattle.lane.proofs.place.Goals as goal
 
 pub next_rack-rack-requires : goal.next_rack-rack-requires
 next_rack-rack-requires c = record {
-      places = handle_places c.requires.lane_on c.requires.rows.small;
-      k_bound = c.requires.k_bound;
-    }
+  places = handle_places c.requires.lane_on c.requires.rows.small;
+  k_bound = c.requires.k_bound;
+}
 
 pub part-stage-requires : goal.part-stage-requires
 part-stage-requires c = lane-places c.requires.rows c.requires.lane_on
 
 pub open_stage-opened-requires : goal.open_stage-opened-requires
 open_stage-opened-requires c = record {
-      rows = c.requires.rows;
-      lane_on = c.requires.lane_on;
-      lane_stacked = (_, c.requires.lane_placing);
-      room = place_open c.args.lane.positions c.requires.room;
-    }
+  rows = c.requires.rows;
+  lane_on = c.requires.lane_on;
+  lane_stacked = (_, c.requires.lane_placing);
+  room = place_open c.args.lane.positions c.requires.room;
+}
 
 pub fetch-fetched-requires : goal.fetch-fetched-requires
 fetch-fetched-requires c =
@@ -50,22 +50,22 @@ fetch-fetched-requires c =
 
 pub where_is-from-requires : goal.where_is-from-requires
 where_is-from-requires c = record {
-      n_bound = c.requires.rows.small;
-      stands = rack_there c.requires.rows c.requires.lane_on c.fetch-fetched.ensures.lane_fetched.placing c.requires.k_bound c.next_rack-rack.ensures;
-    }
+  n_bound = c.requires.rows.small;
+  stands = rack_there c.requires.rows c.requires.lane_on c.fetch-fetched.ensures.lane_fetched.placing c.requires.k_bound c.next_rack-rack.ensures;
+}
 
 pub bring-brought-requires : goal.bring-brought-requires
 bring-brought-requires c =
     let rack : Bringable (Has c.part-stage.result) c.where_is-from.result c.args.lane.left _ = record {
       leaves = place-from c.requires.rows c.requires.lane_on _ c.part-stage.ensures c.fetch-fetched.ensures.lane_fetched (rack_some c.requires.rows c.requires.lane_on c.requires.lane_placing c.requires.k_bound) c.where_is-from.result (c.where_is-from.ensures.there ∙ c.next_rack-rack.ensures);
       enters = stage_in c.requires.rows c.requires.lane_on _ c.part-stage.ensures c.args.lane.left c.requires.lane_on.handle.left;
-      =.before.before.before rack_held (rack_some c.requires.rows c.requires.lane_on c.requires.lane_placing c.requires.k_bound) (c.where_is-from.ensures.there ∙ c.next_rack-rack.ensures);
+      held = rack_held (rack_some c.requires.rows c.requires.lane_on c.requires.lane_placing c.requires.k_bound) (c.where_is-from.ensures.there ∙ c.next_rack-rack.ensures);
       vacancy = stage_vacancy c.requires.rows c.requires.lane_on _ c.part-stage.ensures c.fetch-fetched.ensures.lane_fetched.vacancy;
     } in
     let room : RoomToBring (Has c.part-stage.result) _ _ _ = record {
       most = c.args.lane.positions - 2;
       few = stage_few c.requires.rows c.requires.lane_on _ c.part-stage.ensures;
-      (let p = ((((((let known = (let lent = =.before.before in lent.before.before.before).before.before.before in known.before.before).before.before.before)).before.before).before.before.before)).pre in let o = (let known = (let lent = =.before.before in lent.before.before.before).before.before.before in known.before.before).open-stage.ensures in let f = (let lent = =.before.before in lent.before.before.before).fetch.ensures in place_fits (((((((let known = (let lent = =.before.before in lent.before.before.before).before.before.before in known.before.before).before.before.before)).before.before).before.before.before)).args.lane.positions) o.0 f.0 p.0.small p.1.1.1.1.1.1 (f.1.1 ∙ o.1.1.1)) fits_less ((c.args.lane.positions - 2) * (c.args.lane.positions - 2)) (omega arith) (place_fits c.args.lane.positions c.open_stage-opened.ensures.trip c.fetch-fetched.ensures.trip c.requires.rows.small c.requires.room (c.fetch-fetched.ensures.log_len_unchanged ∙ c.open_stage-opened.ensures.log_len_unchanged));
+      fits = fits_less ((c.args.lane.positions - 2) * (c.args.lane.positions - 2)) (omega arith) (place_fits c.args.lane.positions c.open_stage-opened.ensures.trip c.fetch-fetched.ensures.trip c.requires.rows.small c.requires.room (c.fetch-fetched.ensures.log_len_unchanged ∙ c.open_stage-opened.ensures.log_len_unchanged));
     } in
     record {
       rows = c.requires.rows;
@@ -81,12 +81,12 @@ without-requires c =
 
 pub clear_within-cleared-requires : goal.clear_within-cleared-requires
 clear_within-cleared-requires c = record {
-      rows = c.requires.rows;
-      inside = place_below_rest c.requires.rows c.requires.lane_on _ c.part-stage.ensures _ c.without.ensures;
-      reaches = place-reaches c.requires.rows c.requires.lane_on _ c.part-stage.ensures _ c.without.ensures c.where_is-from.result c.bring-brought.ensures.brought (rack_held (rack_some c.requires.rows c.requires.lane_on c.requires.lane_placing c.requires.k_bound) (c.where_is-from.ensures.there ∙ c.next_rack-rack.ensures));
-      room_to_clear = clear_room (rest_few c.requires.rows c.requires.lane_on _ c.part-stage.ensures _ c.without.ensures)
-              (fits_less (c.args.lane.positions - 3) (omega arith) (fits_then (place_fits c.args.lane.positions c.open_stage-opened.ensures.trip c.fetch-fetched.ensures.trip c.requires.rows.small c.requires.room (c.fetch-fetched.ensures.log_len_unchanged ∙ c.open_stage-opened.ensures.log_len_unchanged)) (brought_few (stage_few c.requires.rows c.requires.lane_on _ c.part-stage.ensures) c.bring-brought.ensures.brought_by)));
-    }
+  rows = c.requires.rows;
+  inside = place_below_rest c.requires.rows c.requires.lane_on _ c.part-stage.ensures _ c.without.ensures;
+  reaches = place-reaches c.requires.rows c.requires.lane_on _ c.part-stage.ensures _ c.without.ensures c.where_is-from.result c.bring-brought.ensures.brought (rack_held (rack_some c.requires.rows c.requires.lane_on c.requires.lane_placing c.requires.k_bound) (c.where_is-from.ensures.there ∙ c.next_rack-rack.ensures));
+  room_to_clear = clear_room (rest_few c.requires.rows c.requires.lane_on _ c.part-stage.ensures _ c.without.ensures)
+      (fits_less (c.args.lane.positions - 3) (omega arith) (fits_then (place_fits c.args.lane.positions c.open_stage-opened.ensures.trip c.fetch-fetched.ensures.trip c.requires.rows.small c.requires.room (c.fetch-fetched.ensures.log_len_unchanged ∙ c.open_stage-opened.ensures.log_len_unchanged)) (brought_few (stage_few c.requires.rows c.requires.lane_on _ c.part-stage.ensures) c.bring-brought.ensures.brought_by)));
+}
 
 pub turn-requires : goal.turn-requires
 turn-requires c =

@@ -1,7 +1,6 @@
 -- `live::admit` meets its contract: 60, and the checker's refusal passed up. Assumes nothing.
 use mathlib.Core.Path.{ap, sym, ◌∙◌}
 use native.Mathlib.Omega.{arith}
-use borrow.Author.Tests.{not-true, not-false}
 use Rattle.answers.proofs.AnswerLaws.{passed_up}
 use Rattle.timetable.specs.Checking.{answer_of_check}
 use Rattle.live.proofs.Gate.{gate_lacking, gate_below, gate_few, gate_passed}
@@ -9,11 +8,11 @@ use Rattle.live.proofs.admit.Goals as goal
 
 pub returns-then-not-allowed : goal.returns-then-not-allowed
 returns-then-not-allowed c =
-    gate_lacking c.args.allowed c.args.order.now c.args.timetable.now (not-true _ c.if-not-allowed.true-raw)
+    gate_lacking c.args.allowed c.args.order.now c.args.timetable.now c.if-not-allowed.true
 
 pub returns-in_default : goal.returns-in_default
 returns-in_default c =
-    gate_below c.args.allowed c.args.order.now c.args.timetable.now (not-false _ c.if-not-allowed.false-raw) _ _ _ _ _ c.check-checked.ensures
+    gate_below c.args.allowed c.args.order.now c.args.timetable.now c.if-not-allowed.false _ _ _ _ _ c.check-checked.ensures
     (ap answer_of_check c.in_default.is) (passed_up c.passed_up.ensures)
 
 pub overflow_cast-result : goal.overflow_cast-result
@@ -23,4 +22,4 @@ overflow_cast-result c =
 
 pub returns : goal.returns
 returns c =
-    gate_passed c.args.allowed c.args.order.now c.args.timetable.now (not-false _ c.if-not-allowed.false-raw) _ _ (ap answer_of_check (sym c.in-Accepted.is) ∙ c.check-checked.ensures)
+    gate_passed c.args.allowed c.args.order.now c.args.timetable.now c.if-not-allowed.false _ _ (ap answer_of_check (sym c.in-Accepted.is) ∙ c.check-checked.ensures)

@@ -1,7 +1,6 @@
 -- `live::run` meets its contract: 61 above the gate, or the step is run. Assumes nothing.
 use mathlib.Core.Path.{sym, ◌∙◌}
 use native.Mathlib.Omega.{arith}
-use borrow.Author.Tests.{not-true, not-false}
 use Rattle.live.specs.Roles.{running}
 use Rattle.live.proofs.Gate.{let_in, turned_away, after}
 use Rattle.live.proofs.Driving.{run_lent, run_none, run_illegal, ran_on_lem}
@@ -39,7 +38,7 @@ run_lent-requires c =
 pub returns-then-not-run_lent : goal.returns-then-not-run_lent
 returns-then-not-run_lent c =
     let all = after c.leave-then-not-run_lent.ensures
-    (run_illegal _ _ _ _ (let_in running c.args.role c.args.floor _ _ _ c.enter-gate.ensures _ c.in-Accepted.is) (omega arith) (sym (not-true _ c.if-not-run_lent.true-raw) ∙ c.run_lent.ensures.judged)) in
+    (run_illegal _ _ _ _ (let_in running c.args.role c.args.floor _ _ _ c.enter-gate.ensures _ c.in-Accepted.is) (omega arith) (sym c.if-not-run_lent.true ∙ c.run_lent.ensures.judged)) in
     record {
       answer = all.0;
       picture = all.1;
@@ -47,7 +46,7 @@ returns-then-not-run_lent c =
 
 pub returns : goal.returns
 returns c =
-    let all = ran_on_lem _ _ _ _ (let_in running c.args.role c.args.floor _ _ _ c.enter-gate.ensures _ c.in-Accepted.is) (omega arith) (sym (not-false _ c.if-not-run_lent.false-raw) ∙ c.run_lent.ensures.judged) _
+    let all = ran_on_lem _ _ _ _ (let_in running c.args.role c.args.floor _ _ _ c.enter-gate.ensures _ c.in-Accepted.is) (omega arith) (sym c.if-not-run_lent.false ∙ c.run_lent.ensures.judged) _
     c.run_lent.ensures.made in
     record {
       answer = all.0;

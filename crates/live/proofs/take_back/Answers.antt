@@ -1,7 +1,6 @@
 -- `live::take_back` meets its contract: 62 above the gate, or the step is taken back. Assumes nothing.
 use mathlib.Core.Path.{sym, ◌∙◌}
 use native.Mathlib.Omega.{arith}
-use borrow.Author.Tests.{not-true, not-false}
 use Rattle.live.specs.Roles.{taking_back}
 use Rattle.live.proofs.Gate.{let_in, turned_away, after}
 use Rattle.live.proofs.Driving.{take_lent, take_none, take_past, take_illegal, took_back}
@@ -39,7 +38,7 @@ pub returns-then-not-take_back_lent : goal.returns-then-not-take_back_lent
 returns-then-not-take_back_lent c =
     let all = after c.leave-then-not-take_back_lent.ensures
     (take_illegal _ _ _ _ (let_in taking_back c.args.role c.args.floor _ _ _ c.enter-gate.ensures _ c.in-Accepted.is) (λ e. omega arith) (omega arith)
-    (sym (not-true _ c.if-not-take_back_lent.true-raw) ∙ c.take_back_lent.ensures.judged)) in
+    (sym c.if-not-take_back_lent.true ∙ c.take_back_lent.ensures.judged)) in
     record {
       answer = all.0;
       picture = all.1;
@@ -48,7 +47,7 @@ returns-then-not-take_back_lent c =
 pub returns : goal.returns
 returns c =
     let all = took_back _ _ _ _ (let_in taking_back c.args.role c.args.floor _ _ _ c.enter-gate.ensures _ c.in-Accepted.is) (λ e. omega arith) (omega arith)
-    (sym (not-false _ c.if-not-take_back_lent.false-raw) ∙ c.take_back_lent.ensures.judged) _ c.take_back_lent.ensures.made in
+    (sym c.if-not-take_back_lent.false ∙ c.take_back_lent.ensures.judged) _ c.take_back_lent.ensures.made in
     record {
       answer = all.0;
       picture = all.1;

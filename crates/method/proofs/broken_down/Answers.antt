@@ -51,7 +51,7 @@ solve-end-requires c =
       table = c.fill.ensures.table;
       table_2 = c.fill-2.ensures.table;
       goal_len = c.fill-2.ensures.racks_len_2;
-      space = record { racks = c.fill.ensures.racks_len_2; few_racks = omega arith; c.requires.n_in_bounds = omega arith };
+      space = record { racks = c.fill.ensures.racks_len_2; few_racks = omega arith; room = omega arith };
     }
 
 pub returns : goal.returns

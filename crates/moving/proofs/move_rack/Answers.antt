@@ -20,15 +20,14 @@ put_listed-requires c =
     let few = c.requires.space.few_racks in
     let room = c.requires.space.room in
     let bytes = move-bytes (c.args.written + 1) in
-    let all = ((c.requires.a_bound.0, c.requires.a_bound.1, λ e. (rack_some c.wide-number.result (λ z. c.requires.a_bound.2 (sym c.wide-number.ensures.0 ∙ z)), omega arith)), omega arith)
+    record {
+      a_bound = (c.requires.a_bound.0, c.requires.a_bound.1, λ e. (rack_some c.wide-number.result (λ z. c.requires.a_bound.2 (sym c.wide-number.ensures.0 ∙ z)), omega arith));
+      j_in_bounds = omega arith;
+    }
   where
     rack_some : (r : ℕ) → r ≢ 0 → 1 ≤ r
     rack_some zero n = absurd (n refl)
-    rack_some (suc r) n = omega arith in
-    record {
-      a_bound = all.0;
-      j_in_bounds = all.1;
-    }
+    rack_some (suc r) n = omega arith
 
 pub returns : goal.returns
 returns c =

@@ -1,15 +1,14 @@
 -- `order::racks_sound` meets its contract: the starts and the goals, judged one after the other. Assumes nothing.
-use borrow.Author.Tests.{not-true, not-false}
 use Rattle.order.proofs.Layers.{starts_refused, goals-judged}
 use Rattle.order.proofs.racks_sound.Goals as goal
 
 pub returns-then-not-place_sound : goal.returns-then-not-place_sound
 returns-then-not-place_sound c =
     starts_refused c.args.tail.now c.args.n c.args.e c.args.m _ _ c.place_sound.result c.place_sound.ensures.value
-    (not-true _ c.if-not-place_sound.true-raw)
+    c.if-not-place_sound.true
 
 pub returns : goal.returns
 returns c =
     goals-judged c.args.tail.now c.args.n c.args.e c.args.m _ _ c.place_sound.result c.place_sound.ensures.value
-    (not-false _ c.if-not-place_sound.false-raw) c.place_sound.ensures.table_after
+    c.if-not-place_sound.false c.place_sound.ensures.table_after
     c.place_sound-2.result c.place_sound-2.ensures.value c.place_sound-2.ensures.table_after

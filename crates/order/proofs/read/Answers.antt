@@ -1,7 +1,6 @@
 -- `order::read` meets its contract: a refusal of the edge reader is passed up, and `Layers` has the answers above its acceptance.
 -- Assumes nothing.
 use native.Mathlib.Omega.{arith}
-use borrow.Author.Tests.{not-true, not-false}
 use Rattle.order.proofs.Layers.{edges_gave, edges_down, tail_there, tail_room, racks_wrong, racks_right}
 use borrow.Author.Rules.{rules}
 use Rattle.order.proofs.read.Goals as goal
@@ -34,8 +33,8 @@ racks_sound-requires c =
 
 pub returns-then-not-racks_sound : goal.returns-then-not-racks_sound
 returns-then-not-racks_sound c =
-    racks_wrong (edges_gave c.read_edges-edges.ensures c.in-Accepted.is) c.racks_sound.ensures (not-true _ c.if-not-racks_sound.true-raw)
+    racks_wrong (edges_gave c.read_edges-edges.ensures c.in-Accepted.is) c.racks_sound.ensures c.if-not-racks_sound.true
 
 pub returns : goal.returns
 returns c =
-    racks_right (edges_gave c.read_edges-edges.ensures c.in-Accepted.is) c.racks_sound.ensures (not-false _ c.if-not-racks_sound.false-raw)
+    racks_right (edges_gave c.read_edges-edges.ensures c.in-Accepted.is) c.racks_sound.ensures c.if-not-racks_sound.false

@@ -1,7 +1,6 @@
 -- `order::read_edges` meets its contract: a refusal of the head reader is passed up, and `Layers` has the answers above an accepted head.
 -- Assumes nothing.
 use native.Mathlib.Omega.{arith}
-use borrow.Author.Tests.{not-true, not-false}
 use Rattle.order.specs.Readers.{edges_answer}
 use Rattle.order.proofs.Layers.{passed_down, head_gave, tail_there, tail_room, edges_wrong, edges_right}
 use Rattle.order.proofs.read_edges.Goals as goal
@@ -21,8 +20,8 @@ edges_sound-requires c = omega (arith, tail_room (head_gave c.read_head-head.ens
 
 pub returns-then-not-edges_sound : goal.returns-then-not-edges_sound
 returns-then-not-edges_sound c =
-    edges_wrong (head_gave c.read_head-head.ensures c.in-Accepted.is) c.edges_sound.ensures (not-true _ c.if-not-edges_sound.true-raw)
+    edges_wrong (head_gave c.read_head-head.ensures c.in-Accepted.is) c.edges_sound.ensures c.if-not-edges_sound.true
 
 pub returns : goal.returns
 returns c =
-    edges_right (head_gave c.read_head-head.ensures c.in-Accepted.is) c.edges_sound.ensures (not-false _ c.if-not-edges_sound.false-raw)
+    edges_right (head_gave c.read_head-head.ensures c.in-Accepted.is) c.edges_sound.ensures c.if-not-edges_sound.false

@@ -27,25 +27,25 @@ is_biconnected-requires c = filled_rows (order_accepted c.decode-below.ensures.r
 
 pub returns-then-not-is_biconnected : goal.returns-then-not-is_biconnected
 returns-then-not-is_biconnected c =
-    apart (order_accepted c.decode-below.ensures.result_value c.in-Accepted.is) c.if-n-m.false c.decode-below.ensures.rows_after _ c.is_biconnected.ensures (not-true _ c.if-not-is_biconnected.true-raw)
+    apart (order_accepted c.decode-below.ensures.result_value c.in-Accepted.is) c.if-n-m.false c.decode-below.ensures.rows_after _ c.is_biconnected.ensures c.if-not-is_biconnected.true
 
 pub two_colours-colours-requires : goal.two_colours-colours-requires
 two_colours-colours-requires c =
-    let three = (c.is_biconnected.ensures.0 (not-false _ c.if-not-is_biconnected.false-raw)).three in
+    let three = (c.is_biconnected.ensures.0 c.if-not-is_biconnected.false).three in
     record {
       n_nonzero = omega arith;
       rows = filled_rows (order_accepted c.decode-below.ensures.result_value c.in-Accepted.is) c.decode-below.ensures.rows_after;
-      connected = (c.is_biconnected.ensures.0 (not-false _ c.if-not-is_biconnected.false-raw)).connected;
+      connected = (c.is_biconnected.ensures.0 c.if-not-is_biconnected.false).connected;
     }
 
 pub returns-then-not-colours : goal.returns-then-not-colours
 returns-then-not-colours c =
-    colourless (order_accepted c.decode-below.ensures.result_value c.in-Accepted.is) c.if-n-m.false c.decode-below.ensures.rows_after (c.is_biconnected.ensures.0 (not-false _ c.if-not-is_biconnected.false-raw)) c.two_colours-colours.ensures
+    colourless (order_accepted c.decode-below.ensures.result_value c.in-Accepted.is) c.if-n-m.false c.decode-below.ensures.rows_after (c.is_biconnected.ensures.0 c.if-not-is_biconnected.false) c.two_colours-colours.ensures
     (not-true _ c.if-not-colours.true)
 
 pub is_contrary-requires : goal.is_contrary-requires
 is_contrary-requires c =
-    let three = (c.is_biconnected.ensures.0 (not-false _ c.if-not-is_biconnected.false-raw)).three in
+    let three = (c.is_biconnected.ensures.0 c.if-not-is_biconnected.false).three in
     record {
       n_nonzero = omega arith;
       seats = stands_seats _ _ _ (starts_stand (order_accepted c.decode-below.ensures.result_value c.in-Accepted.is) c.if-n-m.false c.decode-below.ensures.starts_after);
@@ -54,10 +54,10 @@ is_contrary-requires c =
 
 pub returns-then-is_contrary : goal.returns-then-is_contrary
 returns-then-is_contrary c =
-    contrary (order_accepted c.decode-below.ensures.result_value c.in-Accepted.is) c.if-n-m.false c.decode-below.ensures.rows_after (c.is_biconnected.ensures.0 (not-false _ c.if-not-is_biconnected.false-raw)) c.two_colours-colours.ensures (not-false _ c.if-not-colours.false)
+    contrary (order_accepted c.decode-below.ensures.result_value c.in-Accepted.is) c.if-n-m.false c.decode-below.ensures.rows_after (c.is_biconnected.ensures.0 c.if-not-is_biconnected.false) c.two_colours-colours.ensures (not-false _ c.if-not-colours.false)
     c.decode-below.ensures.starts_after c.decode-below.ensures.goals_after c.is_contrary.ensures c.if-is_contrary.true
 
 pub returns : goal.returns
 returns c =
-    agreeing (order_accepted c.decode-below.ensures.result_value c.in-Accepted.is) c.if-n-m.false c.decode-below.ensures.rows_after (c.is_biconnected.ensures.0 (not-false _ c.if-not-is_biconnected.false-raw)) c.two_colours-colours.ensures (not-false _ c.if-not-colours.false)
+    agreeing (order_accepted c.decode-below.ensures.result_value c.in-Accepted.is) c.if-n-m.false c.decode-below.ensures.rows_after (c.is_biconnected.ensures.0 c.if-not-is_biconnected.false) c.two_colours-colours.ensures (not-false _ c.if-not-colours.false)
     c.decode-below.ensures.starts_after c.decode-below.ensures.goals_after c.is_contrary.ensures c.if-is_contrary.false

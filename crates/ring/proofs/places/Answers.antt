@@ -14,6 +14,7 @@ loop-i-init c = (
   (λ q. subst (λ (x : ℕ). x < c.args.n) (sym (none_at 64 q)) c.requires.some),
   placing_none (row
       c.args.circle.now) (row c.args.racks.now) (row (replicate 64 0)),
+)
 
 pub bounds-circle-i : goal.bounds-circle-i
 bounds-circle-i c = let few = c.requires.few in omega arith
@@ -34,17 +35,16 @@ pub bounds-place-rack : goal.bounds-place-rack
 bounds-place-rack c = c.requires.small c.loop-i.i (omega arith)
 
 pub loop-i-preserved : goal.loop-i-preserved
-loop-i-preserved c =
-    (
-      omega arith,
-      length-set c.loop-i.place (row c.args.racks.now (row c.args.circle.now c.loop-i.i)) c.loop-i.i ∙ c.loop-i.invariant.1,
-      below_set c.args.n c.loop-i.place (row c.args.racks.now (row c.args.circle.now c.loop-i.i)) c.loop-i.i (omega arith) c.loop-i.invariant.2,
-      placing_next c.args.n (row c.args.circle.now) (row c.args.racks.now) c.loop-i.place c.loop-i.i c.loop-i.invariant.1 c.requires (omega arith)
-          c.loop-i.invariant.3,
-    )
+loop-i-preserved c = (
+  omega arith,
+  length-set c.loop-i.place (row c.args.racks.now (row c.args.circle.now c.loop-i.i)) c.loop-i.i ∙ c.loop-i.invariant.1,
+  below_set c.args.n c.loop-i.place (row c.args.racks.now (row c.args.circle.now c.loop-i.i)) c.loop-i.i (omega arith) c.loop-i.invariant.2,
+  placing_next c.args.n (row c.args.circle.now) (row c.args.racks.now) c.loop-i.place c.loop-i.i c.loop-i.invariant.1 c.requires (omega arith)
+      c.loop-i.invariant.3,
+)
 
 pub returns : goal.returns
 returns c = record {
-      by_index = (λ i h. c.loop-i.invariant.3 i (omega arith));
-      by_index_2 = c.loop-i.invariant.2;
-    }
+  by_index = (λ i h. c.loop-i.invariant.3 i (omega arith));
+  by_index_2 = c.loop-i.invariant.2;
+}

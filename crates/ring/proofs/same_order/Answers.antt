@@ -3,7 +3,6 @@
 use mathlib.Core.Bool.{false≢true}
 use mathlib.Core.Path.{sym, ◌∙◌}
 use native.Mathlib.Omega.{arith}
-use borrow.Author.Tests.{not-true, not-false}
 use Rattle.graph.proofs.Decision.{says-yes, says_no}
 use Rattle.ring.proofs.OrderLaws.{rack_of_lem, order_kept, kept_order, before-first, before-next, before_last}
 use Rattle.ring.proofs.same_order.Goals as goal
@@ -24,7 +23,7 @@ returns-then-not-keeps c =
     says_no (λ same.
     let all = order_kept c.requires.places c.requires.places_2 same c.loop-r.r (rack_of_lem c.loop-r.invariant.0
     c.loop-r-test.true) in
-    false≢true (sym (not-true _ c.if-not-keeps.true-raw) ∙ c.keeps.ensures.1 all))
+    false≢true (sym c.if-not-keeps.true ∙ c.keeps.ensures.1 all))
 
 pub overflow_add-r : goal.overflow_add-r
 overflow_add-r c = omega (arith, c.requires.n_bound)
@@ -36,7 +35,7 @@ pub loop-r-preserved : goal.loop-r-preserved
 loop-r-preserved c = (
   omega arith,
   omega (arith, c.loop-r-test.true),
-  before-next _ _ c.loop-r.r c.loop-r.invariant.2 (c.keeps.ensures.0 (not-false _ c.if-not-keeps.false-raw)),
+  before-next _ _ c.loop-r.r c.loop-r.invariant.2 (c.keeps.ensures.0 c.if-not-keeps.false),
 )
 
 pub returns : goal.returns

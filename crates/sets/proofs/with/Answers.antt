@@ -3,4 +3,4 @@ use Rattle.sets.proofs.WordLaws.{with_is}
 use Rattle.sets.proofs.with.Goals as goal
 
 pub returns : goal.returns
-returns c = with_is c.args.s c.only.result c.args.v tt (c.only.ensures tt)
+returns c p = with_is c.args.s c.only.result c.args.v p (c.only.ensures p)

@@ -1,7 +1,6 @@
 -- `stepping::run_moves` meets its contract: the positions are known, and the tables decide. Assumes nothing.
 use mathlib.Core.Path.{sym, ◌∙◌}
 use native.Mathlib.Omega.{arith}
-use borrow.Author.Tests.{not-true, not-false}
 use Rattle.order.specs.Order.{floor_of}
 use Rattle.chains.specs.StepOn.{entries}
 use Rattle.stepping.proofs.Lending.{order_head_lem, order_gives, matrix_is, moves_unknown, moves-judged}
@@ -10,7 +9,7 @@ use Rattle.stepping.proofs.run_moves.Goals as goal
 pub returns-then-not-all_known : goal.returns-then-not-all_known
 returns-then-not-all_known c =
     let all = moves_unknown (floor_of c.args.order.now) c.args.n c.args.racks.now (entries c.args.step.now 0 c.args.c)
-    (sym c.all_known.ensures ∙ not-true _ c.if-not-all_known.true-raw) in
+    (sym c.all_known.ensures ∙ c.if-not-all_known.true) in
     record {
       judged = all.0;
       made = all.1;
@@ -34,7 +33,7 @@ pub returns : goal.returns
 returns c =
     let gave = order_gives c.args.order.now c.requires.well_formed _ _ _ c.counts_of-counts.ensures in
     let all = moves-judged (floor_of c.args.order.now) c.args.n c.args.racks.now (entries c.args.step.now 0 c.args.c)
-    (sym c.all_known.ensures ∙ not-false _ c.if-not-all_known.false-raw) _
+    (sym c.all_known.ensures ∙ c.if-not-all_known.false) _
     (matrix_is c.args.order.now _ _ _ gave _ c.mark_edges.ensures) _ _ c.run_entries.ensures.judged c.run_entries.ensures.made in
     record {
       judged = all.0;

@@ -24,8 +24,9 @@ pub loop-i-preserved : goal.loop-i-preserved
 loop-i-preserved c = (
   omega arith,
   omega arith,
-  stands_on _ c.before.before.before.loop.i c.before.before.before.loop.at _ (omega arith) (omega arith)
-      c.before.before.before.loop.invariant.2 c.step-length.ensures.size_is,
+  stands_on _ c.loop-i.i c.loop-i.at _ (omega arith) (omega arith)
+      c.loop-i.invariant.2 c.step_length-at.ensures.size_is,
+)
 
 pub returns : goal.returns
 returns c =

@@ -28,7 +28,7 @@ slice_bounds-judge-start c = (order_accepted c.read-below.ensures c.in-Accepted.
 pub judge-requires : goal.judge-requires
 judge-requires c =
     let gave = (order_accepted c.read-below.ensures c.in-Accepted.is) in
-    let told = (let c.in-Accepted.counts = c.reading-1.given in reading_told c.args.timetable.now c.in-Accepted.counts.0.0 c.in-Accepted.counts.0.1.0 (ap answer_of_check (sym c.in-Accepted.counts.1) ∙ c.read-reading.ensures)) in
+    let told = (reading_told c.args.timetable.now c.in-Accepted-reading.steps c.in-Accepted-reading.moves (ap answer_of_check (sym c.in-Accepted-reading.is) ∙ c.read-reading.ensures)) in
     record {
       e_bound = (gave.few_edges, gave.few_racks, gave.room);
       timetable_value = (told.length_right, told.steps_are, told.few_steps);
@@ -36,4 +36,4 @@ judge-requires c =
 
 pub returns : goal.returns
 returns c =
-    c.judge.ensures ∙ answer_is (order_accepted c.read-below.ensures c.in-Accepted.is) (let c.in-Accepted.counts = c.reading-1.given in reading_told c.args.timetable.now c.in-Accepted.counts.0.0 c.in-Accepted.counts.0.1.0 (ap answer_of_check (sym c.in-Accepted.counts.1) ∙ c.read-reading.ensures))
+    c.judge.ensures ∙ answer_is (order_accepted c.read-below.ensures c.in-Accepted.is) (reading_told c.args.timetable.now c.in-Accepted-reading.steps c.in-Accepted-reading.moves (ap answer_of_check (sym c.in-Accepted-reading.is) ∙ c.read-reading.ensures))

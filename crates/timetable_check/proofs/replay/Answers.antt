@@ -1,6 +1,5 @@
 -- `timetable_check::replay` meets its contract. The loop's invariant: what is left to replay decides. Assumes nothing.
 use native.Mathlib.Omega.{arith}
-use borrow.Author.Tests.{not-true, not-false}
 use Rattle.timetable.proofs.StepLaws.{cut_length}
 use Rattle.timetable.proofs.ReadingLaws.{stands_room}
 use Rattle.timetable_check.proofs.Turns.{steps_first, steps_stop, steps_on, steps_end}
@@ -27,13 +26,13 @@ pub returns-then-not-run_part : goal.returns-then-not-run_part
 returns-then-not-run_part c =
     steps_stop c.args.timetable.now c.args.matrix.now c.args.racks.now c.loop-i.racks c.loop-i.i c.loop-i.at
     c.step_length.result c.loop-i.invariant.1 (omega arith) c.step_length.ensures.size_is c.run_part.result
-    c.run_part.ensures.judged (not-true _ c.if-not-run_part.true-raw)
+    c.run_part.ensures.judged c.if-not-run_part.true
 
 pub loop-i-preserved : goal.loop-i-preserved
 loop-i-preserved c =
     let next = steps_on c.args.timetable.now c.args.matrix.now c.args.racks.now c.loop-i.racks c.loop-i.i c.loop-i.at
     c.step_length.result c.loop-i.invariant.1 (omega arith) c.step_length.ensures.size_is c.run_part.result
-    c.run_part.ensures.judged (not-false _ c.if-not-run_part.false-raw) _ c.run_part.ensures.made in
+    c.run_part.ensures.judged c.if-not-run_part.false _ c.run_part.ensures.made in
     (omega arith, next)
 
 pub returns : goal.returns

@@ -1,6 +1,5 @@
 -- `trains::judge_entries` meets its contract: the two passes, one after the other. Assumes nothing.
 use mathlib.Core.Path.{sym, ◌∙◌}
-use borrow.Author.Tests.{not-true, not-false}
 use Rattle.chains.specs.StepOn.{entries}
 use Rattle.chains.proofs.Moves.{entries_below}
 use Rattle.trains.proofs.Running.{sound_targets, sound_taking, not_sound, sound}
@@ -9,12 +8,12 @@ use Rattle.trains.proofs.judge_entries.Goals as goal
 pub returns-then-not-note_moves : goal.returns-then-not-note_moves
 returns-then-not-note_moves c =
     let ms = entries c.args.step.now 0 c.args.c in
-    not_sound c.args.matrix.now c.args.racks.now ms (sym c.note_moves.ensures.sound ∙ not-true _ c.if-not-note_moves.true-raw)
+    not_sound c.args.matrix.now c.args.racks.now ms (sym c.note_moves.ensures.sound ∙ c.if-not-note_moves.true)
 
 pub all_led-requires : goal.all_led-requires
 all_led-requires c =
     let ms = entries c.args.step.now 0 c.args.c in
-    let yes = not-false _ c.if-not-note_moves.false-raw in
+    let yes = c.if-not-note_moves.false in
     let is = sym c.note_moves.ensures.sound ∙ yes in
     let targets = sound_targets c.args.matrix.now c.args.racks.now ms c.note_moves.new.target (entries_below _ _ _) is (c.note_moves.ensures.all yes) in
     record {
@@ -26,5 +25,5 @@ all_led-requires c =
 pub returns : goal.returns
 returns c =
     let ms = entries c.args.step.now 0 c.args.c in
-    sound c.args.matrix.now c.args.racks.now ms _ (sym c.note_moves.ensures.sound ∙ not-false _ c.if-not-note_moves.false-raw)
+    sound c.args.matrix.now c.args.racks.now ms _ (sym c.note_moves.ensures.sound ∙ c.if-not-note_moves.false)
     c.all_led.ensures

@@ -1,13 +1,12 @@
 -- `trains::run_entries` meets its contract: judged, then made. Assumes nothing.
 use mathlib.Core.Path.{sym, ◌∙◌}
-use borrow.Author.Tests.{not-true, not-false}
 use Rattle.chains.specs.StepOn.{entries}
 use Rattle.trains.proofs.Running.{stays, ran}
 use Rattle.trains.proofs.run_entries.Goals as goal
 
 pub returns-then-not-judge_entries : goal.returns-then-not-judge_entries
 returns-then-not-judge_entries c =
-    let no = not-true _ c.if-not-judge_entries.true-raw in
+    let no = c.if-not-judge_entries.true in
     let is = sym no ∙ c.judge_entries.ensures in
     record {
       judged = is;
@@ -16,7 +15,7 @@ returns-then-not-judge_entries c =
 
 pub returns : goal.returns
 returns c =
-    let yes = not-false _ c.if-not-judge_entries.false-raw in
+    let yes = c.if-not-judge_entries.false in
     let is = sym yes ∙ c.judge_entries.ensures in
     record {
       judged = is;

@@ -2,7 +2,7 @@
 use native.Mathlib.Omega.{arith}
 use borrow.Author.Rules.{rules}
 use Rattle.field.proofs.ListedLaws.{room_at}
-use Rattle.window.proofs.Passing.{pass-first, pass-next, pass_last, row-left_early}
+use Rattle.window.proofs.Passing.{pass-first, pass-next, pass_last, row_early, row-left_early}
 use Rattle.window.proofs.fill.Goals as goal
 
 pub fill_spec : {M : Type 1} → statement M
@@ -24,19 +24,19 @@ move_at-step-requires c =
     room_at c.args.named c.loop-j.j c.args.end _ c.loop-j-test.true c.requires.from_le_end.2
 
 pub overflow_add-wide : goal.overflow_add-wide
-overflow_add-wide c = omega (arith, arrived-few c)
+overflow_add-wide c = omega (arith, (omega (arith, c.wide.ensures, row_early _ _ _ _ _ _ _ c.loop-j.row _ _ _ c.loop-j.j c.loop-j.invariant.1 c.move_at-step.result.first (omega arith))))
 
 pub overflow_mul-wide : goal.overflow_mul-wide
-overflow_mul-wide c = omega (arith, arrived-few c)
+overflow_mul-wide c = omega (arith, (omega (arith, c.wide.ensures, row_early _ _ _ _ _ _ _ c.loop-j.row _ _ _ c.loop-j.j c.loop-j.invariant.1 c.move_at-step.result.first (omega arith))))
 
 pub overflow_add-wide-in-loop-j : goal.overflow_add-wide-in-loop-j
 overflow_add-wide-in-loop-j c = omega (arith, (omega (arith, c.wide-in-loop-j.ensures, row-left_early _ _ _ _ _ _ _ c.loop-j.row _ _ _ c.loop-j.j c.loop-j.invariant.1 c.move_at-step.result.second)))
 
 pub overflow_cast-row : goal.overflow_cast-row
-overflow_cast-row c = omega (arith, turn-few c)
+overflow_cast-row c = omega (arith, (omega (arith, c.later-turn.ensures, (omega (arith, c.wide.ensures, row_early _ _ _ _ _ _ _ c.loop-j.row _ _ _ c.loop-j.j c.loop-j.invariant.1 c.move_at-step.result.first (omega arith))), (omega (arith, c.wide-in-loop-j.ensures, row-left_early _ _ _ _ _ _ _ c.loop-j.row _ _ _ c.loop-j.j c.loop-j.invariant.1 c.move_at-step.result.second)))))
 
 pub overflow_cast-row-in-loop-j : goal.overflow_cast-row-in-loop-j
-overflow_cast-row-in-loop-j c = omega (arith, turn-few c)
+overflow_cast-row-in-loop-j c = omega (arith, (omega (arith, c.later-turn.ensures, (omega (arith, c.wide.ensures, row_early _ _ _ _ _ _ _ c.loop-j.row _ _ _ c.loop-j.j c.loop-j.invariant.1 c.move_at-step.result.first (omega arith))), (omega (arith, c.wide-in-loop-j.ensures, row-left_early _ _ _ _ _ _ _ c.loop-j.row _ _ _ c.loop-j.j c.loop-j.invariant.1 c.move_at-step.result.second)))))
 
 pub loop-j-preserved : goal.loop-j-preserved
 loop-j-preserved c = (
