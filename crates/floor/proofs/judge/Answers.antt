@@ -34,7 +34,7 @@ is_ring-requires c = record {
 
 pub returns-then-n-m : goal.returns-then-n-m
 returns-then-n-m c =
-    let down = ring_full (order_accepted c.decode-below.ensures.result_value c.in-Accepted.is) ((rings ((order_accepted c.decode-below.ensures.result_value c.in-Accepted.is) c) (c c).decode.ensures.1.0).0 (c.is_ring.ensures.0 c.if-is_ring.true)) c.if-n-m.true in
+    let down = ring_full (order_accepted c.decode-below.ensures.result_value c.in-Accepted.is) ((rings (order_accepted c.decode-below.ensures.result_value c.in-Accepted.is) c.decode-below.ensures.rows_after).0 (c.is_ring.ensures.0 c.if-is_ring.true)) c.if-n-m.true in
     record {
       result_value = down;
       result_value_2 = refused_too c.args.order.now 20 0 down;
@@ -44,36 +44,32 @@ returns-then-n-m c =
     }
 
 pub same_round-requires : goal.same_round-requires
-same_round-requires c = ((let rows-lent = ((c c).before.before.before).before.before.before in rows-lent.before.before.args.order.now), (let d = (c (c c)).decode.ensures.1 in ring-tables ((order_accepted c.decode-below.ensures.result_value c.in-Accepted.is) (c c)) d.0 (c.is_ring.ensures.0 c.if-is_ring.true) c.if-n-m.false d.1.0 d.1.1))
+same_round-requires c = (c.args.order.now, (ring-tables (order_accepted c.decode-below.ensures.result_value c.in-Accepted.is) c.decode-below.ensures.rows_after (c.is_ring.ensures.0 c.if-is_ring.true) c.if-n-m.false c.decode-below.ensures.starts_after c.decode-below.ensures.goals_after))
 
 pub returns-then-not-same_round : goal.returns-then-not-same_round
 returns-then-not-same_round c =
-    let k = (c c) in
-    let o = (let rows-lent = (k.before.before.before).before.before.before in rows-lent.before.before.args.order.now) in
-    let down = ring_other (order_accepted k.before.before.before.decode.ensures.0 k.before.below.given.1) ((rings ((order_accepted c.decode-below.ensures.result_value c.in-Accepted.is) c) (c c).decode.ensures.1.0).0 (c.is_ring.ensures.0 c.if-is_ring.true)) c.if-n-m.false
-    (λ s. false≢true (sym c.if-not-same_round.true ∙ (c.same_round.ensures o (let d = (c (c c)).decode.ensures.1 in ring-tables ((order_accepted c.decode-below.ensures.result_value c.in-Accepted.is) (c c)) d.0 (c.is_ring.ensures.0 c.if-is_ring.true) c.if-n-m.false d.1.0 d.1.1)).1
-    (subst (λ (m : ℕ). SameRound (floor_of o) m (starts_of o) (goals_of o)) (sym (order_accepted k.before.before.before.decode.ensures.0 k.before.below.given.1).racks_are) s))) in
+    let down = ring_other (order_accepted c.decode-below.ensures.result_value c.in-Accepted.is) ((rings (order_accepted c.decode-below.ensures.result_value c.in-Accepted.is) c.decode-below.ensures.rows_after).0 (c.is_ring.ensures.0 c.if-is_ring.true)) c.if-n-m.false
+    (λ s. false≢true (sym c.if-not-same_round.true ∙ (c.same_round.ensures c.args.order.now (ring-tables (order_accepted c.decode-below.ensures.result_value c.in-Accepted.is) c.decode-below.ensures.rows_after (c.is_ring.ensures.0 c.if-is_ring.true) c.if-n-m.false c.decode-below.ensures.starts_after c.decode-below.ensures.goals_after)).1
+    (subst (λ (m : ℕ). SameRound (floor_of c.args.order.now) m (starts_of c.args.order.now) (goals_of c.args.order.now)) (sym (order_accepted c.decode-below.ensures.result_value c.in-Accepted.is).racks_are) s))) in
     record {
       result_value = down;
-      result_value_2 = refused_too o 24 0 down;
-      rows_after = k.before.before.before.decode.ensures.1.0;
-      starts_after = k.before.before.before.decode.ensures.1.1.0;
-      goals_after = k.before.before.before.decode.ensures.1.1.1;
+      result_value_2 = refused_too c.args.order.now 24 0 down;
+      rows_after = c.decode-below.ensures.rows_after;
+      starts_after = c.decode-below.ensures.starts_after;
+      goals_after = c.decode-below.ensures.goals_after;
     }
 
 pub returns-then-is_ring : goal.returns-then-is_ring
 returns-then-is_ring c =
-    let k = (c c) in
-    let o = (let rows-lent = (k.before.before.before).before.before.before in rows-lent.before.before.args.order.now) in
-    let up = ring-plain (order_accepted k.before.before.before.decode.ensures.0 k.before.below.given.1) ((rings ((order_accepted c.decode-below.ensures.result_value c.in-Accepted.is) c) (c c).decode.ensures.1.0).0 (c.is_ring.ensures.0 c.if-is_ring.true)) c.if-n-m.false
-    (subst (λ (m : ℕ). SameRound (floor_of o) m (starts_of o) (goals_of o)) (order_accepted k.before.before.before.decode.ensures.0 k.before.below.given.1).racks_are
-    ((c.same_round.ensures o (let d = (c (c c)).decode.ensures.1 in ring-tables ((order_accepted c.decode-below.ensures.result_value c.in-Accepted.is) (c c)) d.0 (c.is_ring.ensures.0 c.if-is_ring.true) c.if-n-m.false d.1.0 d.1.1)).0 c.if-not-same_round.false)) in
+    let up = ring-plain (order_accepted c.decode-below.ensures.result_value c.in-Accepted.is) ((rings (order_accepted c.decode-below.ensures.result_value c.in-Accepted.is) c.decode-below.ensures.rows_after).0 (c.is_ring.ensures.0 c.if-is_ring.true)) c.if-n-m.false
+    (subst (λ (m : ℕ). SameRound (floor_of c.args.order.now) m (starts_of c.args.order.now) (goals_of c.args.order.now)) (order_accepted c.decode-below.ensures.result_value c.in-Accepted.is).racks_are
+    ((c.same_round.ensures c.args.order.now (ring-tables (order_accepted c.decode-below.ensures.result_value c.in-Accepted.is) c.decode-below.ensures.rows_after (c.is_ring.ensures.0 c.if-is_ring.true) c.if-n-m.false c.decode-below.ensures.starts_after c.decode-below.ensures.goals_after)).0 c.if-not-same_round.false)) in
     record {
       result_value = up;
-      result_value_2 = handed (order_accepted k.before.before.before.decode.ensures.0 k.before.below.given.1) up;
-      rows_after = k.before.before.before.decode.ensures.1.0;
-      starts_after = k.before.before.before.decode.ensures.1.1.0;
-      goals_after = k.before.before.before.decode.ensures.1.1.1;
+      result_value_2 = handed (order_accepted c.decode-below.ensures.result_value c.in-Accepted.is) up;
+      rows_after = c.decode-below.ensures.rows_after;
+      starts_after = c.decode-below.ensures.starts_after;
+      goals_after = c.decode-below.ensures.goals_after;
     }
 
 pub overflow_add-m : goal.overflow_add-m
@@ -91,49 +87,43 @@ returns-then-n-m-2 c =
     }
 
 pub is_biconnected-requires : goal.is_biconnected-requires
-is_biconnected-requires c = let k = (c c) in filled_rows (order_accepted k.before.before.before.decode.ensures.0 k.before.below.given.1) k.before.before.before.decode.ensures.1.0
+is_biconnected-requires c = filled_rows (order_accepted c.decode-below.ensures.result_value c.in-Accepted.is) c.decode-below.ensures.rows_after
 
 pub returns-then-not-is_biconnected : goal.returns-then-not-is_biconnected
 returns-then-not-is_biconnected c =
-    let k = (c c) in
-    let d = k.before.before.before.decode.ensures.1 in
-    let down = apart (order_accepted k.before.before.before.decode.ensures.0 k.before.below.given.1) d.0 ((is_none c) c c.if-is_ring.false) c.if-n-m-2.false _ c.is_biconnected.ensures c.if-not-is_biconnected.true in
+    let down = apart (order_accepted c.decode-below.ensures.result_value c.in-Accepted.is) c.decode-below.ensures.rows_after (is_none c c.if-is_ring.false) c.if-n-m-2.false _ c.is_biconnected.ensures c.if-not-is_biconnected.true in
     record {
       result_value = down;
-      result_value_2 = refused_too (let rows-lent = (k.before.before.before).before.before.before in rows-lent.before.before.args.order.now) 21 0 down;
-      rows_after = d.0;
-      starts_after = d.1.0;
-      goals_after = d.1.1;
+      result_value_2 = refused_too c.args.order.now 21 0 down;
+      rows_after = c.decode-below.ensures.rows_after;
+      starts_after = c.decode-below.ensures.starts_after;
+      goals_after = c.decode-below.ensures.goals_after;
     }
 
 pub is_four_sided-requires : goal.is_four_sided-requires
 is_four_sided-requires c =
-    let k = (c c) in
-    filled_rows (order_accepted k.before.before.before.decode.ensures.0 k.before.below.given.1) k.before.before.before.decode.ensures.1.0
+    filled_rows (order_accepted c.decode-below.ensures.result_value c.in-Accepted.is) c.decode-below.ensures.rows_after
 
 pub returns-then-not-is_four_sided : goal.returns-then-not-is_four_sided
 returns-then-not-is_four_sided c =
-    let k = (c c) in
-    let d = k.before.before.before.decode.ensures.1 in
-    let down = many_sided (order_accepted k.before.before.before.decode.ensures.0 k.before.below.given.1) d.0 ((is_none c) c c.if-is_ring.false) c.if-n-m-2.false _ c.is_biconnected.ensures
+    let down = many_sided (order_accepted c.decode-below.ensures.result_value c.in-Accepted.is) c.decode-below.ensures.rows_after (is_none c c.if-is_ring.false) c.if-n-m-2.false _ c.is_biconnected.ensures
     c.if-not-is_biconnected.false _ c.is_four_sided.ensures c.if-not-is_four_sided.true in
     record {
       result_value = down;
-      result_value_2 = refused_too (let rows-lent = (k.before.before.before).before.before.before in rows-lent.before.before.args.order.now) 26 0 down;
-      rows_after = d.0;
-      starts_after = d.1.0;
-      goals_after = d.1.1;
+      result_value_2 = refused_too c.args.order.now 26 0 down;
+      rows_after = c.decode-below.ensures.rows_after;
+      starts_after = c.decode-below.ensures.starts_after;
+      goals_after = c.decode-below.ensures.goals_after;
     }
 
 pub returns : goal.returns
 returns c =
-    let k = (c c) in
-    let up = plain (order_accepted k.before.before.before.decode.ensures.0 k.before.below.given.1) k.before.before.before.decode.ensures.1.0 ((is_none c) c c.if-is_ring.false) c.if-n-m-2.false _ c.is_biconnected.ensures
+    let up = plain (order_accepted c.decode-below.ensures.result_value c.in-Accepted.is) c.decode-below.ensures.rows_after (is_none c c.if-is_ring.false) c.if-n-m-2.false _ c.is_biconnected.ensures
     c.if-not-is_biconnected.false _ c.is_four_sided.ensures c.if-not-is_four_sided.false in
     record {
       result_value = up;
-      result_value_2 = handed (order_accepted k.before.before.before.decode.ensures.0 k.before.below.given.1) up;
-      rows_after = k.before.before.before.decode.ensures.1.0;
-      starts_after = k.before.before.before.decode.ensures.1.1.0;
-      goals_after = k.before.before.before.decode.ensures.1.1.1;
+      result_value_2 = handed (order_accepted c.decode-below.ensures.result_value c.in-Accepted.is) up;
+      rows_after = c.decode-below.ensures.rows_after;
+      starts_after = c.decode-below.ensures.starts_after;
+      goals_after = c.decode-below.ensures.goals_after;
     }

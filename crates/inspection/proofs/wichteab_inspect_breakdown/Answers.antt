@@ -23,15 +23,15 @@ returns-then-ring-eq0 c =
 
 pub lay_out-requires : goal.lay_out-requires
 lay_out-requires c =
-    let l = (small ((order_accepted c.decode-below.ensures.result_value c.in-Accepted.is) c) (c c).decode.ensures.1.0 c.break_down-found.ensures (omega arith)) in
+    let l = (small (order_accepted c.decode-below.ensures.result_value c.in-Accepted.is) c.decode-below.ensures.rows_after c.break_down-found.ensures (omega arith)) in
     let long = c.if-buffer-lt256.false in
     (omega arith, omega arith)
 
 pub overflow_mul-result : goal.overflow_mul-result
-overflow_mul-result c = omega (arith, (small ((order_accepted c.decode-below.ensures.result_value c.in-Accepted.is) c) (c c).decode.ensures.1.0 c.break_down-found.ensures (omega arith)))
+overflow_mul-result c = omega (arith, (small (order_accepted c.decode-below.ensures.result_value c.in-Accepted.is) c.decode-below.ensures.rows_after c.break_down-found.ensures (omega arith)))
 
 pub overflow_add-result : goal.overflow_add-result
-overflow_add-result c = omega (arith, (small ((order_accepted c.decode-below.ensures.result_value c.in-Accepted.is) c) (c c).decode.ensures.1.0 c.break_down-found.ensures (omega arith)))
+overflow_add-result c = omega (arith, (small (order_accepted c.decode-below.ensures.result_value c.in-Accepted.is) c.decode-below.ensures.rows_after c.break_down-found.ensures (omega arith)))
 
 pub returns : goal.returns
 returns c =

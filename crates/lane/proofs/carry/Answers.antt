@@ -49,28 +49,28 @@ without-free-requires c =
 
 pub clear_within-state-requires : goal.clear_within-state-requires
 clear_within-state-requires c =
-    let up = (let four = (let within = (c c).pre.1.0.within in let more = c.loop-i-test.true in let low = (let s = c.requires.lane_on.three in let from = c.requires.in_lane.from in omega arith) c in let from = c.loop-i.invariant.0.from in omega arith) in let r = carry_rounds (c.args.lane.positions c - 2) c.loop-i.i (c c).args.q c.loop-i.invariant.0.from in omega arith) in
-    let all = (let within = (c c).pre.1.0.within in let more = c.loop-i-test.true in carry-all (c.args.lane.positions c - 2) (c.args.lane.positions c) (c.loop-i.i + 1) (c c).args.q (omega arith) ((let s = c.requires.lane_on.three in let from = c.requires.in_lane.from in omega arith) c)) in
+    let up = (let four = (let within = c.requires.lane_on.within in let more = c.loop-i-test.true in let low = (let s = c.requires.lane_on.three in let from = c.requires.in_lane.from in omega arith) in let from = c.loop-i.invariant.0.from in omega arith) in let r = carry_rounds (c.args.lane.positions - 2) c.loop-i.i c.args.q c.loop-i.invariant.0.from in omega arith) in
+    let all = (let within = c.requires.lane_on.within in let more = c.loop-i-test.true in carry-all (c.args.lane.positions - 2) c.args.lane.positions (c.loop-i.i + 1) c.args.q (omega arith) (let s = c.requires.lane_on.three in let from = c.requires.in_lane.from in omega arith)) in
     let log = (carry_few c.args.lane.positions c.requires.rows.small) in
     record {
       rows = c.requires.rows;
-      inside = λ q x. among_floor c.requires.lane_on c.requires.lane_beside (((let without = (c c).before in free_has _ _ _ without.before.part.ensures without.without.ensures c.without-free.ensures) q).0 x).there;
-      reaches = carry-reaches c.requires.lane_on c.requires.lane_beside c.requires.in_lane.from c.loop-i-test.true c.requires.lane_carriable.held c.loop-i.invariant.0 c.after-next.ensures c.requires.rows.symmetric (λ q x. ((let without = (c c).before in free_has _ _ _ without.before.part.ensures without.without.ensures c.without-free.ensures) q).1 x);
-      room_to_clear = clear_room (let p = (c (c c)).pre in let asked = p.1.1.1 in carry_most p.1.0 p.1.1.0 asked.0.from c.loop-i-test.true asked.1.0.held (c c).loop.inv.0 c.after-next.ensures (λ q x. ((let without = (c c).before in free_has _ _ _ without.before.part.ensures without.without.ensures c.without-free.ensures) q).0 x))
+      inside = λ q x. among_floor c.requires.lane_on c.requires.lane_beside (((free_has _ _ _ c.part.ensures c.without-upper.ensures c.without-free.ensures) q).0 x).there;
+      reaches = carry-reaches c.requires.lane_on c.requires.lane_beside c.requires.in_lane.from c.loop-i-test.true c.requires.lane_carriable.held c.loop-i.invariant.0 c.after-next.ensures c.requires.rows.symmetric (λ q x. ((free_has _ _ _ c.part.ensures c.without-upper.ensures c.without-free.ensures) q).1 x);
+      room_to_clear = clear_room (carry_most c.requires.lane_on c.requires.lane_beside c.requires.in_lane.from c.loop-i-test.true c.requires.lane_carriable.held c.loop-i.invariant.0 c.after-next.ensures (λ q x. ((free_has _ _ _ c.part.ensures c.without-upper.ensures c.without-free.ensures) q).0 x))
           (fits_then (fits_anew ((c.args.lane.positions - 2) * (c.loop-i.i - c.args.q) + (c.args.lane.positions - 3)) (omega arith) (omega arith) c.requires.room)
           c.loop-i.invariant.1.journey);
     }
 
 pub make_move-state-requires : goal.make_move-state-requires
 make_move-state-requires c =
-    let up = (let four = (let within = (c c).pre.1.0.within in let more = c.loop-i-test.true in let low = (let s = c.requires.lane_on.three in let from = c.requires.in_lane.from in omega arith) c in let from = c.loop-i.invariant.0.from in omega arith) in let r = carry_rounds (c.args.lane.positions c - 2) c.loop-i.i (c c).args.q c.loop-i.invariant.0.from in omega arith) in
-    let all = (let within = (c c).pre.1.0.within in let more = c.loop-i-test.true in carry-all (c.args.lane.positions c - 2) (c.args.lane.positions c) (c.loop-i.i + 1) (c c).args.q (omega arith) ((let s = c.requires.lane_on.three in let from = c.requires.in_lane.from in omega arith) c)) in
+    let up = (let four = (let within = c.requires.lane_on.within in let more = c.loop-i-test.true in let low = (let s = c.requires.lane_on.three in let from = c.requires.in_lane.from in omega arith) in let from = c.loop-i.invariant.0.from in omega arith) in let r = carry_rounds (c.args.lane.positions - 2) c.loop-i.i c.args.q c.loop-i.invariant.0.from in omega arith) in
+    let all = (let within = c.requires.lane_on.within in let more = c.loop-i-test.true in carry-all (c.args.lane.positions - 2) c.args.lane.positions (c.loop-i.i + 1) c.args.q (omega arith) (let s = c.requires.lane_on.three in let from = c.requires.in_lane.from in omega arith)) in
     let log = (carry_few c.args.lane.positions c.requires.rows.small) in
     record {
       movable = carry_movable c.requires.lane_on c.requires.lane_beside c.requires.in_lane.from c.loop-i-test.true c.requires.lane_carriable.held c.loop-i.invariant.0
-          c.after-next.ensures (λ q x. ((let without = (c c).before in free_has _ _ _ without.before.part.ensures without.without.ensures c.without-free.ensures) q).0 x) c.clear_within-state.ensures.cleared c.requires.rows.small;
+          c.after-next.ensures (λ q x. ((free_has _ _ _ c.part.ensures c.without-upper.ensures c.without-free.ensures) q).0 x) c.clear_within-state.ensures.cleared c.requires.rows.small;
       fits = fits_then (fits_anew ((c.args.lane.positions - 2) * (c.loop-i.i - c.args.q) + (c.args.lane.positions - 3) + 1) (omega arith) (omega arith) c.requires.room)
-          (journey_append c.loop-i.invariant.1.journey (clear_few (let p = (c (c c)).pre in let asked = p.1.1.1 in carry_most p.1.0 p.1.1.0 asked.0.from c.loop-i-test.true asked.1.0.held (c c).loop.inv.0 c.after-next.ensures (λ q x. ((let without = (c c).before in free_has _ _ _ without.before.part.ensures without.without.ensures c.without-free.ensures) q).0 x)) c.clear_within-state.ensures).journey);
+          (journey_append c.loop-i.invariant.1.journey (clear_few (carry_most c.requires.lane_on c.requires.lane_beside c.requires.in_lane.from c.loop-i-test.true c.requires.lane_carriable.held c.loop-i.invariant.0 c.after-next.ensures (λ q x. ((free_has _ _ _ c.part.ensures c.without-upper.ensures c.without-free.ensures) q).0 x)) c.clear_within-state.ensures).journey);
     }
 
 pub overflow_add-i : goal.overflow_add-i
@@ -85,16 +85,16 @@ loop-i-smaller c = let more = c.loop-i-test.true in omega arith
 pub loop-i-preserved : goal.loop-i-preserved
 loop-i-preserved c =
     let low = c.loop-i.invariant.0.from in
-    let can = carry_movable c.requires.lane_on c.requires.lane_beside c.requires.in_lane.from c.loop-i-test.true c.requires.lane_carriable.held c.loop-i.invariant.0 c.after-next.ensures (λ q x. ((let without = (c c).before in free_has _ _ _ without.before.part.ensures without.without.ensures c.without-free.ensures) q).0 x) c.clear_within-state.ensures.cleared c.requires.rows.small in
+    let can = carry_movable c.requires.lane_on c.requires.lane_beside c.requires.in_lane.from c.loop-i-test.true c.requires.lane_carriable.held c.loop-i.invariant.0 c.after-next.ensures (λ q x. ((free_has _ _ _ c.part.ensures c.without-upper.ensures c.without-free.ensures) q).0 x) c.clear_within-state.ensures.cleared c.requires.rows.small in
     let go = c.make_move-state.ensures.journey_on _ (carry_edge c.requires.lane_on c.requires.lane_beside c.requires.in_lane.from c.loop-i-test.true c.requires.lane_carriable.held c.loop-i.invariant.0 c.after-next.ensures) in
-    let way = journey_in_less {Q = λ q. c.args.lane.beside ≢ q} (λ q x z. (((let without = (c c).before in free_has _ _ _ without.before.part.ensures without.without.ensures c.without-free.ensures) q).0 x).other (sym z)) (clear_few (let p = (c (c c)).pre in let asked = p.1.1.1 in carry_most p.1.0 p.1.1.0 asked.0.from c.loop-i-test.true asked.1.0.held (c c).loop.inv.0 c.after-next.ensures (λ q x. ((let without = (c c).before in free_has _ _ _ without.before.part.ensures without.without.ensures c.without-free.ensures) q).0 x)) c.clear_within-state.ensures) in
+    let way = journey_in_less {Q = λ q. c.args.lane.beside ≢ q} (λ q x z. (((free_has _ _ _ c.part.ensures c.without-upper.ensures c.without-free.ensures) q).0 x).other (sym z)) (clear_few (carry_most c.requires.lane_on c.requires.lane_beside c.requires.in_lane.from c.loop-i-test.true c.requires.lane_carriable.held c.loop-i.invariant.0 c.after-next.ensures (λ q x. ((free_has _ _ _ c.part.ensures c.without-upper.ensures c.without-free.ensures) q).0 x)) c.clear_within-state.ensures) in
     let leaves = off c.requires.lane_on c.requires.lane_beside c.requires.lane_beside.there c.loop-i.i (omega arith) c.loop-i-test.true in
     let enters = (carry-next c.requires.lane_on c.requires.lane_beside c.requires.in_lane.from c.loop-i-test.true c.requires.lane_carriable.held c.loop-i.invariant.0 c.after-next.ensures).other in
     let one = journey_in_one {P = λ q. c.args.lane.beside ≢ q} _ _ can c.make_move-state.ensures.passed leaves (λ z. enters (sym z)) go in
     let between = table_went c.requires.rows.inside c.clear_within-state.ensures.journey.journey.trip.went c.loop-i.invariant.0.table in
     let table = table_went c.requires.rows.inside go.trip.went between in
-    let up = (let four = (let within = (c c).pre.1.0.within in let more = c.loop-i-test.true in let low = (let s = c.requires.lane_on.three in let from = c.requires.in_lane.from in omega arith) c in let from = c.loop-i.invariant.0.from in omega arith) in let r = carry_rounds (c.args.lane.positions c - 2) c.loop-i.i (c c).args.q c.loop-i.invariant.0.from in omega arith) in (
-      carrying_step c.requires.lane_on c.requires.lane_beside c.requires.in_lane.from c.loop-i-test.true c.requires.lane_carriable.held c.loop-i.invariant.0 c.after-next.ensures (λ q x. ((let without = (c c).before in free_has _ _ _ without.before.part.ensures without.without.ensures c.without-free.ensures) q).0 x) c.clear_within-state.ensures.cleared table c.make_move-state.ensures.passed,
+    let up = (let four = (let within = c.requires.lane_on.within in let more = c.loop-i-test.true in let low = (let s = c.requires.lane_on.three in let from = c.requires.in_lane.from in omega arith) in let from = c.loop-i.invariant.0.from in omega arith) in let r = carry_rounds (c.args.lane.positions - 2) c.loop-i.i c.args.q c.loop-i.invariant.0.from in omega arith) in (
+      carrying_step c.requires.lane_on c.requires.lane_beside c.requires.in_lane.from c.loop-i-test.true c.requires.lane_carriable.held c.loop-i.invariant.0 c.after-next.ensures (λ q x. ((free_has _ _ _ c.part.ensures c.without-upper.ensures c.without-free.ensures) q).0 x) c.clear_within-state.ensures.cleared table c.make_move-state.ensures.passed,
       journey_in_more _ (omega arith) (journey_in_append c.loop-i.invariant.1 (journey_in_append way one)),
     )
 
@@ -114,8 +114,8 @@ undo-requires c =
     let space = fits_space (fits_anew (carry_moves c.args.lane.positions) (omega arith) (omega arith) c.requires.room) in
     record {
       entries = carry-entries refl (omega arith) c.loop-i.invariant.1.journey;
-      undoable = (_, _, _, (let p = (c c).pre in let rack = p.1.1.1.1.0.held in let away = carry_away p.1.0 p.1.1.0 rack c.loop-i-test.false c.loop-i.invariant.0 c.make_move-state-2.ensures.passed in carry_undoing refl _ _ p.0.symmetric c.loop-i.invariant.1 (c.make_move-state-2.ensures.journey_on _ (c c).pre.1.1.0.edge) away));
-      space = carry_space refl space (omega arith) c.loop-i.invariant.1.journey (c.make_move-state-2.ensures.journey_on _ (c c).pre.1.1.0.edge);
+      undoable = (_, _, _, (let away = carry_away c.requires.lane_on c.requires.lane_beside c.requires.lane_carriable.held c.loop-i-test.false c.loop-i.invariant.0 c.make_move-state-2.ensures.passed in carry_undoing refl _ _ c.requires.rows.symmetric c.loop-i.invariant.1 (c.make_move-state-2.ensures.journey_on _ c.requires.lane_beside.edge) away));
+      space = carry_space refl space (omega arith) c.loop-i.invariant.1.journey (c.make_move-state-2.ensures.journey_on _ c.requires.lane_beside.edge);
     }
 
 pub shape_of-tail : goal.shape_of-tail
@@ -127,9 +127,9 @@ returns c =
     let all = (let most = c.loop-i.invariant.0.most in let within = c.requires.lane_on.within in carry-all (c.args.lane.positions - 2) c.args.lane.positions c.loop-i.i c.args.q (omega arith) (let s = c.requires.lane_on.three in let from = c.requires.in_lane.from in omega arith)) in
     let some = c.loop-i.invariant.1.journey.trip.few in
     let logged = c.loop-i.invariant.1.journey.logged in
-    let back = c.undo.ensures _ _ _ (let p = (c c).pre in let rack = p.1.1.1.1.0.held in let away = carry_away p.1.0 p.1.1.0 rack c.loop-i-test.false c.loop-i.invariant.0 c.make_move-state-2.ensures.passed in carry_undoing refl _ _ p.0.symmetric c.loop-i.invariant.1 (c.make_move-state-2.ensures.journey_on _ (c c).pre.1.1.0.edge) away) in
+    let back = c.undo.ensures _ _ _ (let away = carry_away c.requires.lane_on c.requires.lane_beside c.requires.lane_carriable.held c.loop-i-test.false c.loop-i.invariant.0 c.make_move-state-2.ensures.passed in carry_undoing refl _ _ c.requires.rows.symmetric c.loop-i.invariant.1 (c.make_move-state-2.ensures.journey_on _ c.requires.lane_beside.edge) away) in
     record {
-      trip = trip_anew (trip_more _ (omega arith) (trip_append c.loop-i.invariant.1.journey.trip (trip_append (c.make_move-state-2.ensures.journey_on _ (c c).pre.1.1.0.edge).trip back.0)));
+      trip = trip_anew (trip_more _ (omega arith) (trip_append c.loop-i.invariant.1.journey.trip (trip_append (c.make_move-state-2.ensures.journey_on _ c.requires.lane_beside.edge).trip back.0)));
       lane_carried = back.1;
-      log_len_unchanged = (c.make_move-state-2.ensures.journey_on _ (c c).pre.1.1.0.edge).log ∙ c.loop-i.invariant.1.journey.log;
+      log_len_unchanged = (c.make_move-state-2.ensures.journey_on _ c.requires.lane_beside.edge).log ∙ c.loop-i.invariant.1.journey.log;
     }

@@ -93,7 +93,7 @@ place_of-q-requires c =
 
 pub carry-requires : goal.carry-requires
 carry-requires c =
-    let q = place_at c.place_of-q.ensures (let p = (c c).pre in let away = fails c.has-2.ensures c.if-has-2.false in fetch_place p.0 p.1.0 _ (c c).part.ensures ((c.open_end-open.ensures.lane_kept _ c.requires.lane_placing) c) p.1.1.1.1.0 c.where_is-at.result c.where_is-at.ensures.inside ((c.where_is-at.ensures.there ∙ c.next_rack-rack.ensures) c) away) in
+    let q = place_at c.place_of-q.ensures (let away = fails c.has-2.ensures c.if-has-2.false in fetch_place c.requires.rows c.requires.lane_on _ c.part-stage.ensures (c.open_end-open.ensures.lane_kept _ c.requires.lane_placing) c.requires.k_bound c.where_is-at.result c.where_is-at.ensures.inside (c.where_is-at.ensures.there ∙ c.next_rack-rack.ensures) away) in
     let can : LaneCarriable c.args.lane c.place_of-q.result (row c.open_end-open.result.racks) = record {
       table = (c.open_end-open.ensures.lane_kept _ c.requires.lane_placing).table;
       vacant = c.open_end-open.ensures.lane_open;
@@ -115,7 +115,7 @@ shape_of-tail c =
 
 pub returns : goal.returns
 returns c =
-    let q = place_at c.place_of-q.ensures (let p = (c c).pre in let away = fails c.has-2.ensures c.if-has-2.false in fetch_place p.0 p.1.0 _ (c c).part.ensures ((c.open_end-open.ensures.lane_kept _ c.requires.lane_placing) c) p.1.1.1.1.0 c.where_is-at.result c.where_is-at.ensures.inside ((c.where_is-at.ensures.there ∙ c.next_rack-rack.ensures) c) away) in
+    let q = place_at c.place_of-q.ensures (let away = fails c.has-2.ensures c.if-has-2.false in fetch_place c.requires.rows c.requires.lane_on _ c.part-stage.ensures (c.open_end-open.ensures.lane_kept _ c.requires.lane_placing) c.requires.k_bound c.where_is-at.result c.where_is-at.ensures.inside (c.where_is-at.ensures.there ∙ c.next_rack-rack.ensures) away) in
     let table = table_went c.requires.rows.inside c.carry.ensures.trip.went (c.open_end-open.ensures.lane_kept _ c.requires.lane_placing).table in
     record {
       trip = trip_append c.open_end-open.ensures.trip c.carry.ensures.trip;
