@@ -1,13 +1,9 @@
 -- `base_ring::swap` meets its contract.
 -- Assumes nothing.
-use borrow.Author.Rules.{rules}
 use Rattle.moving.proofs.JourneyLaws.{journey_append, fits_less}
 use native.Mathlib.Omega.{arith}
 use Rattle.base_ring.proofs.MoveLaws.{swap-first, swap-second, swap_third, swap-done, fits_by}
 use Rattle.base_ring.proofs.swap.Goals as goal
-
-pub swap_spec : {M : Type 1} → statement M
-swap_spec = tie.close (tie.spec pass-by-requires pass-by-requires-2 pass-by-requires-3 (λ c. search rules) returns)
 
 pub pass_by-away-requires : goal.pass_by-away-requires
 pass_by-away-requires c = record {

@@ -3,7 +3,6 @@
 use mathlib.Core.Path.{ap, sym, ◌∙◌}
 use mathlib.Core.Bool.{false≢true}
 use native.Mathlib.Omega.{arith}
-use borrow.Author.Rules.{rules}
 use Rattle.answers.proofs.AnswerLaws.{passed_up}
 use Rattle.order.specs.Verdict.{answer_of as orderAnswerOf}
 use Rattle.tables.proofs.AcceptedLaws.{order_accepted}
@@ -11,14 +10,6 @@ use Rattle.floor.proofs.FloorRows.{filled_rows}
 use Rattle.carry.proofs.Making.{carry_refused, some_position, carry-apart, carry_short}
 use Rattle.carry.proofs.Making.{way_nearest, places_below, moves_room, part_back, carry-made}
 use Rattle.carry.proofs.make.Goals as goal
-
-pub make_spec : {M : Type 1} → statement M
-make_spec =
-    tie.close
-    (tie.spec
-    (λ c κs. search rules) (λ c. search rules) (λ c. search rules) (λ c κs. search rules) returns is-connected-requires returns-2 sub-if2
-    mul-if2 add-if2 add-if2-2 returns-3 dearest-requires below-requires only-requires search-requires (λ c. search rules)
-    (λ c. search rules) (λ c. search rules) list-way-requires put-head-requires (λ c. search rules) returns-4)
 
 pub returns-in_default : goal.returns-in_default
 returns-in_default c =

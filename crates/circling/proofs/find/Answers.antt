@@ -8,13 +8,6 @@ use Rattle.ring.proofs.CircleLaws.{next_below}
 use Rattle.circling.proofs.DriveLaws.{tried_none, tried_next}
 use Rattle.circling.proofs.find.Goals as goal
 
-pub find_spec : {M : Type 1} → statement M
-find_spec =
-    tie.close
-    (tie.spec
-    invariant-loop decreases-loop loop-holds element-copy-out-a cast-a (λ c κs. omega arith) element-copy-out-b cast-b element-copy-out-rack cast-rack
-    element-copy-out-if1 mul-if2 element-copy-out-if2 returns (λ c. omega arith) (λ c. omega arith) loop-again returns-2)
-
 pub loop-i-init : goal.loop-i-init
 loop-i-init c = (omega arith, tried_none _ _ _ _)
 

@@ -1,16 +1,8 @@
 -- `farthest::alone` meets its contract. The loop's invariant: the ball of each position before u is the position alone.
 -- Assumes nothing.
 use native.Mathlib.Omega.{arith}
-use Prim.Native.Nat.{ℕ}
-use mathlib.Core.Path.{◌≡◌}
-use mathlib.Core.Logic.{◌↔◌}
-use Rattle.sets.specs.Sets.{Has}
 use Rattle.farthest.proofs.BallLaws.{filled_none, filled_next}
 use Rattle.farthest.proofs.alone.Goals as goal
-
--- the position alone
-abbrev Lone : ℕ → ℕ → Type 0
-Lone a s = (b : ℕ) → Has s b ↔ (b ≡ a)
 
 pub loop-u-init : goal.loop-u-init
 loop-u-init c = (omega arith, filled_none)

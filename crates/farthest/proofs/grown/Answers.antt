@@ -1,17 +1,8 @@
 -- `farthest::grown` meets its contract. The loop's invariant: the ball of each position before u is one move larger.
 -- Assumes nothing.
 use native.Mathlib.Omega.{arith}
-use Prim.Native.Nat.{ℕ}
-use mathlib.Core.List.{List}
-use mathlib.Core.Logic.{◌↔◌}
-use Rattle.sets.specs.Sets.{Has}
-use Rattle.farthest.specs.Balls.{Grows}
 use Rattle.farthest.proofs.BallLaws.{filled_none, filled_next}
 use Rattle.farthest.proofs.grown.Goals as goal
-
--- the ball of a position, one move larger
-abbrev Ball : List ℕ → List ℕ → ℕ → ℕ → Type 0
-Ball g l a s = (b : ℕ) → Has s b ↔ Grows g l a b
 
 pub loop-u-init : goal.loop-u-init
 loop-u-init c = (omega arith, filled_none)

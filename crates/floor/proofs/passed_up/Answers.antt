@@ -1,4 +1,5 @@
 -- `floor::passed_up` meets its contract: the verdict is the same. Assumes nothing.
+use mathlib.Core.List.{[]}
 use mathlib.Core.Path.{ap, sym}
 use Rattle.answers.specs.Answer.{accepted, pass_up}
 use Rattle.order.specs.declared.OrderVerdict.{OrderVerdict}

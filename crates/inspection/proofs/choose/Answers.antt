@@ -3,9 +3,6 @@ use native.Mathlib.Omega.{arith}
 use Rattle.inspection.proofs.ToldLaws.{chosen-first, chosen-second, chosen_third}
 use Rattle.inspection.proofs.choose.Goals as goal
 
-pub choose_spec : {M : Type 1} → statement M
-choose_spec = tie.close (tie.spec returns returns-2 returns-3)
-
 pub returns-then-v-eq0 : goal.returns-then-v-eq0
 returns-then-v-eq0 c = chosen-first _ _ _ _ (omega arith)
 

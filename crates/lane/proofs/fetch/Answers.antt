@@ -15,13 +15,6 @@ use Rattle.lane.proofs.PlaceLaws.{rack_there}
 use Rattle.lane.proofs.FetchLaws.{fails, fetch_already, fetch_place, fetch_held, fetch_carried}
 use Rattle.lane.proofs.fetch.Goals as goal
 
-pub fetch_spec : {M : Type 1} → statement M
-fetch_spec =
-    tie.close
-    (tie.spec
-    next-rack-requires part-requires where-is-requires has-requires returns open-end-requires where-is-requires-2 has-requires-2 same_length
-    returns-2 place-of-requires carry-requires same-length-2 returns-3)
-
 pub next_rack-rack-requires : goal.next_rack-rack-requires
 next_rack-rack-requires c = record {
   places = handle_places c.requires.lane_on c.requires.rows.small;

@@ -3,11 +3,7 @@ use mathlib.Core.Path.{ap, ◌∙◌}
 use mathlib.Core.Bool.{Bool}
 use Rattle.live.specs.Picture.{is_open}
 use Rattle.live.specs.Admitting.{gate_answer}
-use borrow.Author.Rules.{rules}
 use Rattle.live.proofs.enter.Goals as goal
-
-pub enter_spec : {M : Type 1} → statement M
-enter_spec = tie.close (tie.spec (λ c κs. search rules) (λ c κs. search rules) returns)
 
 pub returns : goal.returns
 unfolding is_open

@@ -8,15 +8,7 @@ use Rattle.live.specs.Admitting.{gate_answer}
 use Rattle.live.proofs.Gate.{let_in, turned_away, after}
 use Rattle.stepping.proofs.Lending.{order_head_lem, order_gives}
 use Rattle.live.proofs.Driving.{opening_allowed, opened}
-use borrow.Author.Rules.{rules}
 use Rattle.live.proofs.open.Goals as goal
-
-pub open_spec : {M : Type 1} → statement M
-open_spec =
-    tie.close
-    (tie.spec
-    (λ c κs. search rules) (λ c κs. search rules) (λ c. search rules) (λ c. search rules) (λ c κs. search rules) returns
-    counts-of-requires sub-place-racks part-place-racks-start (λ c. search rules) mul-place-racks place-racks-requires cast-t9 returns-2)
 
 pub returns-in_default : goal.returns-in_default
 returns-in_default c =

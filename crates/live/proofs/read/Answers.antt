@@ -4,14 +4,7 @@ use Rattle.live.specs.Roles.{reading}
 use Rattle.live.specs.Calls.{answer_of}
 use Rattle.live.proofs.Gate.{let_in, refused_reading}
 use Rattle.live.proofs.Driving.{shown_racks}
-use borrow.Author.Rules.{rules}
 use Rattle.live.proofs.read.Goals as goal
-
-pub read_spec : {M : Type 1} → statement M
-read_spec =
-    tie.close
-    (tie.spec
-    (λ c κs. search rules) (λ c. search rules) (λ c. search rules) returns returns-2)
 
 pub returns-in_default : goal.returns-in_default
 returns-in_default c =

@@ -4,16 +4,7 @@ use native.Mathlib.Omega.{arith}
 use Rattle.live.specs.Roles.{running}
 use Rattle.live.proofs.Gate.{let_in, turned_away, after}
 use Rattle.live.proofs.Driving.{run_lent, run_none, run_illegal, ran_on_lem}
-use borrow.Author.Rules.{rules}
 use Rattle.live.proofs.run.Goals as goal
-
-pub run_spec : {M : Type 1} → statement M
-run_spec =
-    tie.close
-    (tie.spec
-    (λ c κs. search rules) (λ c. search rules) (λ c. search rules) (λ c κs. search rules) returns (λ c κs. search rules) returns-2
-    (λ c. search rules) (λ c. search rules) (λ c. search rules) run-lent-requires (λ c κs. search rules) returns-3 (λ c. search rules)
-    (λ c. search rules) returns-4)
 
 pub returns-in_default : goal.returns-in_default
 returns-in_default c =

@@ -1,16 +1,8 @@
 -- `moving::step` meets its contract.
 -- Assumes nothing.
 use mathlib.Core.Path.{refl}
-use borrow.Author.Rules.{rules}
 use Rattle.moving.proofs.JourneyLaws.{moved-relogged, moved-passed, moved_journey}
 use Rattle.moving.proofs.step.Goals as goal
-
-pub step_spec : {M : Type 1} → statement M
-step_spec =
-    tie.close
-    (tie.spec
-    (λ c. search rules) (λ c. search rules) (λ c. search rules) (λ c. search rules) (λ c. search rules) move-rack-requires
-    (λ c. search rules) (λ c. search rules) returns)
 
 pub move_rack-written-requires : goal.move_rack-written-requires
 move_rack-written-requires c = record {

@@ -2,15 +2,7 @@
 -- Assumes nothing.
 use native.Mathlib.Omega.{arith}
 use Rattle.order.proofs.Layers.{edges_gave, edges_down, tail_there, tail_room, racks_wrong, racks_right}
-use borrow.Author.Rules.{rules}
 use Rattle.order.proofs.read.Goals as goal
-
-pub read_spec : {M : Type 1} → statement M
-read_spec =
-    tie.close
-    (tie.spec
-    (λ c κs. search rules) (λ c. search rules) (λ c. search rules) returns sub-racks-sound part-racks-sound-start (λ c. search rules)
-    racks-sound-requires returns-2 returns-3)
 
 pub returns-in_default : goal.returns-in_default
 returns-in_default c =

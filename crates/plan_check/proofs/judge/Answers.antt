@@ -1,5 +1,5 @@
 -- `plan_check::judge` meets its contract: what the replay told, and then the lowest misplaced rack. Assumes nothing.
-use mathlib.Core.List.{◌∷◌}
+use mathlib.Core.List.{[], ◌∷◌}
 use Rattle.answers.specs.declared.Fault.{Fault}
 use Rattle.field.specs.Listed.{listed_moves}
 use Rattle.tables.specs.MovesOn.{replay_on}

@@ -1,6 +1,7 @@
 -- `planner::make_on` meets its contract: a refusal of the floor judge is passed up, and `Making` has the answers above its
 -- acceptance. Assumes nothing.
 use mathlib.Core.Path.{ap, sym, ◌∙◌}
+use mathlib.Core.List.{[]}
 use native.Mathlib.Omega.{arith}
 use Rattle.answers.proofs.AnswerLaws.{passed_up}
 use Rattle.floor.specs.Verdict.{answer_of as floorAnswerOf, handed_on}

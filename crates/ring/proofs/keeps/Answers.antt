@@ -5,13 +5,6 @@ use Rattle.graph.proofs.Decision.{says-yes, says_no}
 use Rattle.ring.proofs.OrderLaws.{rack_of_lem, before-first, before-next, before_last}
 use Rattle.ring.proofs.keeps.Goals as goal
 
-pub keeps_spec : {M : Type 1} → statement M
-keeps_spec =
-    tie.close
-    (tie.spec
-    invariant-loop decreases-loop distance-requires distance-requires-2 loop-holds distance-requires-3 distance-requires-4 returns add-q loop-less
-    loop-again returns-2)
-
 pub distance-from-requires : goal.distance-from-requires
 distance-from-requires c = record {
   n_bound = c.requires.n_bound;

@@ -7,16 +7,7 @@ use Rattle.answers.proofs.AnswerLaws.{passed_up}
 use Rattle.plan.specs.Verdict.{answer_of as planAnswerOf}
 use Rattle.plan_check.proofs.Accepted.{count_below, head_there, tail_fits}
 use Rattle.scheduling.proofs.Making.{maker_refused, maker_short, maker_room, head_room, maker_made}
-use borrow.Author.Rules.{rules}
 use Rattle.scheduling.proofs.make.Goals as goal
-
-pub make_spec : {M : Type 1} → statement M
-make_spec =
-    tie.close
-    (tie.spec
-    (λ c κs. search rules) (λ c. search rules) (λ c. search rules) (λ c κs. search rules) returns mul-if1 add-if1 returns-2
-    names-racks-requires sub-make-steps part-make-steps-start (λ c. search rules) make-steps-requires put-head-requires (λ c. search rules)
-    returns-3)
 
 pub returns-in_default : goal.returns-in_default
 returns-in_default c =

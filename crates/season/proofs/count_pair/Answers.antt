@@ -1,7 +1,7 @@
 -- `season::count_pair` meets its contract: the checker's verdict is counted, and the sums stay small. Assumes nothing.
 use Prim.Native.Nat.{◌^◌, ◌<◌}
 use mathlib.Core.Path.{◌≡◌, ap, sym, ◌∙◌}
-use mathlib.Core.List.{◌∷◌}
+use mathlib.Core.List.{[], ◌∷◌}
 use borrow.Author.Rules.{rules}
 use Rattle.answers.specs.Answer.{accepted}
 use Rattle.timetable.specs.Timetable.{timetable_answer}

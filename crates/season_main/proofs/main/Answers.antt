@@ -3,15 +3,7 @@ use mathlib.Core.Path.{sym}
 use native.Mathlib.Omega.{arith}
 use lib.Seq.{length-take-le}
 use Rattle.field.proofs.WritingLaws.{wrote_within}
-use borrow.Author.Rules.{rules}
 use Rattle.season_main.proofs.main.Goals as goal
-
-pub main_spec : {M : Type 1} → statement M
-main_spec =
-    tie.close
-    (tie.spec
-    (λ c κs. search rules) (λ c. search rules) (λ c κs. search rules) (λ c. search rules) (λ c. search rules) (λ c κs. search rules)
-    array-share-prefix-out slice-aggregate-write-all (λ c κs. search rules) (λ c. search rules))
 
 pub slice_bounds-out-end : goal.slice_bounds-out-end
 slice_bounds-out-end c = wrote_within (omega arith) c.season_program-printed.ensures

@@ -1,5 +1,6 @@
 -- `shortening::write_kept` meets its contract. The loop's invariant: the kept ones of the moves passed are written. Assumes nothing.
 use Prim.Native.Nat.{◌-◌, ◌≤◌}
+use mathlib.Core.List.{[]}
 use mathlib.Core.Path.{◌≡◌}
 use lib.ListN.{length}
 use Rattle.cancelling.specs.Stack.{laid}

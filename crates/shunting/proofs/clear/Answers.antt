@@ -1,17 +1,9 @@
 -- `shunting::clear` meets its contract. `found` has what the search answered. Assumes nothing.
 use Prim.Native.Nat.{◌-◌, ◌<◌}
 use native.Mathlib.Omega.{arith}
-use borrow.Author.Rules.{rules}
 use Rattle.shunting.specs.Cleared.Outcome.{no_way}
 use Rattle.shunting.proofs.ClearLaws.{free_is, way_none, way_simple, way_shiftable, way_distance, cleared}
 use Rattle.shunting.proofs.clear.Goals as goal
-
-pub clear_spec : {M : Type 1} → statement M
-clear_spec =
-    tie.close
-    (tie.spec
-    (λ c κs. search rules) (λ c κs. search rules) (λ c κs. search rules) (λ c κs. search rules) returns (λ c. search rules) shift-requires
-    (λ c. search rules) returns-2)
 
 pub returns-then-size-eq0 : goal.returns-then-size-eq0
 returns-then-size-eq0 c = no_way (way_none (record { rows = c.requires.rows; free_is = free_is _ _ _ _ c.below.ensures c.minus-free.ensures; vacancies = c.vacancies-vacant.ensures; nearest = c.search-route.ensures }) c.if-size-eq0.true)

@@ -4,13 +4,6 @@ use native.Mathlib.Omega.{arith}
 use Rattle.solving.proofs.FillLaws.{filling_begin, filling_some, filling_step, filling_all, filling_end}
 use Rattle.solving.proofs.fill.Goals as goal
 
-pub fill_spec : {M : Type 1} → statement M
-fill_spec =
-    tie.close
-    (tie.spec
-    invariant-loop decreases-loop vacancies-requires loop-holds add-loop lowest-requires add_r cast-racks element-write-racks without-requires loop-less
-    loop-again returns)
-
 pub vacancies-vacant-requires : goal.vacancies-vacant-requires
 vacancies-vacant-requires c = c.requires.n_bound
 

@@ -4,15 +4,7 @@ use native.Mathlib.Omega.{arith}
 use mathlib.Core.Path.{ap}
 use Rattle.timetable.specs.Checking.{answer_of_check}
 use Rattle.timetable.proofs.Reading.{short, passed_up, spare_set, sound}
-use borrow.Author.Rules.{rules}
 use Rattle.timetable.proofs.read.Goals as goal
-
-pub read_spec : {M : Type 1} → statement M
-read_spec =
-    tie.close
-    (tie.spec
-    returns (λ c κs. search rules) (λ c κs. search rules) (λ c. search rules) (λ c. search rules) returns-2 (λ c κs. search rules)
-    returns-3 returns-4)
 
 pub returns-then-timetable-lt3 : goal.returns-then-timetable-lt3
 returns-then-timetable-lt3 c = short c.args.timetable.now (omega arith)

@@ -4,15 +4,7 @@ use mathlib.Core.Path.{sym, ap, ◌∙◌}
 use Rattle.timetable.specs.Reading.{answer_of_step}
 use Rattle.timetable.proofs.StepReader.{part_given_lem}
 use Rattle.timetable.proofs.HandedOut.{given_none, none_place, given_place, end_within}
-use borrow.Author.Rules.{rules}
 use Rattle.timetable.proofs.step.Goals as goal
-
-pub step_spec : {M : Type 1} → statement M
-step_spec =
-    tie.close
-    (tie.spec
-    (λ c κs. search rules) (λ c. search rules) (λ c. search rules) (λ c. search rules) (λ c. search rules) (λ c. search rules) returns
-    add-end (λ c. search rules) (λ c. search rules) part-result-end-2 returns-2)
 
 pub returns-in_default : goal.returns-in_default
 returns-in_default c =

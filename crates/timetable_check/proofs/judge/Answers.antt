@@ -1,5 +1,5 @@
 -- `timetable_check::judge` meets its contract: what the replay told, and then the lowest misplaced rack. Assumes nothing.
-use mathlib.Core.List.{◌∷◌}
+use mathlib.Core.List.{[], ◌∷◌}
 use Rattle.answers.specs.declared.Fault.{Fault}
 use Rattle.tables.proofs.EndingLaws.{judge_told}
 use Rattle.trains.specs.StepsOn.{replay_steps_on}

@@ -7,13 +7,6 @@ use Rattle.turning.proofs.TurnLaws.{round_in, round_below, vacant-place, underwa
 use Rattle.turning.proofs.TurnLaws.{underway_tail, underway_fits, underway_enterable, underway_journey, underway_shown}
 use Rattle.turning.proofs.turn.Goals as goal
 
-pub turn_spec : {M : Type 1} → statement M
-turn_spec =
-    tie.close
-    (tie.spec
-    invariant-loop decreases-loop vacancy-on-requires loop-holds add-b rem-b element-copy-out-b cast-b (λ c. omega arith) add_a rem-a element-copy-out-a
-    cast-a pass-on-requires (λ c. omega arith) loop-again same_length returns)
-
 pub vacancy_on-z-requires : goal.vacancy_on-z-requires
 vacancy_on-z-requires c = record {
   simple = c.requires.simple;

@@ -1,12 +1,8 @@
 -- `window::enter` meets its contract. Assumes nothing.
 use Prim.Native.Nat.{◌+◌, ◌<◌}
 use native.Mathlib.Omega.{arith}
-use borrow.Author.Rules.{rules}
 use Rattle.window.proofs.Passing.{note_outside}
 use Rattle.window.proofs.enter.Goals as goal
-
-pub enter_spec : {M : Type 1} → statement M
-enter_spec = tie.close (tie.spec (λ c. search rules) (λ c κs. search rules) returns (λ c κs. search rules) (λ c. search rules))
 
 pub returns-then-first-t : goal.returns-then-first-t
 returns-then-first-t c =

@@ -1,18 +1,8 @@
 -- `window::fill` meets its contract. The loop's invariant: what is left to pass decides the pass at the end. Assumes nothing.
 use native.Mathlib.Omega.{arith}
-use borrow.Author.Rules.{rules}
 use Rattle.field.proofs.ListedLaws.{room_at}
 use Rattle.window.proofs.Passing.{pass-first, pass-next, pass_last, row_early, row-left_early}
 use Rattle.window.proofs.fill.Goals as goal
-
-pub fill_spec : {M : Type 1} → statement M
-fill_spec =
-    tie.close
-    (tie.spec
-    invariant-loop decreases-loop loop-holds move-at-requires (λ c. omega arith) (λ c. omega arith) (λ c κs. search rules) add-later mul-later
-    (λ c. omega arith) (λ c. omega arith) (λ c. omega arith) (λ c κs. search rules) add-later-2 (λ c κs. search rules) cast-row
-    (λ c. omega arith) (λ c. omega arith) cast-row-2 (λ c. omega arith) (λ c. omega arith) (λ c. omega arith) (λ c κs. search rules)
-    (λ c κs. search rules) (λ c. omega arith) (λ c. omega arith) loop-again returns)
 
 pub loop-j-init : goal.loop-j-init
 loop-j-init c =

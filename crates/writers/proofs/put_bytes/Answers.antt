@@ -1,7 +1,7 @@
 -- `writers::put_bytes` meets its contract. The loop's invariant: the bytes from byte j on are left to write. Assumes nothing.
 use Rattle.writers.proofs.Parts.{next_fits, next-left, all_wrote, bytes_next, bytes_none}
 use Prim.Native.Nat.{◌+◌}
-use mathlib.Core.List.{◌∷◌}
+use mathlib.Core.List.{[], ◌∷◌}
 use native.Mathlib.Omega.{arith}
 use lib.ListN.{get_or, drop}
 use Rattle.field.proofs.WritingLaws.{left-first}
