@@ -15,18 +15,18 @@ loop-i-init c = (omega arith, omega arith, omega arith, left-first _ _)
 
 pub returns-then-timetable-at : goal.returns-then-timetable-at
 returns-then-timetable-at c =
-    past c.args.timetable.now c.args.count c.loop-i.at c.loop-i.moves c.loop-i.pad-seen c.loop-i.i
+    past c.args.timetable.now c.args.count c.loop-i.at c.loop-i.moves c.loop-i.pad_seen c.loop-i.i
     c.loop-i.invariant.3 (omega arith) (omega arith)
 
 pub returns-then-timetable-at-2 : goal.returns-then-timetable-at-2
 returns-then-timetable-at-2 c =
-    runs_past c.args.timetable.now c.args.count c.loop-i.at c.loop-i.moves c.loop-i.pad-seen
+    runs_past c.args.timetable.now c.args.count c.loop-i.at c.loop-i.moves c.loop-i.pad_seen
     c.loop-i.i c.loop-i.invariant.3 (omega arith) (get_or c.args.timetable.now c.loop-i.at 0)
     c.step_length-size.result refl c.step_length-size.ensures.size_is (omega arith) (omega arith)
 
 pub pad_set-requires : goal.pad_set-requires
 pad_set-requires c =
-    part_length c.args.timetable.now c.args.count c.loop-i.at c.loop-i.moves c.loop-i.pad-seen
+    part_length c.args.timetable.now c.args.count c.loop-i.at c.loop-i.moves c.loop-i.pad_seen
     c.loop-i.i c.loop-i.invariant.3 (omega arith) (get_or c.args.timetable.now c.loop-i.at 0)
     c.step_length-size.result refl c.step_length-size.ensures.size_is (omega arith) (omega arith)
 
@@ -35,26 +35,26 @@ loop-i-preserved c = (
   omega arith,
   omega arith,
   omega arith,
-  left-next c.args.timetable.now c.args.count c.loop-i.at c.loop-i.moves c.loop-i.pad-seen
+  left-next c.args.timetable.now c.args.count c.loop-i.at c.loop-i.moves c.loop-i.pad_seen
       c.loop-i.i c.loop-i.invariant.3 (omega arith) c.wide-moves.result c.step_length-size.result c.wide-moves.ensures.0
       (c.step_length-size.ensures.size_is ∙ ap step_length (sym c.wide-moves.ensures.0)) (omega arith) (omega arith)
       c.if-pad_set.pad-seen
-      (⊎_elim (λ w. remembered _ c.loop-i.pad-seen c.pad_set.result w.1 w.0.taken)
-      (λ w. kept _ c.loop-i.pad-seen c.pad_set.result w.1 w.0.left) c.if-pad_set.branch
-      ∙ ap (λ (b : Bool). c.loop-i.pad-seen || b) c.pad_set.ensures),
+      (⊎_elim (λ w. remembered _ c.loop-i.pad_seen c.pad_set.result w.1 w.0.taken)
+      (λ w. kept _ c.loop-i.pad_seen c.pad_set.result w.1 w.0.left) c.if-pad_set.branch
+      ∙ ap (λ (b : Bool). c.loop-i.pad_seen || b) c.pad_set.ensures),
 )
 
 pub returns-then-at-timetable : goal.returns-then-at-timetable
 returns-then-at-timetable c =
-    left_over c.args.timetable.now c.args.count c.loop-i.at c.loop-i.moves c.loop-i.pad-seen
+    left_over c.args.timetable.now c.args.count c.loop-i.at c.loop-i.moves c.loop-i.pad_seen
     c.loop-i.i c.loop-i.invariant.3 (omega arith) (omega arith)
 
 pub returns-then-pad_seen : goal.returns-then-pad_seen
 returns-then-pad_seen c =
-    pads_set c.args.timetable.now c.args.count c.loop-i.at c.loop-i.moves c.loop-i.pad-seen
+    pads_set c.args.timetable.now c.args.count c.loop-i.at c.loop-i.moves c.loop-i.pad_seen
     c.loop-i.i c.loop-i.invariant.3 (omega arith) (omega arith) c.if-pad_seen.true
 
 pub returns : goal.returns
 returns c =
-    left_none c.args.timetable.now c.args.count c.loop-i.at c.loop-i.moves c.loop-i.pad-seen
+    left_none c.args.timetable.now c.args.count c.loop-i.at c.loop-i.moves c.loop-i.pad_seen
     c.loop-i.i c.loop-i.invariant.3 (omega arith) (omega arith) c.if-pad_seen.false
