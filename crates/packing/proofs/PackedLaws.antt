@@ -88,45 +88,63 @@ nothing_packs = record { room = λ v f. omega arith; read = read }
   where
     read : (v : List ℕ) → NoCounts v → nothing_of (nothing v * 256) ≡ v
     read [] no_counts = refl
+    read (_ ∷ _) h = elim h [ ]
 
 pub record_length_packs : Packs one_count record_length_of OneCount
 record_length_packs = record { room = room; read = read }
   where
     room : (v : List ℕ) → OneCount v → one_count v < 2 ^ 56
     room (k ∷ []) (one_count_lem few) = omega arith
+    room [] h = elim h [ ]
+    room (k ∷ _ ∷ _) h = elim h [ ]
 
     read : (v : List ℕ) → OneCount v → record_length_of (one_count v * 256) ≡ v
     read (k ∷ []) (one_count_lem few) = let k_is : k * 256 / 2 ^ 8 ≡ k = omega arith in ap (λ (x : ℕ). x ∷ []) k_is
+    read [] h = elim h [ ]
+    read (k ∷ _ ∷ _) h = elim h [ ]
 
 pub plan-moves-pack : Packs one_count plan_moves_of OneCount
 plan-moves-pack = record { room = room; read = read }
   where
     room : (v : List ℕ) → OneCount v → one_count v < 2 ^ 56
     room (k ∷ []) (one_count_lem few) = omega arith
+    room [] h = elim h [ ]
+    room (k ∷ _ ∷ _) h = elim h [ ]
 
     read : (v : List ℕ) → OneCount v → plan_moves_of (one_count v * 256) ≡ v
     read (k ∷ []) (one_count_lem few) = let k_is : k * 256 / 2 ^ 8 % 2 ^ 32 ≡ k = omega arith in ap (λ (x : ℕ). x ∷ []) k_is
+    read [] h = elim h [ ]
+    read (k ∷ _ ∷ _) h = elim h [ ]
 
 pub made_steps_pack : Packs one_count made_steps_of OneCount
 made_steps_pack = record { room = plan-moves-pack.room; read = read }
   where
     read : (v : List ℕ) → OneCount v → made_steps_of (one_count v * 256) ≡ v
     read (k ∷ []) (one_count_lem few) = let k_is : k * 256 / 2 ^ 8 % 2 ^ 22 % 2 ^ 32 ≡ k = omega arith in ap (λ (x : ℕ). x ∷ []) k_is
+    read [] h = elim h [ ]
+    read (k ∷ _ ∷ _) h = elim h [ ]
 
 pub floor_steps_pack : Packs one_count floor_steps_of WordCount
 floor_steps_pack = record { room = room; read = read }
   where
     room : (v : List ℕ) → WordCount v → one_count v < 2 ^ 56
     room (k ∷ []) (word_count few) = omega arith
+    room [] h = elim h [ ]
+    room (k ∷ _ ∷ _) h = elim h [ ]
 
     read : (v : List ℕ) → WordCount v → floor_steps_of (one_count v * 256) ≡ v
     read (k ∷ []) (word_count few) = let k_is : k * 256 / 2 ^ 8 % 2 ^ 32 ≡ k = omega arith in ap (λ (x : ℕ). x ∷ []) k_is
+    read [] h = elim h [ ]
+    read (k ∷ _ ∷ _) h = elim h [ ]
 
 pub steps_moves-pack : Packs steps_and_moves steps_and_moves_of StepsMoves
 steps_moves-pack = record { room = room; read = read }
   where
     room : (v : List ℕ) → StepsMoves v → steps_and_moves v < 2 ^ 56
     room (s ∷ k ∷ []) (steps_moves few few') = omega arith
+    room [] h = elim h [ ]
+    room (s ∷ []) h = elim h [ ]
+    room (s ∷ k ∷ _ ∷ _) h = elim h [ ]
 
     read : (v : List ℕ) → StepsMoves v → steps_and_moves_of (steps_and_moves v * 256) ≡ v
     read (s ∷ k ∷ []) (steps_moves few few') =
@@ -135,12 +153,18 @@ steps_moves-pack = record { room = room; read = read }
         let above : r / 2 ^ 30 ≡ k = omega arith in
         let k_is : r / 2 ^ 30 % 2 ^ 32 ≡ k = rw above (mod-eq_of_lt (omega arith)) in
         ap₂ (λ (x y : ℕ). x ∷ y ∷ []) s_is k_is
+    read [] h = elim h [ ]
+    read (s ∷ []) h = elim h [ ]
+    read (s ∷ k ∷ _ ∷ _) h = elim h [ ]
 
 pub offset-length_packs : Packs length_and_offset offset_and_length_of OffsetLength
 offset-length_packs = record { room = room; read = read }
   where
     room : (v : List ℕ) → OffsetLength v → length_and_offset v < 2 ^ 56
     room (at ∷ n ∷ []) (offset_length near few) = omega arith
+    room [] h = elim h [ ]
+    room (at ∷ []) h = elim h [ ]
+    room (at ∷ n ∷ _ ∷ _) h = elim h [ ]
 
     read : (v : List ℕ) → OffsetLength v → offset_and_length_of (length_and_offset v * 256) ≡ v
     read (at ∷ n ∷ []) (offset_length near few) =
@@ -148,12 +172,19 @@ offset-length_packs = record { room = room; read = read }
         let at_is : r / 2 ^ 24 ≡ at = omega arith in
         let n_is : r / 2 ^ 8 % 2 ^ 16 ≡ n = omega arith in
         ap₂ (λ (x y : ℕ). x ∷ y ∷ []) at_is n_is
+    read [] h = elim h [ ]
+    read (at ∷ []) h = elim h [ ]
+    read (at ∷ n ∷ _ ∷ _) h = elim h [ ]
 
 pub start-goal-moves-pack : Packs start_goal_moves start_goal_moves_of StartGoalMoves
 start-goal-moves-pack = record { room = room; read = read }
   where
     room : (v : List ℕ) → StartGoalMoves v → start_goal_moves v < 2 ^ 56
     room (s ∷ g ∷ k ∷ []) (start_goal_moves_lem fs fg fk) = omega arith
+    room [] h = elim h [ ]
+    room (s ∷ []) h = elim h [ ]
+    room (s ∷ g ∷ []) h = elim h [ ]
+    room (s ∷ g ∷ k ∷ _ ∷ _) h = elim h [ ]
 
     read : (v : List ℕ) → StartGoalMoves v → start_goal_moves_of (start_goal_moves v * 256) ≡ v
     read (s ∷ g ∷ k ∷ []) (start_goal_moves_lem fs fg fk) =
@@ -165,6 +196,10 @@ start-goal-moves-pack = record { room = room; read = read }
         let g_is : r / 2 ^ 16 % 2 ^ 8 % 2 ^ 32 ≡ g = rw high (omega arith) in
         let k_is : r / 2 ^ 24 % 2 ^ 32 ≡ k = rw top (omega arith) in
         ap₂ (λ (x : ℕ) (l : List ℕ). x ∷ l) s_is (ap₂ (λ (x y : ℕ). x ∷ y ∷ []) g_is k_is)
+    read [] h = elim h [ ]
+    read (s ∷ []) h = elim h [ ]
+    read (s ∷ g ∷ []) h = elim h [ ]
+    read (s ∷ g ∷ k ∷ _ ∷ _) h = elim h [ ]
 
 pub uncounted_sized : {Fits : List ℕ → Type 0} {a : Answer} → Sized Fits a → Sized NoCounts (uncounted a)
 uncounted_sized (accepts fits) = accepts no_counts

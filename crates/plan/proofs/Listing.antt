@@ -54,7 +54,7 @@ unfolding moves_of listed legal_listed after_listed
 listing e F none₃ still = (still, refl)
 listing e F (more₃ {w = w} a b r f) (◌then◌ {A = A} t p) =
     let both = (and_parts (legal_move F A (w.0, w.1)) (rightly w.2 (rack_at A w.0))).0 t in
-    let rest = listing e F f p in
+    let rest = listing e F {A = after_listed A w} f p in
     let rack = told e w.2 (rack_at A w.0) r both.1 in (
       both.0 then rest.0,
       ap₂ (λ (x : ℕ × ℕ × ℕ) (m : List (ℕ × ℕ × ℕ)). x ∷ m) (λ j. (w.0, w.1, rack j)) rest.1,

@@ -46,7 +46,7 @@ rounds c k l =
     omega arith
 
 -- each clearing takes fewer moves than there are positions, the rack's own left out
-brings_few : {E : ℕ → ℕ → Type 0} {P : ℕ → Type 0} {h k : ℕ → ℕ} {a b c : ℕ} {ds : List ℕ} → AtMost (suc c) P → P a
+brings_few : {E : ℕ → ℕ → Type 0} {P : ℕ → Type 0} {h : ℕ → ℕ} {c a : ℕ} {k : ℕ → ℕ} {b : ℕ} {ds : List ℕ} → AtMost (suc c) P → P a
     → Brings E P h a ds b k → P b × (bring_moves ds ≤ c * length ds)
 unfolding sum
 brings_few few pa begun = (pa, omega arith)

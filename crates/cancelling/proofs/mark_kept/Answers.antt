@@ -27,7 +27,7 @@ meet-next-requires c = record {
 
 pub take_move-requires : goal.take_move-requires
 take_move-requires c =
-    let more = ((c.loop-j-test.true, c.requires.k_bound.0)) in (
+    let more = c.loop-j-test.true in let few = c.requires.k_bound.0 in (
       omega (arith, c.meet-next.ensures.index_value.0),
       c.meet-next.ensures.index_value.1,
       record {
@@ -38,14 +38,14 @@ take_move-requires c =
     )
 
 pub overflow_add-j : goal.overflow_add-j
-overflow_add-j c = let more = ((c.loop-j-test.true, c.requires.k_bound.0)) in omega arith
+overflow_add-j c = let more = c.loop-j-test.true in let few = c.requires.k_bound.0 in omega arith
 
 pub loop-j-smaller : goal.loop-j-smaller
-loop-j-smaller c = let more = ((c.loop-j-test.true, c.requires.k_bound.0)) in omega arith
+loop-j-smaller c = let more = c.loop-j-test.true in let few = c.requires.k_bound.0 in omega arith
 
 pub loop-j-preserved : goal.loop-j-preserved
 loop-j-preserved c =
-    let more = ((c.loop-j-test.true, c.requires.k_bound.0)) in (
+    let more = c.loop-j-test.true in let few = c.requires.k_bound.0 in (
       omega arith,
       going_at (ap (λ (i : ℕ). i + 1) c.meet-next.ensures.index_value.0)
           (c.take_move.ensures _ c.meet-next.ensures.met (going_at (sym c.meet-next.ensures.index_value.0) (going_looked c.meet-next.ensures.looked_2 c.loop-j.invariant.1))),

@@ -1,9 +1,9 @@
 -- `ring::keeps` meets its contract. The invariant: the racks before q that were behind rack r are behind it. Assumes nothing.
-use mathlib.Core.Logic.{⊎_elim}
 use native.Mathlib.Omega.{arith}
 use Rattle.graph.proofs.Decision.{says-yes, says_no}
 use Rattle.ring.proofs.OrderLaws.{rack_of_lem, before-first, before-next, before_last}
 use Rattle.ring.proofs.keeps.Goals as goal
+use Rattle.ring.proofs.keeps.Goals.{then-from-distance+else-distance-to, else-from-distance}
 
 pub distance-from-requires : goal.distance-from-requires
 distance-from-requires c = record {
@@ -54,10 +54,11 @@ loop-q-preserved c = (
   omega arith,
   omega (arith, c.loop-q-test.true),
   before-next _ _ c.loop-q.q c.loop-q.invariant.2
-      (⊎_elim
-      (λ w front. omega (arith, w.2.left, w.1.ensures, c.distance-to.ensures))
-      (λ w front. absurd (omega (arith, w.left, c.distance.ensures, c.distance-from.ensures)))
-      c.if-from-distance.branch),
+      (elim c.if-from-distance.branch [
+        then-from-distance+else-distance-to w ↦
+            λ front. omega (arith, w.if-distance-to.false, w.distance-then-from-distance.ensures, c.distance-to.ensures)
+        | else-from-distance w ↦ λ front. absurd (omega (arith, w.if-from-distance.false, c.distance.ensures, c.distance-from.ensures))
+      ]),
 )
 
 pub returns : goal.returns

@@ -1,14 +1,14 @@
 -- `timetable::read_steps` meets its contract. The loop's invariant: what is left to judge decides, given the moves and the pads so far. A
 -- step is at least as long as it has moves, so the moves are at most the bytes. Assumes nothing.
-use mathlib.Core.Path.{refl, sym, ap, ◌∙◌}
+use mathlib.Core.Path.{◌≡◌, refl, sym, ap, ◌∙◌}
 use mathlib.Core.Bool.{Bool, ◌||◌}
-use mathlib.Core.Logic.{⊎_elim}
 use lib.ListN.{get_or}
 use Rattle.timetable.specs.Timetable.{step_length}
 use native.Mathlib.Omega.{arith}
 use Rattle.timetable.proofs.Reading.{left-first, remembered, kept, past, runs_past, part_length, left-next, left_over}
 use Rattle.timetable.proofs.Reading.{pads_set, left_none}
 use Rattle.timetable.proofs.read_steps.Goals as goal
+use Rattle.timetable.proofs.read_steps.Goals.{then-pad_set, else-pad_set}
 
 pub loop-i-init : goal.loop-i-init
 loop-i-init c = (omega arith, omega arith, omega arith, left-first _ _)
@@ -31,17 +31,20 @@ pad_set-requires c =
     c.step_length-size.result refl c.step_length-size.ensures.size_is (omega arith) (omega arith)
 
 pub loop-i-preserved : goal.loop-i-preserved
-loop-i-preserved c = (
+loop-i-preserved c =
+  let seen : c.if-pad_set.pad_seen ≡ (c.loop-i.pad_seen || c.pad_set.result) =
+  elim c.if-pad_set.branch [
+    then-pad_set w ↦ remembered _ c.loop-i.pad_seen c.pad_set.result w.pad_seen-is w.if-pad_set.true
+    | else-pad_set w ↦ kept _ c.loop-i.pad_seen c.pad_set.result w.pad_seen-is w.if-pad_set.false
+  ]
+  in (
   omega arith,
   omega arith,
   omega arith,
   left-next c.args.timetable.now c.args.count c.loop-i.at c.loop-i.moves c.loop-i.pad_seen
       c.loop-i.i c.loop-i.invariant.3 (omega arith) c.wide-moves.result c.step_length-size.result c.wide-moves.ensures.0
       (c.step_length-size.ensures.size_is ∙ ap step_length (sym c.wide-moves.ensures.0)) (omega arith) (omega arith)
-      c.if-pad_set.pad-seen
-      (⊎_elim (λ w. remembered _ c.loop-i.pad_seen c.pad_set.result w.1 w.0.taken)
-      (λ w. kept _ c.loop-i.pad_seen c.pad_set.result w.1 w.0.left) c.if-pad_set.branch
-      ∙ ap (λ (b : Bool). c.loop-i.pad_seen || b) c.pad_set.ensures),
+      c.if-pad_set.pad_seen (seen ∙ ap (λ (b : Bool). c.loop-i.pad_seen || b) c.pad_set.ensures),
 )
 
 pub returns-then-at-timetable : goal.returns-then-at-timetable
