@@ -8,7 +8,7 @@ use Rattle.order.specs.Verdict.{answer_of as orderAnswerOf}
 use Rattle.tables.proofs.AcceptedLaws.{order_accepted}
 use Rattle.floor.proofs.FloorRows.{filled_rows}
 use Rattle.carry.proofs.Making.{carry_refused, some_position, carry-apart, carry_short}
-use Rattle.carry.proofs.Making.{way_nearest, places_below, moves_room, part_back, carry-made}
+use Rattle.carry.proofs.Making.{Found, way_nearest, places_below, moves_room, part_back, carry-made}
 use Rattle.carry.proofs.make.Goals as goal
 
 pub returns-in_default : goal.returns-in_default
@@ -70,18 +70,18 @@ search-way-requires c = record {
 }
 
 pub list_way-requires : goal.list_way-requires
-list_way-requires c = let f = (record { gave = (order_accepted c.decode-below.ensures.result_value c.in-Accepted.is); filled = c.decode-below.ensures.rows_after; whole = (c.is_connected.ensures.0 c.if-not-is_connected.false); room = c.if-buffer-n.false; dear = c.dearest-carry.ensures; size = c.search-way.result.size; way = way_nearest c.in-Accepted.counts.positions c.below.result c.only.result _ _ _ c.decode-below.new.rows c.search-way.result.at c.below.ensures c.only.ensures c.search-way.ensures }) in
+list_way-requires c = let f = ((let it : Found c.args.order.now c.args.buffer.now c.in-Accepted.counts.positions c.in-Accepted.counts.edges c.in-Accepted.counts.racks c.decode-below.new.rows c.dearest-carry.result.start c.dearest-carry.result.goal c.dearest-carry.result.moves c.search-way.result.at = record { gave = (order_accepted c.decode-below.ensures.result_value c.in-Accepted.is); filled = c.decode-below.ensures.rows_after; whole = (c.is_connected.ensures.0 c.if-not-is_connected.false); room = c.if-buffer-n.false; dear = c.dearest-carry.ensures; size = c.search-way.result.size; way = way_nearest c.in-Accepted.counts.positions c.below.result c.only.result _ _ _ c.decode-below.new.rows c.search-way.result.at c.below.ensures c.only.ensures c.search-way.ensures } in it)) in
     record {
       k_bound = places_below f;
       k_in_bounds = moves_room f;
     }
 
 pub put_head-requires : goal.put_head-requires
-put_head-requires c = part_back (record { gave = (order_accepted c.decode-below.ensures.result_value c.in-Accepted.is); filled = c.decode-below.ensures.rows_after; whole = (c.is_connected.ensures.0 c.if-not-is_connected.false); room = c.if-buffer-n.false; dear = c.dearest-carry.ensures; size = c.search-way.result.size; way = way_nearest c.in-Accepted.counts.positions c.below.result c.only.result _ _ _ c.decode-below.new.rows c.search-way.result.at c.below.ensures c.only.ensures c.search-way.ensures }) _
+put_head-requires c = part_back ((let it : Found c.args.order.now c.args.buffer.now c.in-Accepted.counts.positions c.in-Accepted.counts.edges c.in-Accepted.counts.racks c.decode-below.new.rows c.dearest-carry.result.start c.dearest-carry.result.goal c.dearest-carry.result.moves c.search-way.result.at = record { gave = (order_accepted c.decode-below.ensures.result_value c.in-Accepted.is); filled = c.decode-below.ensures.rows_after; whole = (c.is_connected.ensures.0 c.if-not-is_connected.false); room = c.if-buffer-n.false; dear = c.dearest-carry.ensures; size = c.search-way.result.size; way = way_nearest c.in-Accepted.counts.positions c.below.result c.only.result _ _ _ c.decode-below.new.rows c.search-way.result.at c.below.ensures c.only.ensures c.search-way.ensures } in it)) _
 
 pub returns : goal.returns
 returns c =
-    let all = carry-made (record { gave = (order_accepted c.decode-below.ensures.result_value c.in-Accepted.is); filled = c.decode-below.ensures.rows_after; whole = (c.is_connected.ensures.0 c.if-not-is_connected.false); room = c.if-buffer-n.false; dear = c.dearest-carry.ensures; size = c.search-way.result.size; way = way_nearest c.in-Accepted.counts.positions c.below.result c.only.result _ _ _ c.decode-below.new.rows c.search-way.result.at c.below.ensures c.only.ensures c.search-way.ensures }) c.list_way.ensures c.put_head.ensures in
+    let all = carry-made ((let it : Found c.args.order.now c.args.buffer.now c.in-Accepted.counts.positions c.in-Accepted.counts.edges c.in-Accepted.counts.racks c.decode-below.new.rows c.dearest-carry.result.start c.dearest-carry.result.goal c.dearest-carry.result.moves c.search-way.result.at = record { gave = (order_accepted c.decode-below.ensures.result_value c.in-Accepted.is); filled = c.decode-below.ensures.rows_after; whole = (c.is_connected.ensures.0 c.if-not-is_connected.false); room = c.if-buffer-n.false; dear = c.dearest-carry.ensures; size = c.search-way.result.size; way = way_nearest c.in-Accepted.counts.positions c.below.result c.only.result _ _ _ c.decode-below.new.rows c.search-way.result.at c.below.ensures c.only.ensures c.search-way.ensures } in it)) c.list_way.ensures c.put_head.ensures in
     record {
       result_value = all.0;
       buffer_after = all.1;

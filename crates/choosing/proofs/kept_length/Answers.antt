@@ -1,16 +1,17 @@
 -- `choosing::kept_length` meets its contract. Assumes nothing.
+use Prim.Native.Nat.{◌<◌}
 use native.Mathlib.Omega.{arith}
 use Rattle.comparing.proofs.Improving.{positions_below, cubes}
 use Rattle.choosing.proofs.kept_length.Goals as goal
 
 pub overflow_mul-n : goal.overflow_mul-n
-overflow_mul-n c = omega (arith, cubes _ (omega (arith, c.counts_of-counts.ensures.positions_are, positions_below c.args.order.now)))
+overflow_mul-n c = omega (arith, cubes _ ((let it : c.counts_of-counts.result.positions < 128 = omega (arith, c.counts_of-counts.ensures.positions_are, positions_below c.args.order.now) in it)))
 
 pub overflow_mul-n-2 : goal.overflow_mul-n-2
-overflow_mul-n-2 c = omega (arith, cubes _ (omega (arith, c.counts_of-counts.ensures.positions_are, positions_below c.args.order.now)))
+overflow_mul-n-2 c = omega (arith, cubes _ ((let it : c.counts_of-counts.result.positions < 128 = omega (arith, c.counts_of-counts.ensures.positions_are, positions_below c.args.order.now) in it)))
 
 pub overflow_mul-n-3 : goal.overflow_mul-n-3
-overflow_mul-n-3 c = omega (arith, cubes _ (omega (arith, c.counts_of-counts.ensures.positions_are, positions_below c.args.order.now)))
+overflow_mul-n-3 c = omega (arith, cubes _ ((let it : c.counts_of-counts.result.positions < 128 = omega (arith, c.counts_of-counts.ensures.positions_are, positions_below c.args.order.now) in it)))
 
 pub overflow_add-n : goal.overflow_add-n
-overflow_add-n c = omega (arith, cubes _ (omega (arith, c.counts_of-counts.ensures.positions_are, positions_below c.args.order.now)))
+overflow_add-n c = omega (arith, cubes _ ((let it : c.counts_of-counts.result.positions < 128 = omega (arith, c.counts_of-counts.ensures.positions_are, positions_below c.args.order.now) in it)))

@@ -40,7 +40,7 @@ overflow_add-to c =
 pub cost-moves-requires : goal.cost-moves-requires
 cost-moves-requires c = record {
   n_bound = c.requires.n_bound;
-  bases = (subst (Aimed c.args.n c.args.from (row c.args.g.now 1)) (let w = c.loop-lap.invariant.2 in let u = up c.args.n c.loop-lap.lap c.loop-lap.invariant.0 in omega arith) (aimed-at c.args.n c.args.from (row c.args.g.now 1) c.loop-lap.lap (row c.args.g.now 1 + c.args.n * c.loop-lap.lap) c.requires.n_bound.0 c.requires.n_bound_2.0 c.requires.n_bound_2.1 c.requires.g_bound (omega arith) (omega arith))).there;
+  bases = ((let it : Aimed c.args.n c.args.from (row c.args.g.now 1) (c.loop-lap.to + c.args.n) = subst (Aimed c.args.n c.args.from (row c.args.g.now 1)) (let w = c.loop-lap.invariant.2 in let u = up c.args.n c.loop-lap.lap c.loop-lap.invariant.0 in omega arith) (aimed-at c.args.n c.args.from (row c.args.g.now 1) c.loop-lap.lap (row c.args.g.now 1 + c.args.n * c.loop-lap.lap) c.requires.n_bound.0 c.requires.n_bound_2.0 c.requires.n_bound_2.1 c.requires.g_bound (omega arith) (omega arith)) in it)).there;
   places = c.requires.places;
   places_2 = c.requires.places_2;
 }
@@ -51,7 +51,7 @@ loop-lap-preserved c = (
   omega arith,
   (let w = c.loop-lap.invariant.2 in let u = up c.args.n c.loop-lap.lap c.loop-lap.invariant.0 in
       let z : c.args.n * (c.loop-lap.lap + 1 - 1) ≡ c.args.n * c.loop-lap.lap = ap (λ (x : ℕ). c.args.n * x) (omega arith) in omega arith),
-  ⊎_elim (λ w. subst (Aimed c.args.n c.args.from (row c.args.g.now 1)) (sym w.1) (subst (Aimed c.args.n c.args.from (row c.args.g.now 1)) (let w = c.loop-lap.invariant.2 in let u = up c.args.n c.loop-lap.lap c.loop-lap.invariant.0 in omega arith) (aimed-at c.args.n c.args.from (row c.args.g.now 1) c.loop-lap.lap (row c.args.g.now 1 + c.args.n * c.loop-lap.lap) c.requires.n_bound.0 c.requires.n_bound_2.0 c.requires.n_bound_2.1 c.requires.g_bound (omega arith) (omega arith))))
+  ⊎_elim (λ w. subst (Aimed c.args.n c.args.from (row c.args.g.now 1)) (sym w.1) ((let it : Aimed c.args.n c.args.from (row c.args.g.now 1) (c.loop-lap.to + c.args.n) = subst (Aimed c.args.n c.args.from (row c.args.g.now 1)) (let w = c.loop-lap.invariant.2 in let u = up c.args.n c.loop-lap.lap c.loop-lap.invariant.0 in omega arith) (aimed-at c.args.n c.args.from (row c.args.g.now 1) c.loop-lap.lap (row c.args.g.now 1 + c.args.n * c.loop-lap.lap) c.requires.n_bound.0 c.requires.n_bound_2.0 c.requires.n_bound_2.1 c.requires.g_bound (omega arith) (omega arith)) in it)))
       (λ w. subst (Aimed c.args.n c.args.from (row c.args.g.now 1)) (sym w.1) c.loop-lap.invariant.3) c.if-moves-least.branch,
 )
 

@@ -5,33 +5,11 @@ use native.Mathlib.Omega.{arith}
 use Rattle.ring.specs.Circle.{next}
 use Rattle.graph.specs.Rows.{row}
 use Rattle.ring.proofs.CircleLaws.{next_below}
-use Rattle.moving.specs.Journey.{unlogged}
 use Rattle.moving.proofs.JourneyLaws.{space_less}
-use Rattle.circling.specs.Drive.{Circled, Ready}
-use Rattle.circling.proofs.DriveLaws.{Driving, driving_first, driving_small, driving_space, driving_movable, driving_rack}
+use Rattle.circling.proofs.DriveLaws.{driving_first, driving_small, driving_space, driving_movable, driving_rack}
 use Rattle.circling.proofs.DriveLaws.{driving_more}
 use Rattle.circling.proofs.DriveLaws.{moved_to, driving_next, driving_less, driving_last}
 use Rattle.circling.proofs.drive.Goals as goal
-
--- what is known in a turn of the loop: its entry and its begin, the place found, and that it is ready
-abbrev Turn : Type 0
-Turn = tie.Else1 invariant-loop decreases-loop
-
-abbrev place : Turn → ℕ
-place turn = turn.before.find.result
-
-abbrev circled : (turn : Turn) → Circled (entry turn).args.n (row (entry turn).args.circle.now)
-circled turn = (entry turn).pre.0
-
-abbrev state : (turn : Turn)
-    → Driving (entry turn).args.n (entry turn).args.real (row (entry turn).args.circle.now) (entry turn).args.need
-    (unlogged (entry turn).args.racks.now (entry turn).args.real (entry turn).args.written) (entry turn).args.tail.now
-    (at turn).loop.need (unlogged (at turn).loop.racks (entry turn).args.real (at turn).loop.written) (at turn).loop.tail
-state turn = (at turn).loop.inv
-
-ready : (turn : Turn) → Ready (entry turn).args.n (row (entry turn).args.circle.now) (row (at turn).loop.need) (row
-    (at turn).loop.racks) (place turn)
-ready turn = turn.before.find.ensures.ready turn.if1.left
 
 pub loop-need-init : goal.loop-need-init
 loop-need-init c = driving_first c.requires.need_len c.requires.driveable
@@ -60,52 +38,52 @@ pub bounds-circle-i : goal.bounds-circle-i
 bounds-circle-i c = let few = c.requires.driveable.few in omega arith
 
 pub overflow_cast-a : goal.overflow_cast-a
-overflow_cast-a c = let w = (driving_movable (state c) (circled c) _ (omega arith) (ready c)).leaves in omega arith
+overflow_cast-a c = let w = (driving_movable c.loop-need.invariant c.requires.circled _ (omega arith) (c.find-i.ensures.ready c.if-n-i.false)).leaves in omega arith
 
 pub bounds-circle-next : goal.bounds-circle-next
 bounds-circle-next c =
     let few = c.requires.driveable.few in
-    omega (arith, c.next.ensures, next_below c.args.n (place c) (omega arith))
+    omega (arith, c.next.ensures, next_below c.args.n c.find-i.result (omega arith))
 
 pub overflow_cast-b : goal.overflow_cast-b
-overflow_cast-b c = let w = (subst (λ (x : ℕ). row c.args.circle.now x < 64) (sym c.next.ensures) (driving_movable (state c) (circled c) _ c.if-n-i.false (ready c)).enters) in omega arith
+overflow_cast-b c = let w = ((let it : row c.args.circle.now c.next.result < 64 = subst (λ (x : ℕ). row c.args.circle.now x < 64) (sym c.next.ensures) (driving_movable c.loop-need.invariant c.requires.circled _ c.if-n-i.false (c.find-i.ensures.ready c.if-n-i.false)).enters in it)) in omega arith
 
 pub bounds-racks-a : goal.bounds-racks-a
-bounds-racks-a c = (driving_movable (state c) (circled c) _ (omega arith)
-    (ready c)).leaves
+bounds-racks-a c = (driving_movable c.loop-need.invariant c.requires.circled _ (omega arith)
+    (c.find-i.ensures.ready c.if-n-i.false)).leaves
 
 pub overflow_cast-rack : goal.overflow_cast-rack
-overflow_cast-rack c = let w = (driving_rack (state c) (circled c) (place c) c.if-n-i.false (ready c)) in omega arith
+overflow_cast-rack c = let w = ((let it : row c.loop-need.racks (row c.args.circle.now c.find-i.result) < 64 = driving_rack c.loop-need.invariant c.requires.circled c.find-i.result c.if-n-i.false (c.find-i.ensures.ready c.if-n-i.false) in it)) in omega arith
 
 pub offset_bounds-need-rack : goal.offset_bounds-need-rack
-offset_bounds-need-rack c = let w = (driving_rack (state c) (circled c) (place c) c.if-n-i.false (ready c)) in omega arith
+offset_bounds-need-rack c = let w = ((let it : row c.loop-need.racks (row c.args.circle.now c.find-i.result) < 64 = driving_rack c.loop-need.invariant c.requires.circled c.find-i.result c.if-n-i.false (c.find-i.ensures.ready c.if-n-i.false) in it)) in omega arith
 
 pub bounds-need-rack : goal.bounds-need-rack
-bounds-need-rack c = (driving_rack (state c) (circled c) (place c) c.if-n-i.false (ready c))
+bounds-need-rack c = ((let it : row c.loop-need.racks (row c.args.circle.now c.find-i.result) < 64 = driving_rack c.loop-need.invariant c.requires.circled c.find-i.result c.if-n-i.false (c.find-i.ensures.ready c.if-n-i.false) in it))
 
 pub overflow_sub-need : goal.overflow_sub-need
-overflow_sub-need c = let w = (ready c).needs in omega arith
+overflow_sub-need c = let w = (c.find-i.ensures.ready c.if-n-i.false).needs in omega arith
 
 pub offset_bounds-need-rack-in-loop-need : goal.offset_bounds-need-rack-in-loop-need
-offset_bounds-need-rack-in-loop-need c = let w = (driving_rack (state c) (circled c) (place c) c.if-n-i.false (ready c)) in omega arith
+offset_bounds-need-rack-in-loop-need c = let w = ((let it : row c.loop-need.racks (row c.args.circle.now c.find-i.result) < 64 = driving_rack c.loop-need.invariant c.requires.circled c.find-i.result c.if-n-i.false (c.find-i.ensures.ready c.if-n-i.false) in it)) in omega arith
 
 pub bounds-need-rack-in-loop-need : goal.bounds-need-rack-in-loop-need
-bounds-need-rack-in-loop-need c = (driving_rack (state c) (circled c) (place c) c.if-n-i.false (ready c))
+bounds-need-rack-in-loop-need c = ((let it : row c.loop-need.racks (row c.args.circle.now c.find-i.result) < 64 = driving_rack c.loop-need.invariant c.requires.circled c.find-i.result c.if-n-i.false (c.find-i.ensures.ready c.if-n-i.false) in it))
 
 pub move_rack-written-requires : goal.move_rack-written-requires
 move_rack-written-requires c =
-    let movable = driving_movable (state c) (circled c) _ (omega arith) (ready c) in
+    let movable = driving_movable c.loop-need.invariant c.requires.circled _ (omega arith) (c.find-i.ensures.ready c.if-n-i.false) in
     record {
-      a_bound = (movable.leaves, (subst (λ (x : ℕ). row c.args.circle.now x < 64) (sym c.next.ensures) (driving_movable (state c) (circled c) _ c.if-n-i.false (ready c)).enters), movable.held);
-      space = space_less 1 (driving_more (state c) (circled c) (place c) (omega arith) (ready c))
-          (driving_space (state c) (circled c) c.requires.space);
+      a_bound = (movable.leaves, ((let it : row c.args.circle.now c.next.result < 64 = subst (λ (x : ℕ). row c.args.circle.now x < 64) (sym c.next.ensures) (driving_movable c.loop-need.invariant c.requires.circled _ c.if-n-i.false (c.find-i.ensures.ready c.if-n-i.false)).enters in it)), movable.held);
+      space = space_less 1 (driving_more c.loop-need.invariant c.requires.circled c.find-i.result (omega arith) (c.find-i.ensures.ready c.if-n-i.false))
+          (driving_space c.loop-need.invariant c.requires.circled c.requires.space);
     }
 
 pub loop-need-smaller : goal.loop-need-smaller
 loop-need-smaller c =
-    driving_less (state c) (circled c) (place c) (omega arith) (ready c)
+    driving_less c.loop-need.invariant c.requires.circled c.find-i.result (omega arith) (c.find-i.ensures.ready c.if-n-i.false)
 
 pub loop-need-preserved : goal.loop-need-preserved
 loop-need-preserved c =
-    driving_next (state c) (circled c) (place c) (omega arith) (ready c) c.requires.space
+    driving_next c.loop-need.invariant c.requires.circled c.find-i.result (omega arith) (c.find-i.ensures.ready c.if-n-i.false) c.requires.space
     (moved_to (ap (row c.args.circle.now) c.next.ensures) c.move_rack-written.ensures)

@@ -1,4 +1,5 @@
 -- `comparing::improves` meets its contract: `Improving` has each answer from what was read of the two records. Assumes nothing.
+use Prim.Native.Nat.{◌<◌}
 use mathlib.Core.Path.{ap, sym, ◌∙◌}
 use mathlib.Core.Bool.{true, false}
 use native.Mathlib.Omega.{arith}
@@ -33,13 +34,13 @@ pub count_at_head-moves-requires : goal.count_at_head-moves-requires
 count_at_head-moves-requires c = (heads_there c.args.order.now c.args.found.now _ (steps_told c.args.order.now c.args.found.now c.in-Accepted-other.fewer (ap answer_of (sym c.in-Accepted-other.is) ∙ c.count_steps-other.ensures)).1).0
 
 pub overflow_mul-n : goal.overflow_mul-n
-overflow_mul-n c = omega (arith, cubes c.counts_of-n.result.positions (omega (arith, c.counts_of-n.ensures.positions_are, positions_below c.args.order.now)))
+overflow_mul-n c = omega (arith, cubes c.counts_of-n.result.positions ((let it : c.counts_of-n.result.positions < 128 = omega (arith, c.counts_of-n.ensures.positions_are, positions_below c.args.order.now) in it)))
 
 pub overflow_mul-n-2 : goal.overflow_mul-n-2
-overflow_mul-n-2 c = omega (arith, cubes c.counts_of-n.result.positions (omega (arith, c.counts_of-n.ensures.positions_are, positions_below c.args.order.now)))
+overflow_mul-n-2 c = omega (arith, cubes c.counts_of-n.result.positions ((let it : c.counts_of-n.result.positions < 128 = omega (arith, c.counts_of-n.ensures.positions_are, positions_below c.args.order.now) in it)))
 
 pub overflow_mul-n-3 : goal.overflow_mul-n-3
-overflow_mul-n-3 c = omega (arith, cubes c.counts_of-n.result.positions (omega (arith, c.counts_of-n.ensures.positions_are, positions_below c.args.order.now)))
+overflow_mul-n-3 c = omega (arith, cubes c.counts_of-n.result.positions ((let it : c.counts_of-n.result.positions < 128 = omega (arith, c.counts_of-n.ensures.positions_are, positions_below c.args.order.now) in it)))
 
 pub returns-then-n-moves : goal.returns-then-n-moves
 returns-then-n-moves c =

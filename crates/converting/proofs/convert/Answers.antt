@@ -1,7 +1,9 @@
 -- `converting::convert` meets its contract: a refusal of the plan checker is passed up, and `Converting` has the answers above its
 -- acceptance. Assumes nothing.
+use Prim.Native.Nat.{◌≤◌}
 use mathlib.Core.Path.{ap, sym, ◌∙◌}
 use native.Mathlib.Omega.{arith}
+use lib.ListN.{length}
 use Rattle.answers.proofs.AnswerLaws.{passed_up}
 use Rattle.plan.specs.Verdict.{answer_of as planAnswerOf}
 use Rattle.plan_check.proofs.Accepted.{gave, count_below, head_there, order_there, tail_fits}
@@ -54,10 +56,10 @@ pub slice_bounds-list_moves-start : goal.slice_bounds-list_moves-start
 slice_bounds-list_moves-start c = head_there c.args.order.now c.args.plan.now c.in-Accepted.k (ap planAnswerOf (sym c.in-Accepted.is) ∙ c.check-below.ensures)
 
 pub slice_bounds-list_moves-count-2 : goal.slice_bounds-list_moves-count-2
-slice_bounds-list_moves-count-2 c = (omega (arith, c.if-buffer-units.false))
+slice_bounds-list_moves-count-2 c = ((let it : 3 ≤ length c.args.buffer.now = omega (arith, c.if-buffer-units.false) in it))
 
 pub slice_bounds-list_moves-start-2 : goal.slice_bounds-list_moves-start-2
-slice_bounds-list_moves-start-2 c = (omega (arith, c.if-buffer-units.false))
+slice_bounds-list_moves-start-2 c = ((let it : 3 ≤ length c.args.buffer.now = omega (arith, c.if-buffer-units.false) in it))
 
 pub list_moves-requires : goal.list_moves-requires
 list_moves-requires c = record {

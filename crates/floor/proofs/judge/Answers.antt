@@ -8,6 +8,7 @@ use Rattle.order.specs.Order.{floor_of, starts_of, goals_of}
 use Rattle.order.specs.Verdict.{answer_of as orderAnswerOf}
 use Rattle.tables.proofs.AcceptedLaws.{order_accepted}
 use Rattle.floor.specs.FloorAnswer.{SameRound}
+use Rattle.floor.specs.RingTables.{RingTables}
 use Rattle.floor.proofs.FloorRows.{filled_rows}
 use Rattle.floor.proofs.Layers.{order_refused, order_handed, handed, refused_too, crowded, ring_full, ring_other, ring-plain}
 use Rattle.floor.proofs.Layers.{rows-counted, rings, ring-tables, apart, many_sided, plain}
@@ -44,12 +45,12 @@ returns-then-n-m c =
     }
 
 pub same_round-requires : goal.same_round-requires
-same_round-requires c = (c.args.order.now, (ring-tables (order_accepted c.decode-below.ensures.result_value c.in-Accepted.is) c.decode-below.ensures.rows_after (c.is_ring.ensures.0 c.if-is_ring.true) c.if-n-m.false c.decode-below.ensures.starts_after c.decode-below.ensures.goals_after))
+same_round-requires c = (c.args.order.now, ((let it : RingTables c.args.order.now c.in-Accepted.counts.positions c.in-Accepted.counts.racks c.decode-below.new.rows c.decode-below.new.starts c.decode-below.new.goals = ring-tables (order_accepted c.decode-below.ensures.result_value c.in-Accepted.is) c.decode-below.ensures.rows_after (c.is_ring.ensures.0 c.if-is_ring.true) c.if-n-m.false c.decode-below.ensures.starts_after c.decode-below.ensures.goals_after in it)))
 
 pub returns-then-not-same_round : goal.returns-then-not-same_round
 returns-then-not-same_round c =
     let down = ring_other (order_accepted c.decode-below.ensures.result_value c.in-Accepted.is) ((rings (order_accepted c.decode-below.ensures.result_value c.in-Accepted.is) c.decode-below.ensures.rows_after).0 (c.is_ring.ensures.0 c.if-is_ring.true)) c.if-n-m.false
-    (λ s. false≢true (sym c.if-not-same_round.true ∙ (c.same_round.ensures c.args.order.now (ring-tables (order_accepted c.decode-below.ensures.result_value c.in-Accepted.is) c.decode-below.ensures.rows_after (c.is_ring.ensures.0 c.if-is_ring.true) c.if-n-m.false c.decode-below.ensures.starts_after c.decode-below.ensures.goals_after)).1
+    (λ s. false≢true (sym c.if-not-same_round.true ∙ (c.same_round.ensures c.args.order.now ((let it : RingTables c.args.order.now c.in-Accepted.counts.positions c.in-Accepted.counts.racks c.decode-below.new.rows c.decode-below.new.starts c.decode-below.new.goals = ring-tables (order_accepted c.decode-below.ensures.result_value c.in-Accepted.is) c.decode-below.ensures.rows_after (c.is_ring.ensures.0 c.if-is_ring.true) c.if-n-m.false c.decode-below.ensures.starts_after c.decode-below.ensures.goals_after in it))).1
     (subst (λ (m : ℕ). SameRound (floor_of c.args.order.now) m (starts_of c.args.order.now) (goals_of c.args.order.now)) (sym (order_accepted c.decode-below.ensures.result_value c.in-Accepted.is).racks_are) s))) in
     record {
       result_value = down;
@@ -63,7 +64,7 @@ pub returns-then-is_ring : goal.returns-then-is_ring
 returns-then-is_ring c =
     let up = ring-plain (order_accepted c.decode-below.ensures.result_value c.in-Accepted.is) ((rings (order_accepted c.decode-below.ensures.result_value c.in-Accepted.is) c.decode-below.ensures.rows_after).0 (c.is_ring.ensures.0 c.if-is_ring.true)) c.if-n-m.false
     (subst (λ (m : ℕ). SameRound (floor_of c.args.order.now) m (starts_of c.args.order.now) (goals_of c.args.order.now)) (order_accepted c.decode-below.ensures.result_value c.in-Accepted.is).racks_are
-    ((c.same_round.ensures c.args.order.now (ring-tables (order_accepted c.decode-below.ensures.result_value c.in-Accepted.is) c.decode-below.ensures.rows_after (c.is_ring.ensures.0 c.if-is_ring.true) c.if-n-m.false c.decode-below.ensures.starts_after c.decode-below.ensures.goals_after)).0 c.if-not-same_round.false)) in
+    ((c.same_round.ensures c.args.order.now ((let it : RingTables c.args.order.now c.in-Accepted.counts.positions c.in-Accepted.counts.racks c.decode-below.new.rows c.decode-below.new.starts c.decode-below.new.goals = ring-tables (order_accepted c.decode-below.ensures.result_value c.in-Accepted.is) c.decode-below.ensures.rows_after (c.is_ring.ensures.0 c.if-is_ring.true) c.if-n-m.false c.decode-below.ensures.starts_after c.decode-below.ensures.goals_after in it))).0 c.if-not-same_round.false)) in
     record {
       result_value = up;
       result_value_2 = handed (order_accepted c.decode-below.ensures.result_value c.in-Accepted.is) up;
@@ -77,7 +78,7 @@ overflow_add-m c = omega (arith, (order_accepted c.decode-below.ensures.result_v
 
 pub returns-then-n-m-2 : goal.returns-then-n-m-2
 returns-then-n-m-2 c =
-    let down = crowded (order_accepted c.decode-below.ensures.result_value c.in-Accepted.is) (is_none c c.if-is_ring.false) (omega arith) in
+    let down = crowded (order_accepted c.decode-below.ensures.result_value c.in-Accepted.is) (λ r. false≢true (sym c.if-is_ring.false ∙ c.is_ring.ensures.1 ((rings (order_accepted c.decode-below.ensures.result_value c.in-Accepted.is) c.decode-below.ensures.rows_after).1 r))) (omega arith) in
     record {
       result_value = down;
       result_value_2 = refused_too c.args.order.now 20 0 down;
@@ -91,7 +92,7 @@ is_biconnected-requires c = filled_rows (order_accepted c.decode-below.ensures.r
 
 pub returns-then-not-is_biconnected : goal.returns-then-not-is_biconnected
 returns-then-not-is_biconnected c =
-    let down = apart (order_accepted c.decode-below.ensures.result_value c.in-Accepted.is) c.decode-below.ensures.rows_after (is_none c c.if-is_ring.false) c.if-n-m-2.false _ c.is_biconnected.ensures c.if-not-is_biconnected.true in
+    let down = apart (order_accepted c.decode-below.ensures.result_value c.in-Accepted.is) c.decode-below.ensures.rows_after ((λ r. false≢true (sym c.if-is_ring.false ∙ c.is_ring.ensures.1 ((rings (order_accepted c.decode-below.ensures.result_value c.in-Accepted.is) c.decode-below.ensures.rows_after).1 r)))) c.if-n-m-2.false _ c.is_biconnected.ensures c.if-not-is_biconnected.true in
     record {
       result_value = down;
       result_value_2 = refused_too c.args.order.now 21 0 down;
@@ -106,7 +107,7 @@ is_four_sided-requires c =
 
 pub returns-then-not-is_four_sided : goal.returns-then-not-is_four_sided
 returns-then-not-is_four_sided c =
-    let down = many_sided (order_accepted c.decode-below.ensures.result_value c.in-Accepted.is) c.decode-below.ensures.rows_after (is_none c c.if-is_ring.false) c.if-n-m-2.false _ c.is_biconnected.ensures
+    let down = many_sided (order_accepted c.decode-below.ensures.result_value c.in-Accepted.is) c.decode-below.ensures.rows_after ((λ r. false≢true (sym c.if-is_ring.false ∙ c.is_ring.ensures.1 ((rings (order_accepted c.decode-below.ensures.result_value c.in-Accepted.is) c.decode-below.ensures.rows_after).1 r)))) c.if-n-m-2.false _ c.is_biconnected.ensures
     c.if-not-is_biconnected.false _ c.is_four_sided.ensures c.if-not-is_four_sided.true in
     record {
       result_value = down;
@@ -118,7 +119,7 @@ returns-then-not-is_four_sided c =
 
 pub returns : goal.returns
 returns c =
-    let up = plain (order_accepted c.decode-below.ensures.result_value c.in-Accepted.is) c.decode-below.ensures.rows_after (is_none c c.if-is_ring.false) c.if-n-m-2.false _ c.is_biconnected.ensures
+    let up = plain (order_accepted c.decode-below.ensures.result_value c.in-Accepted.is) c.decode-below.ensures.rows_after ((λ r. false≢true (sym c.if-is_ring.false ∙ c.is_ring.ensures.1 ((rings (order_accepted c.decode-below.ensures.result_value c.in-Accepted.is) c.decode-below.ensures.rows_after).1 r)))) c.if-n-m-2.false _ c.is_biconnected.ensures
     c.if-not-is_biconnected.false _ c.is_four_sided.ensures c.if-not-is_four_sided.false in
     record {
       result_value = up;

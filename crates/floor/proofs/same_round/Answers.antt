@@ -7,29 +7,6 @@ use Rattle.graph.proofs.Decision.{says_same}
 use Rattle.floor.proofs.RoundTables.{rows, starts_on, goals_on, ring-says}
 use Rattle.floor.proofs.same_round.Goals as goal
 
--- the racks' places on the circle are listed, first those at the start and then those at the goal
-abbrev Placed : Type 0
-Placed = tie.After-places2
-
--- where the racks stand, at start and goal
-from_at : (q : Placed)
-    → StandAt (made q).before.args.n (made q).before.args.m (row (made q).circle.result) (row (made q).before.args.starts.now)
-    (row (starts-placed q).places.result)
-from_at q =
-    let v = made q in
-    let e = v.before in
-    stand_at (starts_on e.pre.1 v.circle.result v.circle.ensures.0 v.circle.ensures.1)
-    (row (starts-placed q).places.result) (starts-placed q).places.ensures.0
-
-to_at : (q : Placed)
-    → StandAt (made q).before.args.n (made q).before.args.m (row (made q).circle.result) (row (made q).before.args.goals.now)
-    (row q.places2.result)
-to_at q =
-    let v = made q in
-    let e = v.before in
-    stand_at (goals_on e.pre.1 v.circle.result v.circle.ensures.0 v.circle.ensures.1)
-    (row q.places2.result) q.places2.ensures.0
-
 pub circle-circle-requires : goal.circle-circle-requires
 circle-circle-requires c = record {
   rows = rows c.requires.1;
@@ -53,13 +30,13 @@ places-to-requires c =
 pub same_order-requires : goal.same_order-requires
 same_order-requires c = record {
   n_bound = ((rows c.requires.1).small, c.requires.1.less);
-  places = (from_at c).places;
-  places_2 = (to_at c).places;
+  places = ((let it : StandAt c.args.n c.args.m (row c.circle-circle.result) (row c.args.starts.now) (row c.places-from.result) = stand_at (starts_on c.requires.1 c.circle-circle.result c.circle-circle.ensures.circle c.circle-circle.ensures.by_index) (row c.places-from.result) c.places-from.ensures.by_index in it)).places;
+  places_2 = ((let it : StandAt c.args.n c.args.m (row c.circle-circle.result) (row c.args.goals.now) (row c.places-to.result) = stand_at (goals_on c.requires.1 c.circle-circle.result c.circle-circle.ensures.circle c.circle-circle.ensures.by_index) (row c.places-to.result) c.places-to.ensures.by_index in it)).places;
 }
 
 pub returns : goal.returns
 returns c =
     λ o t.
     let says = ring-says t c.circle-circle.result c.circle-circle.ensures.circle c.circle-circle.ensures.by_index
-    (row c.places-from.result) (row c.places-to.result) (from_at c) (to_at c) in
+    (row c.places-from.result) (row c.places-to.result) ((let it : StandAt c.args.n c.args.m (row c.circle-circle.result) (row c.args.starts.now) (row c.places-from.result) = stand_at (starts_on c.requires.1 c.circle-circle.result c.circle-circle.ensures.circle c.circle-circle.ensures.by_index) (row c.places-from.result) c.places-from.ensures.by_index in it)) ((let it : StandAt c.args.n c.args.m (row c.circle-circle.result) (row c.args.goals.now) (row c.places-to.result) = stand_at (goals_on c.requires.1 c.circle-circle.result c.circle-circle.ensures.circle c.circle-circle.ensures.by_index) (row c.places-to.result) c.places-to.ensures.by_index in it)) in
     says_same says.0 says.1 c.same_order.ensures

@@ -1,4 +1,5 @@
 -- `inspection::wichteab_inspect_breakdown` meets its contract: `ShownLaws` has what each answer shows. Assumes nothing.
+use Prim.Native.Nat.{◌<◌}
 use mathlib.Core.Path.{ap, sym, ◌∙◌}
 use native.Mathlib.Omega.{arith}
 use Rattle.order.specs.Verdict.{answer_of}
@@ -23,17 +24,17 @@ returns-then-ring-eq0 c =
 
 pub lay_out-requires : goal.lay_out-requires
 lay_out-requires c =
-    let l = (small (order_accepted c.decode-below.ensures.result_value c.in-Accepted.is) c.decode-below.ensures.rows_after c.break_down-found.ensures (omega arith)) in
+    let l = (small (order_accepted c.decode-below.ensures.result_value c.in-Accepted.is) c.decode-below.ensures.rows_after c.break_down-found.ensures ((let it : 0 < c.break_down-found.result.ring = omega arith in it))) in
     let long = c.if-buffer-lt256.false in
     (omega arith, omega arith)
 
 pub overflow_mul-result : goal.overflow_mul-result
-overflow_mul-result c = omega (arith, (small (order_accepted c.decode-below.ensures.result_value c.in-Accepted.is) c.decode-below.ensures.rows_after c.break_down-found.ensures (omega arith)))
+overflow_mul-result c = omega (arith, (small (order_accepted c.decode-below.ensures.result_value c.in-Accepted.is) c.decode-below.ensures.rows_after c.break_down-found.ensures ((let it : 0 < c.break_down-found.result.ring = omega arith in it))))
 
 pub overflow_add-result : goal.overflow_add-result
-overflow_add-result c = omega (arith, (small (order_accepted c.decode-below.ensures.result_value c.in-Accepted.is) c.decode-below.ensures.rows_after c.break_down-found.ensures (omega arith)))
+overflow_add-result c = omega (arith, (small (order_accepted c.decode-below.ensures.result_value c.in-Accepted.is) c.decode-below.ensures.rows_after c.break_down-found.ensures ((let it : 0 < c.break_down-found.result.ring = omega arith in it))))
 
 pub returns : goal.returns
 returns c =
-    found (order_accepted c.decode-below.ensures.result_value c.in-Accepted.is) c.decode-below.ensures.rows_after c.break_down-found.ensures (omega arith) _ _
+    found (order_accepted c.decode-below.ensures.result_value c.in-Accepted.is) c.decode-below.ensures.rows_after c.break_down-found.ensures ((let it : 0 < c.break_down-found.result.ring = omega arith in it)) _ _
     c.if-buffer-lt256.false c.lay_out.ensures

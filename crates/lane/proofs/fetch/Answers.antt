@@ -2,6 +2,7 @@
 -- Assumes nothing.
 use mathlib.Core.Path.{refl, ◌∙◌}
 use native.Mathlib.Omega.{arith}
+use Rattle.breakdown.specs.Breakdown.{Between}
 use Rattle.breakdown.proofs.PlaceLaws.{place_at}
 use Rattle.graph.specs.Rows.{row}
 use Rattle.shunting.specs.Cleared.{Vacancy}
@@ -86,7 +87,7 @@ place_of-q-requires c =
 
 pub carry-requires : goal.carry-requires
 carry-requires c =
-    let q = place_at c.place_of-q.ensures (let away = fails c.has-2.ensures c.if-has-2.false in fetch_place c.requires.rows c.requires.lane_on _ c.part-stage.ensures (c.open_end-open.ensures.lane_kept _ c.requires.lane_placing) c.requires.k_bound c.where_is-at.result c.where_is-at.ensures.inside (c.where_is-at.ensures.there ∙ c.next_rack-rack.ensures) away) in
+    let q = place_at c.place_of-q.ensures ((let it : Between (row c.args.lane.order) c.args.lane.start c.args.lane.end c.where_is-at.result = let away = fails c.has-2.ensures c.if-has-2.false in fetch_place c.requires.rows c.requires.lane_on _ c.part-stage.ensures (c.open_end-open.ensures.lane_kept _ c.requires.lane_placing) c.requires.k_bound c.where_is-at.result c.where_is-at.ensures.inside (c.where_is-at.ensures.there ∙ c.next_rack-rack.ensures) away in it)) in
     let can : LaneCarriable c.args.lane c.place_of-q.result (row c.open_end-open.result.racks) = record {
       table = (c.open_end-open.ensures.lane_kept _ c.requires.lane_placing).table;
       vacant = c.open_end-open.ensures.lane_open;
@@ -108,7 +109,7 @@ shape_of-tail c =
 
 pub returns : goal.returns
 returns c =
-    let q = place_at c.place_of-q.ensures (let away = fails c.has-2.ensures c.if-has-2.false in fetch_place c.requires.rows c.requires.lane_on _ c.part-stage.ensures (c.open_end-open.ensures.lane_kept _ c.requires.lane_placing) c.requires.k_bound c.where_is-at.result c.where_is-at.ensures.inside (c.where_is-at.ensures.there ∙ c.next_rack-rack.ensures) away) in
+    let q = place_at c.place_of-q.ensures ((let it : Between (row c.args.lane.order) c.args.lane.start c.args.lane.end c.where_is-at.result = let away = fails c.has-2.ensures c.if-has-2.false in fetch_place c.requires.rows c.requires.lane_on _ c.part-stage.ensures (c.open_end-open.ensures.lane_kept _ c.requires.lane_placing) c.requires.k_bound c.where_is-at.result c.where_is-at.ensures.inside (c.where_is-at.ensures.there ∙ c.next_rack-rack.ensures) away in it)) in
     let table = table_went c.requires.rows.inside c.carry.ensures.trip.went (c.open_end-open.ensures.lane_kept _ c.requires.lane_placing).table in
     record {
       trip = trip_append c.open_end-open.ensures.trip c.carry.ensures.trip;

@@ -2,13 +2,18 @@
 -- Assumes nothing.
 use Prim.Native.Nat.{◌-◌, ◌*◌}
 use mathlib.Core.Path.{◌∙◌}
+use mathlib.Core.Logic.{◌≢◌}
 use native.Mathlib.Omega.{arith}
 use Rattle.sets.specs.Sets.{Has}
+use Rattle.graph.specs.Rows.{row}
+use Rattle.moving.specs.Journey.{relogged, Fits}
 use Rattle.shunting.specs.Cleared.{Bringable, RoomToBring}
 use Rattle.shunting.proofs.ClearLaws.{clear_room, clear_few}
 use Rattle.shunting.proofs.BringLaws.{brought_few}
 use Rattle.moving.proofs.JourneyLaws.{trip_append, fits_less, fits_then}
 use Rattle.moving.proofs.TableLaws.{table_went}
+use Rattle.lane.specs.Lane.{next_rack}
+use Rattle.lane.specs.Moves.{home_moves}
 use Rattle.lane.proofs.StageLaws.{handle_places}
 use Rattle.lane.proofs.CycleLaws.{lane_floor, lane-places, left_below, stage_in}
 use Rattle.lane.proofs.PlaceLaws.{rack_some, rack_there, rack_held, placing_turned, stage_robust, stage_vacancy, place-from}
@@ -57,15 +62,15 @@ where_is-from-requires c = record {
 pub bring-brought-requires : goal.bring-brought-requires
 bring-brought-requires c =
     let rack : Bringable (Has c.part-stage.result) c.where_is-from.result c.args.lane.left _ = record {
-      leaves = place-from c.requires.rows c.requires.lane_on _ c.part-stage.ensures c.fetch-fetched.ensures.lane_fetched (rack_some c.requires.rows c.requires.lane_on c.requires.lane_placing c.requires.k_bound) c.where_is-from.result (c.where_is-from.ensures.there ∙ c.next_rack-rack.ensures);
+      leaves = place-from c.requires.rows c.requires.lane_on _ c.part-stage.ensures c.fetch-fetched.ensures.lane_fetched ((let it : (next_rack c.args.lane (row c.args.goal.now) c.args.k) ≢ 0 = rack_some c.requires.rows c.requires.lane_on c.requires.lane_placing c.requires.k_bound in it)) c.where_is-from.result (c.where_is-from.ensures.there ∙ c.next_rack-rack.ensures);
       enters = stage_in c.requires.rows c.requires.lane_on _ c.part-stage.ensures c.args.lane.left c.requires.lane_on.handle.left;
-      held = rack_held (rack_some c.requires.rows c.requires.lane_on c.requires.lane_placing c.requires.k_bound) (c.where_is-from.ensures.there ∙ c.next_rack-rack.ensures);
+      held = rack_held ((let it : (next_rack c.args.lane (row c.args.goal.now) c.args.k) ≢ 0 = rack_some c.requires.rows c.requires.lane_on c.requires.lane_placing c.requires.k_bound in it)) (c.where_is-from.ensures.there ∙ c.next_rack-rack.ensures);
       vacancy = stage_vacancy c.requires.rows c.requires.lane_on _ c.part-stage.ensures c.fetch-fetched.ensures.lane_fetched.vacancy;
     } in
     let room : RoomToBring (Has c.part-stage.result) _ _ _ = record {
       most = c.args.lane.positions - 2;
       few = stage_few c.requires.rows c.requires.lane_on _ c.part-stage.ensures;
-      fits = fits_less ((c.args.lane.positions - 2) * (c.args.lane.positions - 2)) (omega arith) (place_fits c.args.lane.positions c.open_stage-opened.ensures.trip c.fetch-fetched.ensures.trip c.requires.rows.small c.requires.room (c.fetch-fetched.ensures.log_len_unchanged ∙ c.open_stage-opened.ensures.log_len_unchanged));
+      fits = fits_less ((c.args.lane.positions - 2) * (c.args.lane.positions - 2)) (omega arith) ((let it : Fits (relogged c.fetch-fetched.result 0) c.fetch-fetched.new.log c.fetch-fetched.new.tail (home_moves c.args.lane.positions) = place_fits c.args.lane.positions c.open_stage-opened.ensures.trip c.fetch-fetched.ensures.trip c.requires.rows.small c.requires.room (c.fetch-fetched.ensures.log_len_unchanged ∙ c.open_stage-opened.ensures.log_len_unchanged) in it));
     } in
     record {
       rows = c.requires.rows;
@@ -83,16 +88,16 @@ pub clear_within-cleared-requires : goal.clear_within-cleared-requires
 clear_within-cleared-requires c = record {
   rows = c.requires.rows;
   inside = place_below_rest c.requires.rows c.requires.lane_on _ c.part-stage.ensures _ c.without.ensures;
-  reaches = place-reaches c.requires.rows c.requires.lane_on _ c.part-stage.ensures _ c.without.ensures c.where_is-from.result c.bring-brought.ensures.brought (rack_held (rack_some c.requires.rows c.requires.lane_on c.requires.lane_placing c.requires.k_bound) (c.where_is-from.ensures.there ∙ c.next_rack-rack.ensures));
+  reaches = place-reaches c.requires.rows c.requires.lane_on _ c.part-stage.ensures _ c.without.ensures c.where_is-from.result c.bring-brought.ensures.brought (rack_held ((let it : (next_rack c.args.lane (row c.args.goal.now) c.args.k) ≢ 0 = rack_some c.requires.rows c.requires.lane_on c.requires.lane_placing c.requires.k_bound in it)) (c.where_is-from.ensures.there ∙ c.next_rack-rack.ensures));
   room_to_clear = clear_room (rest_few c.requires.rows c.requires.lane_on _ c.part-stage.ensures _ c.without.ensures)
-      (fits_less (c.args.lane.positions - 3) (omega arith) (fits_then (place_fits c.args.lane.positions c.open_stage-opened.ensures.trip c.fetch-fetched.ensures.trip c.requires.rows.small c.requires.room (c.fetch-fetched.ensures.log_len_unchanged ∙ c.open_stage-opened.ensures.log_len_unchanged)) (brought_few (stage_few c.requires.rows c.requires.lane_on _ c.part-stage.ensures) c.bring-brought.ensures.brought_by)));
+      (fits_less (c.args.lane.positions - 3) (omega arith) (fits_then ((let it : Fits (relogged c.fetch-fetched.result 0) c.fetch-fetched.new.log c.fetch-fetched.new.tail (home_moves c.args.lane.positions) = place_fits c.args.lane.positions c.open_stage-opened.ensures.trip c.fetch-fetched.ensures.trip c.requires.rows.small c.requires.room (c.fetch-fetched.ensures.log_len_unchanged ∙ c.open_stage-opened.ensures.log_len_unchanged) in it)) (brought_few (stage_few c.requires.rows c.requires.lane_on _ c.part-stage.ensures) c.bring-brought.ensures.brought_by)));
 }
 
 pub turn-requires : goal.turn-requires
 turn-requires c =
     let few = stage_few c.requires.rows c.requires.lane_on _ c.part-stage.ensures in
     let rest = rest_few c.requires.rows c.requires.lane_on _ c.part-stage.ensures _ c.without.ensures in
-    let room = fits_then (fits_then (place_fits c.args.lane.positions c.open_stage-opened.ensures.trip c.fetch-fetched.ensures.trip c.requires.rows.small c.requires.room (c.fetch-fetched.ensures.log_len_unchanged ∙ c.open_stage-opened.ensures.log_len_unchanged)) (brought_few few c.bring-brought.ensures.brought_by)) (clear_few rest c.clear_within-cleared.ensures).journey in
+    let room = fits_then (fits_then ((let it : Fits (relogged c.fetch-fetched.result 0) c.fetch-fetched.new.log c.fetch-fetched.new.tail (home_moves c.args.lane.positions) = place_fits c.args.lane.positions c.open_stage-opened.ensures.trip c.fetch-fetched.ensures.trip c.requires.rows.small c.requires.room (c.fetch-fetched.ensures.log_len_unchanged ∙ c.open_stage-opened.ensures.log_len_unchanged) in it)) (brought_few few c.bring-brought.ensures.brought_by)) (clear_few rest c.clear_within-cleared.ensures).journey in
     record {
       simple = cycle_simple c.requires.rows c.requires.lane_on c.requires.lane_closed;
       turnable = cycle-vacancy c.requires.rows c.requires.lane_on c.requires.lane_closed c.clear_within-cleared.ensures.cleared;

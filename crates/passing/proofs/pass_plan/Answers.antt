@@ -1,4 +1,5 @@
 -- `passing::pass_plan` meets its contract. The loop's invariant: the first i stretches are passed or left out. Assumes nothing.
+use Prim.Native.Nat.{◌≤◌, ◌<◌}
 use mathlib.Core.Path.{refl, sym, ◌∙◌}
 use native.Mathlib.Omega.{arith}
 use native.Mathlib.Nat.{div-le_self}
@@ -33,13 +34,13 @@ overflow_add-from c =
 pub fill-found-requires : goal.fill-found-requires
 fill-found-requires c = record {
   from_le_end = (
-    omega (arith, c.earlier-end.ensures, (omega (arith, c.loop-i.invariant.2.from_is, end_few c.args.k (length c.args.due.now) c.loop-i.i))),
+    omega (arith, c.earlier-end.ensures, ((let it : c.loop-i.from ≤ c.args.k = omega (arith, c.loop-i.invariant.2.from_is, end_few c.args.k (length c.args.due.now) c.loop-i.i) in it))),
     omega (arith, c.earlier-end.ensures),
     room_few c.args.named c.earlier-end.result c.args.k _ (omega (arith, c.earlier-end.ensures)) c.requires.k_bound.1,
     omega arith,
   );
   early = through_early c.args.named c.args.tail.now c.args.k (length c.args.due.now) c.args.first c.args.due.now c.loop-i.i c.loop-i.from c.loop-i.book c.loop-i.due
-      c.loop-i.window c.loop-i.greatest c.loop-i.invariant.2 (omega (arith, c.loop-i-test.true, c.loop-i.invariant.2.stretches)) _ c.copy_row.new.to c.copy_row.ensures c.copy_row.ensures.size;
+      c.loop-i.window c.loop-i.greatest c.loop-i.invariant.2 ((let it : c.loop-i.i < (length c.args.due.now) = omega (arith, c.loop-i-test.true, c.loop-i.invariant.2.stretches) in it)) _ c.copy_row.new.to c.copy_row.ensures c.copy_row.ensures.size;
 }
 
 pub slice_bounds-copy_row-end-then-due-i : goal.slice_bounds-copy_row-end-then-due-i
@@ -55,11 +56,11 @@ offset_bounds-due-i-then-due-i c =
 
 pub loop-i-preserved-then-due-i : goal.loop-i-preserved-then-due-i
 loop-i-preserved-then-due-i c = (
-  omega (arith, (omega (arith, c.loop-i-test.true, c.loop-i.invariant.2.stretches))),
+  omega (arith, ((let it : c.loop-i.i < (length c.args.due.now) = omega (arith, c.loop-i-test.true, c.loop-i.invariant.2.stretches) in it))),
   refl,
   rw c.later-greatest.ensures
       (through_pass c.args.named c.args.tail.now c.args.k (length c.args.due.now) c.args.first c.args.due.now c.loop-i.i c.loop-i.from c.loop-i.book c.loop-i.due
-      c.loop-i.window c.loop-i.greatest c.loop-i.invariant.2 (omega (arith, c.loop-i-test.true, c.loop-i.invariant.2.stretches)) _ c.copy_row.new.to c.copy_row.ensures c.copy_row.ensures.size
+      c.loop-i.window c.loop-i.greatest c.loop-i.invariant.2 ((let it : c.loop-i.i < (length c.args.due.now) = omega (arith, c.loop-i-test.true, c.loop-i.invariant.2.stretches) in it)) _ c.copy_row.new.to c.copy_row.ensures c.copy_row.ensures.size
       c.earlier-end.result c.fill-found.result.greatest c.fill-found.result.due
       c.fill-found.new.row c.fill-found.new.window c.copy_row-then-due-i.new.to
       c.earlier-end.ensures c.fill-found.ensures.pass_made c.copy_row-then-due-i.ensures),

@@ -1,9 +1,11 @@
 -- `scheduling::make_windows` meets its contract. The loop's invariant: the steps of the windows passed are written, and the book and the
 -- due steps tell where the next ones are found. Assumes nothing.
+use Prim.Native.Nat.{◌≤◌}
 use mathlib.Core.Path.{sym, ◌∙◌}
 use native.Mathlib.Omega.{arith}
 use Rattle.field.specs.Listed.{moves_at}
 use Rattle.field.proofs.ListedLaws.{length-moves}
+use Rattle.window.specs.Filling.{latest}
 use Rattle.window.proofs.FillingLaws.{latest_few}
 use Rattle.scheduling.proofs.Windowing.{counted-first, counted-later, counted_on, counted_last, windows_none}
 use Rattle.scheduling.proofs.Windowing.{windows-length, windows_room, windows_more, windows-all}
@@ -19,11 +21,11 @@ loop-done-init c =
     )
 
 pub overflow_mul-done : goal.overflow_mul-done
-overflow_mul-done c = omega (arith, c.loop-done.invariant.0, (omega (arith, latest_few (moves_at c.args.named c.args.tail.now 0 c.args.k), length-moves c.args.named c.args.tail.now 0 c.args.k)))
+overflow_mul-done c = omega (arith, c.loop-done.invariant.0, ((let it : latest (moves_at c.args.named c.args.tail.now 0 c.args.k) ≤ c.args.k = omega (arith, latest_few (moves_at c.args.named c.args.tail.now 0 c.args.k), length-moves c.args.named c.args.tail.now 0 c.args.k) in it)))
 
 pub make_window-done-requires : goal.make_window-done-requires
 make_window-done-requires c = record {
-  k_nonzero = (omega arith, omega arith, omega arith, omega (arith, (counted_on (moves_at c.args.named c.args.tail.now 0 c.args.k) c.loop-done.due c.loop-done.done.steps c.loop-done.done.windows c.loop-done.invariant.1 c.loop-done-test.true), (omega (arith, latest_few (moves_at c.args.named c.args.tail.now 0 c.args.k), length-moves c.args.named c.args.tail.now 0 c.args.k))));
+  k_nonzero = (omega arith, omega arith, omega arith, omega (arith, (counted_on (moves_at c.args.named c.args.tail.now 0 c.args.k) c.loop-done.due c.loop-done.done.steps c.loop-done.done.windows c.loop-done.invariant.1 c.loop-done-test.true), ((let it : latest (moves_at c.args.named c.args.tail.now 0 c.args.k) ≤ c.args.k = omega (arith, latest_few (moves_at c.args.named c.args.tail.now 0 c.args.k), length-moves c.args.named c.args.tail.now 0 c.args.k) in it))));
   due_nonzero = (omega (arith, c.loop-done.invariant.3.stretches), rw c.loop-done.invariant.3.stretches c.loop-done.invariant.3);
   counted = (
     c.loop-done.invariant.1,

@@ -3,20 +3,20 @@ use Prim.Native.Nat.{◌≤◌}
 use mathlib.Core.Path.{◌∙◌}
 use native.Mathlib.Omega.{arith}
 use borrow.Author.Tests.{le-leb}
-use lib.ListN.{get_or}
+use lib.ListN.{length, get_or}
 use Rattle.timetable.proofs.StepLaws.{step_length-some}
 use Rattle.timetable_check.proofs.Turns.{run_room, run_is}
 use Rattle.stepping.proofs.Lending.{part_sized, part-moves, part_few}
 use Rattle.stepping.proofs.read_lent.Goals as goal
 
 pub bounds-part-0 : goal.bounds-part-0
-bounds-part-0 c = (omega (arith, (part_sized c.args.timetable.now c.args.number c.requires.readable c.step-part.result.now c.step-part.ensures.bytes), step_length-some (get_or c.step-part.result.now 0 0)))
+bounds-part-0 c = ((let it : 1 ≤ length c.step-part.result.now = omega (arith, (part_sized c.args.timetable.now c.args.number c.requires.readable c.step-part.result.now c.step-part.ensures.bytes), step_length-some (get_or c.step-part.result.now 0 0)) in it))
 
 pub slice_bounds-read_moves-count : goal.slice_bounds-read_moves-count
-slice_bounds-read_moves-count c = (omega (arith, (part_sized c.args.timetable.now c.args.number c.requires.readable c.step-part.result.now c.step-part.ensures.bytes), step_length-some (get_or c.step-part.result.now 0 0)))
+slice_bounds-read_moves-count c = ((let it : 1 ≤ length c.step-part.result.now = omega (arith, (part_sized c.args.timetable.now c.args.number c.requires.readable c.step-part.result.now c.step-part.ensures.bytes), step_length-some (get_or c.step-part.result.now 0 0)) in it))
 
 pub slice_bounds-read_moves-start : goal.slice_bounds-read_moves-start
-slice_bounds-read_moves-start c = (omega (arith, (part_sized c.args.timetable.now c.args.number c.requires.readable c.step-part.result.now c.step-part.ensures.bytes), step_length-some (get_or c.step-part.result.now 0 0)))
+slice_bounds-read_moves-start c = ((let it : 1 ≤ length c.step-part.result.now = omega (arith, (part_sized c.args.timetable.now c.args.number c.requires.readable c.step-part.result.now c.step-part.ensures.bytes), step_length-some (get_or c.step-part.result.now 0 0)) in it))
 
 pub read_moves-few-requires : goal.read_moves-few-requires
 read_moves-few-requires c = record {

@@ -6,7 +6,7 @@ use Rattle.tables.proofs.Layers.{order_refused, record_refused}
 use Rattle.timetable.specs.Reading.{reading_answer}
 use Rattle.timetable.specs.Checking.{answer_of_check}
 use Rattle.timetable.proofs.ReadingLaws.{timetable_answer_is}
-use Rattle.timetable_check.proofs.Layers.{judgement, reading_told, answer_is}
+use Rattle.timetable_check.proofs.Layers.{judgement, ReadingGave, reading_told, answer_is}
 use Rattle.timetable_check.proofs.check.Goals as goal
 
 pub returns-in_default : goal.returns-in_default
@@ -28,7 +28,7 @@ slice_bounds-judge-start c = (order_accepted c.read-below.ensures c.in-Accepted.
 pub judge-requires : goal.judge-requires
 judge-requires c =
     let gave = (order_accepted c.read-below.ensures c.in-Accepted.is) in
-    let told = (reading_told c.args.timetable.now c.in-Accepted-reading.steps c.in-Accepted-reading.moves (ap answer_of_check (sym c.in-Accepted-reading.is) ∙ c.read-reading.ensures)) in
+    let told = ((let it : ReadingGave c.args.timetable.now c.in-Accepted-reading.steps c.in-Accepted-reading.moves = reading_told c.args.timetable.now c.in-Accepted-reading.steps c.in-Accepted-reading.moves (ap answer_of_check (sym c.in-Accepted-reading.is) ∙ c.read-reading.ensures) in it)) in
     record {
       e_bound = (gave.few_edges, gave.few_racks, gave.room);
       timetable_value = (told.length_right, told.steps_are, told.few_steps);
@@ -36,4 +36,4 @@ judge-requires c =
 
 pub returns : goal.returns
 returns c =
-    c.judge.ensures ∙ answer_is (order_accepted c.read-below.ensures c.in-Accepted.is) (reading_told c.args.timetable.now c.in-Accepted-reading.steps c.in-Accepted-reading.moves (ap answer_of_check (sym c.in-Accepted-reading.is) ∙ c.read-reading.ensures))
+    c.judge.ensures ∙ answer_is (order_accepted c.read-below.ensures c.in-Accepted.is) ((let it : ReadingGave c.args.timetable.now c.in-Accepted-reading.steps c.in-Accepted-reading.moves = reading_told c.args.timetable.now c.in-Accepted-reading.steps c.in-Accepted-reading.moves (ap answer_of_check (sym c.in-Accepted-reading.is) ∙ c.read-reading.ensures) in it))
