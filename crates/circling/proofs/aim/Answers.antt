@@ -1,13 +1,13 @@
 -- `circling::aim` meets its contract. The invariant: `to` has lap − 1 laps, and the best so far is one to aim at. Assumes nothing.
 use Prim.Native.Nat.{ℕ, ◌+◌, ◌-◌, ◌*◌, ◌<◌}
 use mathlib.Core.Path.{◌≡◌, sym, ap, subst, ◌∙◌}
-use mathlib.Core.Logic.{⊎_elim}
 use native.Mathlib.Nat.{mul-suc}
 use native.Mathlib.Omega.{arith}
 use Rattle.graph.specs.Rows.{row}
 use Rattle.circling.specs.Needs.{Aimed}
 use Rattle.circling.proofs.NeedsLaws.{aimed-at}
 use Rattle.circling.proofs.aim.Goals as goal
+use Rattle.circling.proofs.aim.Goals.{then-moves-least, else-moves-least}
 
 at_first : (j n : ℕ) → j ≡ j + n * (1 - 1)
 at_first j n = omega arith
@@ -51,8 +51,10 @@ loop-lap-preserved c = (
   omega arith,
   (let w = c.loop-lap.invariant.2 in let u = up c.args.n c.loop-lap.lap c.loop-lap.invariant.0 in
       let z : c.args.n * (c.loop-lap.lap + 1 - 1) ≡ c.args.n * c.loop-lap.lap = ap (λ (x : ℕ). c.args.n * x) (omega arith) in omega arith),
-  ⊎_elim (λ w. subst (Aimed c.args.n c.args.from (row c.args.g.now 1)) (sym w.1) ((let it : Aimed c.args.n c.args.from (row c.args.g.now 1) (c.loop-lap.to + c.args.n) = subst (Aimed c.args.n c.args.from (row c.args.g.now 1)) (let w = c.loop-lap.invariant.2 in let u = up c.args.n c.loop-lap.lap c.loop-lap.invariant.0 in omega arith) (aimed-at c.args.n c.args.from (row c.args.g.now 1) c.loop-lap.lap (row c.args.g.now 1 + c.args.n * c.loop-lap.lap) c.requires.n_bound.0 c.requires.n_bound_2.0 c.requires.n_bound_2.1 c.requires.g_bound (omega arith) (omega arith)) in it)))
-      (λ w. subst (Aimed c.args.n c.args.from (row c.args.g.now 1)) (sym w.1) c.loop-lap.invariant.3) c.if-moves-least.branch,
+  elim c.if-moves-least.branch [
+    | then-moves-least w ↦ subst (Aimed c.args.n c.args.from (row c.args.g.now 1)) (sym w.best-is) ((let it : Aimed c.args.n c.args.from (row c.args.g.now 1) (c.loop-lap.to + c.args.n) = subst (Aimed c.args.n c.args.from (row c.args.g.now 1)) (let w = c.loop-lap.invariant.2 in let u = up c.args.n c.loop-lap.lap c.loop-lap.invariant.0 in omega arith) (aimed-at c.args.n c.args.from (row c.args.g.now 1) c.loop-lap.lap (row c.args.g.now 1 + c.args.n * c.loop-lap.lap) c.requires.n_bound.0 c.requires.n_bound_2.0 c.requires.n_bound_2.1 c.requires.g_bound (omega arith) (omega arith)) in it))
+    | else-moves-least w ↦ subst (Aimed c.args.n c.args.from (row c.args.g.now 1)) (sym w.best-is) c.loop-lap.invariant.3
+  ],
 )
 
 pub returns : goal.returns

@@ -1,9 +1,9 @@
 -- `circling::cost` is safe and ends. Assumes nothing.
 use Prim.Native.Nat.{◌≤◌}
-use mathlib.Core.Logic.{⊎_elim}
 use native.Mathlib.Omega.{arith}
 use Rattle.ring.proofs.OrderLaws.{rack_of_lem}
 use Rattle.circling.proofs.cost.Goals as goal
+use Rattle.circling.proofs.cost.Goals.{then-x-y, else-x-y}
 
 pub loop-r-init : goal.loop-r-init
 loop-r-init c = (omega arith, omega arith, omega arith)
@@ -39,7 +39,7 @@ pub loop-r-preserved : goal.loop-r-preserved
 loop-r-preserved c =
     let x : c.reach-x.result ≤ 384 = omega (arith, c.requires.n_bound, c.requires.bases.first, c.reach-x.ensures.lap) in
     let y : c.reach-y.result ≤ 384 = omega (arith, c.requires.n_bound, c.requires.bases.second, c.reach-y.ensures.lap) in
-    (omega arith, omega arith, ⊎_elim (λ w. omega (arith, w.1)) (λ w. omega (arith, w.1)) c.if-x-y.branch)
+    (omega arith, omega arith, elim c.if-x-y.branch [ then-x-y w ↦ omega arith | else-x-y w ↦ omega arith ])
 
 pub returns : goal.returns
 returns c = tt

@@ -1,12 +1,12 @@
 -- `circling::find` meets its contract. The invariant: no place before i is ready. Assumes nothing.
 use Prim.Native.Nat.{ℕ}
 use mathlib.Core.Path.{sym, ap, ◌∙◌}
-use mathlib.Core.Logic.{⊎_elim}
 use native.Mathlib.Omega.{arith}
 use Rattle.graph.specs.Rows.{row}
 use Rattle.ring.proofs.CircleLaws.{next_below}
 use Rattle.circling.proofs.DriveLaws.{tried_none, tried_next}
 use Rattle.circling.proofs.find.Goals as goal
+use Rattle.circling.proofs.find.Goals.{then-racks-b-eq0+else-need-rack-ne0, else-racks-b-eq0}
 
 pub loop-i-init : goal.loop-i-init
 loop-i-init c = (omega arith, tried_none _ _ _ _)
@@ -66,9 +66,11 @@ pub loop-i-preserved : goal.loop-i-preserved
 loop-i-preserved c = (
   omega arith,
   tried_next _ _ _ _ c.loop-i.i
-      (λ r. ⊎_elim (λ w. omega (arith, r.needs, w.2.left))
-      (λ w. w.left (ap (λ (x : ℕ). row c.args.racks.now (row c.args.circle.now x)) c.next.ensures ∙ r.vacant))
-      c.if-racks-b-eq0.branch)
+      (λ r. elim c.if-racks-b-eq0.branch [
+        | then-racks-b-eq0+else-need-rack-ne0 w ↦ let n = r.needs in omega (arith, w.if-need-rack-ne0.false)
+        | else-racks-b-eq0 w ↦
+            w.if-racks-b-eq0.false (ap (λ (x : ℕ). row c.args.racks.now (row c.args.circle.now x)) c.next.ensures ∙ r.vacant)
+      ])
       c.loop-i.invariant.1,
 )
 

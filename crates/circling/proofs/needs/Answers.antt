@@ -2,7 +2,6 @@
 use Prim.Native.Nat.{ℕ, ◌+◌, ◌-◌, ◌*◌, ◌≤◌}
 use mathlib.Core.Path.{◌≡◌, sym, ap, subst, ◌∙◌}
 use mathlib.Core.List.{List}
-use mathlib.Core.Logic.{⊎_elim}
 use lib.ListN.{set}
 use native.Mathlib.Omega.{arith}
 use Rattle.graph.specs.Rows.{row}
@@ -10,6 +9,7 @@ use Rattle.ring.proofs.OrderLaws.{rack_of_lem}
 use Rattle.circling.specs.Needs.{reach}
 use Rattle.circling.proofs.NeedsLaws.{Needing, needing_first, needing_same, needing_next, needing_last}
 use Rattle.circling.proofs.needs.Goals as goal
+use Rattle.circling.proofs.needs.Goals.{then-x-y, else-x-y}
 
 pub loop-r-init : goal.loop-r-init
 loop-r-init c = needing_first _ _ _ _ _ _
@@ -47,19 +47,19 @@ pub loop-r-preserved : goal.loop-r-preserved
 loop-r-preserved c =
     let near : reach c.args.n c.args.to (row c.args.g.now) c.loop-r.r
     ≤ reach c.args.n c.args.from (row c.args.p.now) c.loop-r.r + 4 * c.args.n = omega (arith, c.requires.bases.near, c.reach-y.ensures.is, c.reach-y.ensures.lap) in
-    ⊎_elim
-    (λ w.
-    let is : c.if-x-y.need
-    ≡ set c.loop-r.need c.loop-r.r (reach c.args.n c.args.to (row c.args.g.now) c.loop-r.r - reach c.args.n c.args.from (row
-    c.args.p.now) c.loop-r.r) = w.1 ∙ ap (set c.loop-r.need c.loop-r.r) (omega (arith, c.reach-x.ensures.is, c.reach-y.ensures.is)) in
-    subst (λ (k : List ℕ). Needing c.args.n c.args.m c.args.from (row c.args.p.now) c.args.to (row
-    c.args.g.now) k (c.loop-r.r + 1)) (sym is)
-    (needing_next _ _ _ _ _ _ c.loop-r.invariant c.loop-r-test.true (omega (arith, c.requires.n_bound)) near))
-    (λ w. subst (λ (k : List ℕ). Needing c.args.n c.args.m c.args.from (row c.args.p.now) c.args.to (row
-    c.args.g.now) k (c.loop-r.r + 1)) (sym w.1)
-    (needing_same _ _ _ _ _ _ c.loop-r.invariant c.loop-r-test.true (omega (arith, c.requires.n_bound)) near
-    (omega (arith, w.0.left, c.reach-x.ensures.is, c.reach-y.ensures.is))))
-    c.if-x-y.branch
+    elim c.if-x-y.branch [
+      | then-x-y w ↦
+          let is : c.if-x-y.need
+          ≡ set c.loop-r.need c.loop-r.r (reach c.args.n c.args.to (row c.args.g.now) c.loop-r.r - reach c.args.n c.args.from (row
+          c.args.p.now) c.loop-r.r) = w.need-is ∙ ap (set c.loop-r.need c.loop-r.r) (omega (arith, c.reach-x.ensures.is, c.reach-y.ensures.is)) in
+          subst (λ (k : List ℕ). Needing c.args.n c.args.m c.args.from (row c.args.p.now) c.args.to (row
+          c.args.g.now) k (c.loop-r.r + 1)) (sym is)
+          (needing_next _ _ _ _ _ _ c.loop-r.invariant c.loop-r-test.true (omega (arith, c.requires.n_bound)) near)
+      | else-x-y w ↦ subst (λ (k : List ℕ). Needing c.args.n c.args.m c.args.from (row c.args.p.now) c.args.to (row
+          c.args.g.now) k (c.loop-r.r + 1)) (sym w.need-is)
+          (needing_same _ _ _ _ _ _ c.loop-r.invariant c.loop-r-test.true (omega (arith, c.requires.n_bound)) near
+          (omega (arith, w.if-x-y.false, c.reach-x.ensures.is, c.reach-y.ensures.is)))
+    ]
 
 pub returns : goal.returns
 returns c = needing_last _ _ _ _ _ _ c.loop-r.invariant c.loop-r-test.false
