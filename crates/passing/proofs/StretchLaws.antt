@@ -27,7 +27,7 @@ use lib.Seq.{get_or-set_same, get_or-set_other, get_or-take, get_or-drop, length
 use Rattle.field.specs.Listed.{move_size, listed_moves, moves_of, moves_at}
 use Rattle.field.proofs.ListedLaws.{size_none, size-next}
 use Rattle.motion.specs.LegalStep.{longest_train}
-use Rattle.window.specs.Filling.{Pass, started, passed, pass, Early, Due, due_none, due_more, empty_window, window_of, latest}
+use Rattle.window.specs.Filling.{Pass, started, passed, pass, Early, Due, due_none, due_more, empty_window, window_of, latest, turn_by}
 use Rattle.passing.specs.Stretches.{stretch_end, before, stretch, Copied, RowIn, after}
 use Rattle.window.proofs.FillingLaws.{early_started, early_pass, Same, same-pass, same_window, pass_append}
 use Rattle.window.proofs.Passing.{note_outside}
@@ -192,7 +192,9 @@ module _ (first : ℕ) (ms : List (ℕ × ℕ)) (P : Pass) (g : GoesOn first ms 
 
 pub due_any : (last : ℕ) (x y : List ℕ) (ms : List (ℕ × ℕ)) → Due last 0 x y ms
 due_any last x y [] = due_none
-due_any last x y (m ∷ ms) = due_more {x = x} {y = y} {m = m} _ refl (λ h. omega arith) (due_any last _ _ ms)
+due_any last x y (m ∷ ms) =
+    let turn = turn_by x y m.0 m.1 in
+    due_more {x = x} {y = y} {m = m} turn refl (λ h. omega arith) (due_any last (set x m.1 (turn / longest_train)) (set y m.0 turn) ms)
 
 pub due_later : (last last' d : ℕ) → last ≤ last' → {x y : List ℕ} {ms : List (ℕ × ℕ)} → Due last d x y ms → Due last' d x y ms
 due_later last last' d l due_none = due_none
