@@ -33,7 +33,7 @@ without-upper-requires c =
 
 pub loop-i-init : goal.loop-i-init
 loop-i-init c = (
-  carrying_begin c.requires.lane_on c.requires.lane_beside c.requires.in_lane c.requires.lane_carriable.table c.requires.lane_carriable.vacant.end c.requires.lane_carriable.vacant.beside,
+  carrying_begin c.requires.lane_on c.requires.lane_beside c.requires.in_lane.before c.requires.lane_carriable.table c.requires.lane_carriable.vacant.end c.requires.lane_carriable.vacant.beside,
   journey_in_more _ (omega arith) (journey_in_none _ _ _),
 )
 
