@@ -7,7 +7,7 @@ ghost use Rattle.answers.specs.Answer.{accepted, PassedUp};
 ghost use Rattle.field.specs.Listed.{all_units};
 ghost use Rattle.field.specs.Packing.{pack_positions};
 ghost use Rattle.field.specs.Writing.{written};
-ghost use Rattle.order.specs.Verdict.{answer_of as orderAnswerOf};
+ghost use Rattle.order.specs.Verdict.{answer_of as order_answer_of};
 ghost use Rattle.carry.specs.Listing.{taken};
 ghost use Rattle.carry.specs.CarryAnswer.{carry_answer, buffer_after, answer_of};
 
@@ -37,7 +37,7 @@ pub enum CarryVerdict {
 
 // The order reader's verdict as this one: the same fault at the same place, or nothing yet.
 fn passed_up(order: OrderVerdict) -> CarryVerdict
-    ensures { PassedUp orderAnswerOf order (accepted (0 ∷ 0 ∷ 0 ∷ [])) (answer_of result) }
+    ensures { PassedUp order_answer_of order (accepted (0 ∷ 0 ∷ 0 ∷ [])) (answer_of result) }
 {
     match order {
         OrderVerdict::Accepted(_) => CarryVerdict::Found(Carry {

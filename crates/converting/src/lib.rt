@@ -7,7 +7,7 @@ ghost use Rattle.answers.specs.Answer.{accepted, PassedUp};
 ghost use Rattle.field.specs.Listed.{move_size, moves_at, all_units};
 ghost use Rattle.field.specs.Packing.{pack_positions};
 ghost use Rattle.field.specs.Writing.{written};
-ghost use Rattle.plan.specs.Verdict.{answer_of as planAnswerOf};
+ghost use Rattle.plan.specs.Verdict.{answer_of as plan_answer_of};
 ghost use Rattle.converting.specs.Listing.{tabled, Held};
 ghost use Rattle.converting.specs.Converter.{converter_answer, buffer_after, answer_of};
 
@@ -46,7 +46,7 @@ pub enum ConverterVerdict {
 
 // The plan checker's verdict as the converter's: the same fault at the same place, or no moves yet.
 fn passed_up(plan: PlanVerdict) -> ConverterVerdict
-    ensures { PassedUp planAnswerOf plan (accepted (0 ∷ [])) (answer_of result) }
+    ensures { PassedUp plan_answer_of plan (accepted (0 ∷ [])) (answer_of result) }
 {
     match plan {
         PlanVerdict::Accepted(_) => ConverterVerdict::Accepted(0),

@@ -6,7 +6,7 @@ ghost use Rattle.std.specs.Prelude.{true, ◌↔◌, ◌≡◌, List, [], ℕ};
 ghost use Rattle.answers.specs.Answer.{accepted, pass_up};
 ghost use Rattle.order.specs.Order.{counts, floor_of, starts_of, goals_of};
 ghost use Rattle.order.specs.Tables.{decoded_rows, decoded_starts, decoded_goals};
-ghost use Rattle.order.specs.Verdict.{answer_of as orderAnswerOf};
+ghost use Rattle.order.specs.Verdict.{answer_of as order_answer_of};
 ghost use Rattle.floor.specs.FloorAnswer.{SameRound, floor_answer};
 ghost use Rattle.floor.specs.RingTables.{RingTables, SomeRing};
 ghost use Rattle.floor.specs.Verdict.{answer_of, handed_on};
@@ -23,8 +23,8 @@ pub enum FloorVerdict {
 
 // The order reader's verdict as the judge's: the same counts, or the same fault at the same place.
 fn passed_up(order: OrderVerdict) -> FloorVerdict
-    ensures result_value { answer_of result ≡ pass_up (orderAnswerOf order) (accepted []) }
-    ensures result_value_2 { handed_on result ≡ orderAnswerOf order }
+    ensures result_value { answer_of result ≡ pass_up (order_answer_of order) (accepted []) }
+    ensures result_value_2 { handed_on result ≡ order_answer_of order }
 {
     match order {
         OrderVerdict::Accepted(counts) => FloorVerdict::Accepted(counts),

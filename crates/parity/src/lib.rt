@@ -4,11 +4,11 @@
 
 ghost use Rattle.std.specs.Prelude.{◌-◌, ◌≤◌, ◌<◌, [], ◌∷◌, ◌≡◌};
 ghost use Rattle.answers.specs.Answer.{accepted, PassedUp};
-ghost use Rattle.order.specs.Verdict.{answer_of as orderAnswerOf};
+ghost use Rattle.order.specs.Verdict.{answer_of as order_answer_of};
 ghost use Rattle.sets.specs.Sets.{bit};
 ghost use Rattle.graph.specs.Connected.{Connected};
 ghost use Rattle.graph.specs.Rows.{Edge, Rows};
-ghost use Rattle.parity.specs.Permutation.{smaller as smallerOf, inversions as inversionsOf};
+ghost use Rattle.parity.specs.Permutation.{smaller as smaller_of, inversions as inversions_of};
 ghost use Rattle.parity.specs.OneVacancy.{vacancy_answer};
 ghost use Rattle.parity.specs.Verdict.{answer_of};
 ghost use Rattle.parity.specs.Work.{entries, Seats, Homes, Sent, ColouredBy, ContraryOn};
@@ -28,7 +28,7 @@ pub enum VacancyVerdict {
 fn smaller(list: &[u8; 64], from: usize, n: usize, x: u8) -> usize
     requires from_le_n { from ≤ n }
     requires n_bound { n ≤ 64 }
-    ensures value { result ≡ smallerOf x (entries list.now from (n - from)) }
+    ensures value { result ≡ smaller_of x (entries list.now from (n - from)) }
     ensures upper_bound { result ≤ 64 }
 {
     let mut count: usize = 0;
@@ -45,7 +45,7 @@ fn smaller(list: &[u8; 64], from: usize, n: usize, x: u8) -> usize
 // How many pairs of the first `n` entries stand the wrong way round.
 fn inversions(list: &[u8; 64], n: usize) -> usize
     requires { n ≤ 64 }
-    ensures value { result ≡ inversionsOf (entries list.now 0 n) }
+    ensures value { result ≡ inversions_of (entries list.now 0 n) }
     ensures upper_bound { result ≤ 4096 }
 {
     let mut count: usize = 0;
@@ -149,7 +149,7 @@ pub fn two_colours(rows: &[u64; 64], n: usize) -> Colours
 
 // The order reader's refusal as this crate's: the same fault at the same place.
 fn passed_up(order: OrderVerdict) -> VacancyVerdict
-    ensures { PassedUp orderAnswerOf order (accepted (0 ∷ [])) (answer_of result) }
+    ensures { PassedUp order_answer_of order (accepted (0 ∷ [])) (answer_of result) }
 {
     match order {
         OrderVerdict::Accepted(_) => VacancyVerdict::NotJudged,

@@ -6,7 +6,7 @@ ghost use Rattle.std.specs.Prelude.{◌≡◌, cond, [], ◌∷◌, ◌+◌, ◌
 ghost use Rattle.answers.specs.Answer.{accepted, PassedUp};
 ghost use Rattle.field.specs.Listed.{move_size, listed_moves};
 ghost use Rattle.motion.specs.Move.{misnamed};
-ghost use Rattle.order.specs.Verdict.{answer_of as orderAnswerOf};
+ghost use Rattle.order.specs.Verdict.{answer_of as order_answer_of};
 ghost use Rattle.tables.specs.Tables.{listed_entries};
 ghost use Rattle.tables.specs.MovesOn.{replay_on};
 ghost use Rattle.tables.specs.Ending.{end_of};
@@ -28,7 +28,7 @@ enum MoveVerdict {
 
 // The order reader's verdict as the plan checker's: the same fault at the same place, or no moves yet.
 fn passed_up(order: OrderVerdict) -> PlanVerdict
-    ensures { PassedUp orderAnswerOf order (accepted (0 ∷ [])) (answer_of result) }
+    ensures { PassedUp order_answer_of order (accepted (0 ∷ [])) (answer_of result) }
 {
     match order {
         OrderVerdict::Accepted(_) => PlanVerdict::Accepted(0),

@@ -4,7 +4,7 @@
 
 ghost use Rattle.std.specs.Prelude.{[], ◌∷◌};
 ghost use Rattle.answers.specs.Answer.{accepted, PassedUp};
-ghost use Rattle.floor.specs.Verdict.{answer_of as floorAnswerOf};
+ghost use Rattle.floor.specs.Verdict.{answer_of as floor_answer_of};
 ghost use Rattle.planner.specs.Planner.{PlanMade, answer_of};
 
 use answers::Fault;
@@ -19,7 +19,7 @@ pub enum PlannerVerdict {
 
 // The floor judge's verdict as the planner's: the same fault at the same place, or no moves yet.
 fn passed_up(floor: FloorVerdict) -> PlannerVerdict
-    ensures { PassedUp floorAnswerOf floor (accepted (0 ∷ [])) (answer_of result) }
+    ensures { PassedUp floor_answer_of floor (accepted (0 ∷ [])) (answer_of result) }
 {
     match floor {
         FloorVerdict::Accepted(_) => PlannerVerdict::Planned(0),

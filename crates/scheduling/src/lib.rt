@@ -8,7 +8,7 @@ ghost use Rattle.std.specs.Prelude.{◌≡◌, [], ◌∷◌, ◌+◌, ◌*◌, 
 ghost use Rattle.answers.specs.Answer.{accepted, PassedUp};
 ghost use Rattle.field.specs.Listed.{move_size, moves_at};
 ghost use Rattle.field.specs.Writing.{written, Fits, Wrote};
-ghost use Rattle.plan.specs.Verdict.{answer_of as planAnswerOf};
+ghost use Rattle.plan.specs.Verdict.{answer_of as plan_answer_of};
 ghost use Rattle.window.specs.Filling.{latest};
 ghost use Rattle.window.specs.Rows.{EntriesFit, Left, row_moves, rows, step_bytes, steps_bytes};
 ghost use Rattle.passing.specs.Stretches.{Begun, Kept};
@@ -179,7 +179,7 @@ pub enum MakerVerdict {
 
 // The plan checker's verdict as the timetable maker's: the same fault at the same place, or no steps yet.
 fn passed_up(plan: PlanVerdict) -> MakerVerdict
-    ensures { PassedUp planAnswerOf plan (accepted (0 ∷ [])) (answer_of result) }
+    ensures { PassedUp plan_answer_of plan (accepted (0 ∷ [])) (answer_of result) }
 {
     match plan {
         PlanVerdict::Accepted(_) => MakerVerdict::Accepted(0),

@@ -6,7 +6,7 @@
 ghost use Rattle.std.specs.Prelude.{◌≡◌, [], ◌∷◌, ◌+◌, ◌*◌, ◌/◌, ◌^◌, ◌≤◌, ◌<◌, length};
 ghost use Rattle.answers.specs.Answer.{accepted, PassedUp};
 ghost use Rattle.field.specs.Listed.{move_size};
-ghost use Rattle.plan.specs.Verdict.{answer_of as planAnswerOf};
+ghost use Rattle.plan.specs.Verdict.{answer_of as plan_answer_of};
 ghost use Rattle.cancelling.specs.Stack.{laid};
 ghost use Rattle.cancelling.specs.Looking.{listed_of, stack_of};
 ghost use Rattle.cancelling.specs.Looking.{GoesAhead};
@@ -117,7 +117,7 @@ pub enum ShortenerVerdict {
 
 // The plan checker's verdict as the shortener's: the same fault at the same place, or no moves yet.
 fn passed_up(plan: PlanVerdict) -> ShortenerVerdict
-    ensures { PassedUp planAnswerOf plan (accepted (0 ∷ [])) (answer_of result) }
+    ensures { PassedUp plan_answer_of plan (accepted (0 ∷ [])) (answer_of result) }
 {
     match plan {
         PlanVerdict::Accepted(_) => ShortenerVerdict::Accepted(0),

@@ -5,7 +5,7 @@
 
 ghost use Rattle.std.specs.Prelude.{◌≡◌, false, [], ◌∷◌, ◌+◌, ◌*◌, ◌^◌, ◌≤◌, ◌<◌, length, get_or};
 ghost use Rattle.answers.specs.Answer.{accepted, PassedUp};
-ghost use Rattle.order.specs.Verdict.{answer_of as orderAnswerOf};
+ghost use Rattle.order.specs.Verdict.{answer_of as order_answer_of};
 ghost use Rattle.tables.specs.Ending.{end_of};
 ghost use Rattle.chains.specs.StepOn.{legal_step_on, ran_on};
 ghost use Rattle.trains.specs.StepsOn.{replay_steps_on};
@@ -21,7 +21,7 @@ use timetable::TimetableVerdict;
 
 // The order reader's verdict as the timetable checker's: the same fault at the same place, or no steps yet.
 fn passed_up(order: OrderVerdict) -> TimetableVerdict
-    ensures { PassedUp orderAnswerOf order (accepted (0 ∷ 0 ∷ [])) (answer_of_check result) }
+    ensures { PassedUp order_answer_of order (accepted (0 ∷ 0 ∷ [])) (answer_of_check result) }
 {
     match order {
         OrderVerdict::Accepted(_) => TimetableVerdict::Accepted { steps: 0, moves: 0 },

@@ -4,7 +4,7 @@ use mathlib.Core.Path.{ap, sym, ◌∙◌}
 use mathlib.Core.Bool.{false≢true}
 use native.Mathlib.Omega.{arith}
 use Rattle.answers.proofs.AnswerLaws.{passed_up}
-use Rattle.order.specs.Verdict.{answer_of as orderAnswerOf}
+use Rattle.order.specs.Verdict.{answer_of as order_answer_of}
 use Rattle.tables.proofs.AcceptedLaws.{order_accepted}
 use Rattle.floor.proofs.FloorRows.{filled_rows}
 use Rattle.carry.proofs.Making.{carry_refused, some_position, carry-apart, carry_short}
@@ -14,7 +14,7 @@ use Rattle.carry.proofs.make.Goals as goal
 pub returns-in_default : goal.returns-in_default
 returns-in_default c =
     let all = carry_refused c.args.order.now c.args.buffer.now _ _ _ _ c.decode-below.ensures.result_value
-    (ap orderAnswerOf c.in_default.is) (passed_up c.passed_up.ensures) in
+    (ap order_answer_of c.in_default.is) (passed_up c.passed_up.ensures) in
     record {
       result_value = all.0;
       buffer_after = all.1;

@@ -5,7 +5,7 @@ use mathlib.Core.Bool.{true, false, false≢true}
 use mathlib.Core.Path.{ap, sym, subst, ◌∙◌}
 use native.Mathlib.Omega.{arith}
 use Rattle.order.specs.Order.{floor_of, starts_of, goals_of}
-use Rattle.order.specs.Verdict.{answer_of as orderAnswerOf}
+use Rattle.order.specs.Verdict.{answer_of as order_answer_of}
 use Rattle.tables.proofs.AcceptedLaws.{order_accepted}
 use Rattle.floor.specs.FloorAnswer.{SameRound}
 use Rattle.floor.specs.RingTables.{RingTables}
@@ -16,7 +16,7 @@ use Rattle.floor.proofs.judge.Goals as goal
 
 pub returns-in_default : goal.returns-in_default
 returns-in_default c =
-    let down = ap orderAnswerOf c.in_default.is in
+    let down = ap order_answer_of c.in_default.is in
     let all = order_refused c.args.order.now _ _ _ _ c.decode-below.ensures.result_value down c.passed_up.ensures.result_value in
     let none = order_handed c.args.order.now _ _ _ _ _ all c.passed_up.ensures.result_value c.passed_up.ensures.result_value_2 down in
     record {

@@ -4,7 +4,7 @@ use mathlib.Core.Path.{ap}
 use native.Mathlib.Omega.{arith}
 use borrow.Author.Tests.{not-true, not-false}
 use Rattle.answers.proofs.AnswerLaws.{passed_up}
-use Rattle.order.specs.Verdict.{answer_of as orderAnswerOf}
+use Rattle.order.specs.Verdict.{answer_of as order_answer_of}
 use Rattle.tables.proofs.AcceptedLaws.{order_accepted}
 use Rattle.floor.proofs.FloorRows.{filled_rows}
 use Rattle.parity.proofs.ContraryLaws.{stands_seats}
@@ -13,7 +13,7 @@ use Rattle.parity.proofs.one_vacancy.Goals as goal
 
 pub returns-in_default : goal.returns-in_default
 returns-in_default c =
-    order_refused _ _ _ _ _ c.decode-below.ensures.result_value (ap orderAnswerOf c.in_default.is)
+    order_refused _ _ _ _ _ c.decode-below.ensures.result_value (ap order_answer_of c.in_default.is)
     (passed_up c.passed_up.ensures)
 
 pub overflow_add-m : goal.overflow_add-m

@@ -8,6 +8,7 @@ use Rattle.sets.proofs.SetLaws.{has_and, has_or}
 use Rattle.parity.proofs.PaintingLaws.{painting_begin, painting_light, painting_dark, painting_end}
 use lib.Bits.{bit_or}
 use Rattle.parity.proofs.two_colours.Goals as goal
+use Rattle.parity.proofs.two_colours.Goals.{then-has, else-has}
 
 pub loop-n-init : goal.loop-n-init
 loop-n-init c =
@@ -26,9 +27,11 @@ pub loop-n-preserved : goal.loop-n-preserved
 loop-n-preserved c =
     let both = (has_and (bit_or c.loop-n.light c.loop-n.dark) c.loop-n.rest c.lowest-p.result).0 c.lowest-p.ensures.has in
     let coloured = (has_or c.loop-n.light c.loop-n.dark c.lowest-p.result).0 both.0 in
-    ⊎_elim
-    (λ w. rw (w.2, w.3) (painting_light _ _ c.requires.rows _ _ _ _ _ c.loop-n.invariant c.without-rest.ensures
-    (c.has.ensures.0 w.0.taken)))
-    (λ w. rw (w.2, w.3) (painting_dark _ _ c.requires.rows _ _ _ _ _ c.loop-n.invariant c.without-rest.ensures
-    (⊎_elim (λ h. absurd (false≢true (sym w.0.left ∙ c.has.ensures.1 h))) (λ h. h) coloured)))
-    c.if-has.branch
+    elim c.if-has.branch [
+      | then-has w ↦
+          rw (w.light-is, w.dark-is) (painting_light _ _ c.requires.rows _ _ _ _ _ c.loop-n.invariant c.without-rest.ensures
+          (c.has.ensures.0 w.if-has.true))
+      | else-has w ↦
+          rw (w.light-is, w.dark-is) (painting_dark _ _ c.requires.rows _ _ _ _ _ c.loop-n.invariant c.without-rest.ensures
+          (⊎_elim (λ h. absurd (false≢true (sym w.if-has.false ∙ c.has.ensures.1 h))) (λ h. h) coloured))
+    ]

@@ -7,6 +7,7 @@ use native.Mathlib.Omega.{arith}
 use Rattle.stepping.specs.Judging.{row_moves}
 use Rattle.stepping.proofs.Turning.{listing_first, listing_none, listing_more, listing_last}
 use Rattle.stepping.proofs.list_origins.Goals as goal
+use Rattle.stepping.proofs.list_origins.Goals.{then-origin-ne0, else-origin-ne0}
 
 pub loop-p-init : goal.loop-p-init
 loop-p-init c =
@@ -45,14 +46,14 @@ loop-p-preserved c =
     let low = c.loop-p.invariant.0 c.loop-p.p in
     let origin = c.wide-origin.ensures.0 in (
       c.loop-p.invariant.0,
-      ⊎_elim
-          (λ t.
-          rw (t.1, t.2)
-          (listing_more c.args.origins.now (row_moves c.args.origins.now 0 64) c.loop-p.back c.loop-p.count c.loop-p.p c.loop-p.invariant.1 (omega arith) (c.wide-origin.result - 1)
-          (omega arith)
-          (omega arith)))
-          (λ t. rw (t.1, t.2) (listing_none c.args.origins.now (row_moves c.args.origins.now 0 64) c.loop-p.back c.loop-p.count c.loop-p.p c.loop-p.invariant.1 (omega arith) (omega arith)))
-          c.if-origin-ne0.branch,
+      elim c.if-origin-ne0.branch [
+        | then-origin-ne0 t ↦
+            rw (t.back-is, t.count-is)
+            (listing_more c.args.origins.now (row_moves c.args.origins.now 0 64) c.loop-p.back c.loop-p.count c.loop-p.p c.loop-p.invariant.1 (omega arith) (c.wide-origin.result - 1)
+            (omega arith)
+            (omega arith))
+        | else-origin-ne0 t ↦ rw (t.back-is, t.count-is) (listing_none c.args.origins.now (row_moves c.args.origins.now 0 64) c.loop-p.back c.loop-p.count c.loop-p.p c.loop-p.invariant.1 (omega arith) (omega arith))
+      ],
     )
 
 pub returns : goal.returns
