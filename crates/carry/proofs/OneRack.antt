@@ -135,8 +135,21 @@ pub before_not : {ms ls : List (ℕ × ℕ)} → Before ms ls → ms ≡ ls → 
 before_not (lower {m = m} {l = l} h) e = let same = ap (λ (x : ℕ × ℕ). x.1) (head-eq_of_cons-eq e) in omega arith
 before_not (later b) e = before_not b (tail-eq_of_cons-eq e)
 
+-- no two lists are each before the other
+before_crossed : {ms ls ls' ms' : List (ℕ × ℕ)} → Before ms ls → Before ls' ms' → ls ≡ ls' → ms ≡ ms' → ⊥
+before_crossed (lower h) (lower i) e f =
+    let left = ap (λ (x : ℕ × ℕ). x.1) (head-eq_of_cons-eq e) in
+    let right = ap (λ (x : ℕ × ℕ). x.1) (head-eq_of_cons-eq f) in
+    omega arith
+before_crossed (lower h) (later i) e f =
+    let left = ap (λ (x : ℕ × ℕ). x.1) (head-eq_of_cons-eq e) in
+    let right = ap (λ (x : ℕ × ℕ). x.1) (head-eq_of_cons-eq f) in
+    omega arith
+before_crossed (later h) (lower i) e f =
+    let left = ap (λ (x : ℕ × ℕ). x.1) (head-eq_of_cons-eq e) in
+    let right = ap (λ (x : ℕ × ℕ). x.1) (head-eq_of_cons-eq f) in
+    omega arith
+before_crossed (later h) (later i) e f = before_crossed h i (tail-eq_of_cons-eq e) (tail-eq_of_cons-eq f)
+
 pub before_once : {ms ls : List (ℕ × ℕ)} → Before ms ls → Before ls ms → ⊥
-before_once (lower h) (lower i) = omega arith
-before_once (lower h) (later i) = omega arith
-before_once (later h) (lower i) = omega arith
-before_once (later h) (later i) = before_once h i
+before_once h i = before_crossed h i refl refl

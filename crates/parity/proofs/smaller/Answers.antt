@@ -20,8 +20,7 @@ loop-i-preserved c =
 pub returns : goal.returns
 returns c =
     let e = smaller-all c.args.list.now c.args.n c.args.x c.loop-i.i c.loop-i-test.false in
-    let all = omega arith in
     record {
-      value = all.0;
-      upper_bound = all.1;
+      value = omega arith;
+      upper_bound = omega arith;
     }
