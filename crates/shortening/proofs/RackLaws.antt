@@ -90,10 +90,10 @@ listed_undone F {A} {B} v w [] zs e a p =
     after-listed (after_listed A v) w
     ∙ rw (after-listed A v, ← back) (unfold turned in turned_back F A (move_of v) (legal_named F A v s.0).0) in
     subst (λ (X : Arrangement). LeadsListed F X zs B) gone t.1
-listed_undone F v w (y ∷ ys) zs e a p =
+listed_undone F {A} v w (y ∷ ys) zs e a p =
     let away : Apart (move_of v) (move_of y) = rw e (apart-turned (apart-sym (a 0 (omega arith)))) in
     let q = lawful_first (listed-later F v y away p) in
-    q.0 then listed_undone F v w ys zs e (λ n h. a (suc n) (omega arith)) q.1
+    q.0 then listed_undone F {A = after_listed A y} v w ys zs e (λ n h. a (suc n) (omega arith)) q.1
 
 pub taken_leads : (F : Floor) {A B : Arrangement} {m : ℕ × ℕ} {K S : List (ℕ × ℕ × ℕ)} → Taken K m S → (w : ℕ × ℕ × ℕ) → move_of w ≡ m
     → (ys rest : List (ℕ × ℕ × ℕ)) → ((n : ℕ) → n < length ys → Apart (move_of (get_or ys n (0, 0, 0))) m)

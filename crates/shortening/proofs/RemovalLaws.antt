@@ -207,9 +207,9 @@ undone F {A} {B} m [] zs a p =
     let s = lawful_first p in
     let t = lawful_first s.1 in
     rw (turned_back F A m s.0) at t.1
-undone F m (y ∷ ys) zs a p =
+undone F {A} m (y ∷ ys) zs a p =
     let q = lawful_first (move-later F m y (a 0 (omega arith)) p) in
-    q.0 then undone F m ys zs (λ n h. a (suc n) (omega arith)) q.1
+    q.0 then undone F {A = after_move A y} m ys zs (λ n h. a (suc n) (omega arith)) q.1
 
 module _ (ms : List (ℕ × ℕ)) (i j : ℕ) (e : i < j) (h : j < length ms) where
   pub parts_of_lem : ms ≡ take i ms ++ move_at ms i ∷ (between ms i j ++ move_at ms j ∷ drop (suc j) ms)
