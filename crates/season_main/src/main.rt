@@ -2,10 +2,13 @@
 // with a refusal. What is written is season_program::season_program's; this only reads and writes.
 #![tactic(auto)]
 
-fn main() {
-    let mut input = io::large_buffer();
-    let n = io::read_full(libc::STDIN_FILENO, &mut input);
+use std::io;
+use std::io::Write;
+
+fn main(rt: HostRuntime) -> io::Result<()> {
+    let mut input = [0u8; 65536];
+    let n = reading::read_full(&mut rt.stdin(), &mut input)?;
     let mut out = [0u8; 256];
     let printed = season_program::season_program(&input[..n], &mut out);
-    io::write_all(libc::STDOUT_FILENO, &out[..printed]);
+    rt.stdout().write_all(&out[..printed])
 }
