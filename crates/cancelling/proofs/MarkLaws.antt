@@ -85,7 +85,8 @@ module _ (f : ℕ → ℕ × ℕ × ℕ) (marks marks' : List ℕ) (m : ℕ × �
       let t = taken_off j (omega arith) (λ h b c. a h b (omega arith)) in
       ⊎_elim
       (λ (k : Kept marks j).
-      rw (stack_kept f marks j k, stack_kept f marks' j ((less j).1 (k, λ q. e (sym q)))) (from_under (a j (omega arith) (omega arith) k) t))
+      rw (stack_kept f marks j k, stack_kept f marks' j ((less j).1 (k, λ q. e (sym q))))
+      (from_under (a j (omega arith) (omega arith) k) t))
       (λ (k : Kept marks j → ⊥).
       rw (stack_skipped f marks j k, stack_skipped f marks' j (λ b. k ((less j).0 b).0)) t)
       (kept? marks j))

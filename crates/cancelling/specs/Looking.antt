@@ -4,7 +4,8 @@
 -- links: what was known of a move's positions before it was kept, and is their bound again when it is taken off. The moves are f i, by
 -- their indices, as a plan of either edition lists them.
 --
---     listed_of named s i     the move of index i as the plan's tail s lists it, in the edition whose moves name their racks or in the other
+--     listed_of named s i     the move of index i as the plan's tail s lists it, in the edition whose moves name their racks
+--                             or in the other
 --     Kept marks i           the move of index i is kept
 --     Touches m p            the move m leaves or enters the position p
 --     stack_of f marks j      the kept ones of the first j moves, the latest on top
@@ -35,7 +36,32 @@
 --     Shortened named s k B n b    the n moves that the pass over k moves keeps, each with the rack that it names, written at the front of
 --                            B, make b of it
 -- Assumes nothing.
-use Rattle.std.specs.Prelude.{ℕ, zero, suc, ◌+◌, ◌-◌, ◌*◌, ◌/◌, ◌%◌, ◌≤◌, ◌<◌, Bool, true, cond, List, [], ◌∷◌, ◌↔◌, ◌⊎◌, ◌≢◌, ◌≡◌, ltb, eqb, length, get_or}
+use Rattle.std.specs.Prelude.{
+  ℕ,
+  zero,
+  suc,
+  ◌+◌,
+  ◌-◌,
+  ◌*◌,
+  ◌/◌,
+  ◌%◌,
+  ◌≤◌,
+  ◌<◌,
+  Bool,
+  true,
+  cond,
+  List,
+  [],
+  ◌∷◌,
+  ◌↔◌,
+  ◌⊎◌,
+  ◌≢◌,
+  ◌≡◌,
+  ltb,
+  eqb,
+  length,
+  get_or,
+}
 use Rattle.field.specs.Bits.{field}
 use Rattle.field.specs.Listed.{move_size, rack_field, all_units}
 use Rattle.field.specs.Packing.{pack_positions}

@@ -56,8 +56,10 @@ abbrev ring_of_four : List ℕ
 ring_of_four = 0x08 ∷ 0x08 ∷ 0x04 ∷ 0x00 ∷ 0x10 ∷ 0x03 ∷ 0x04 ∷ 0x20 ∷ 0x83 ∷ 0x0C ∷ 0x30 ∷ []
 
 unfoldable pub carry_open : List ℕ → List ℕ → List ℕ
-unfolding plan_open buffer_after carry_answer not_connected cannot_hold connected? carry_record dearest_moves moves_along way_from dearest_goal
-    dearest_start longest farthest greatest_below distance reaches next_of first_from plan_record plan_bytes plan_bits spare_bits listed all_units
+unfolding plan_open buffer_after carry_answer not_connected cannot_hold connected? carry_record dearest_moves
+    moves_along way_from dearest_goal
+    dearest_start longest farthest greatest_below distance reaches next_of first_from plan_record plan_bytes plan_bits
+    spare_bits listed all_units
     units position_bits padded to_bytes bytes written
 carry_open o B = buffer_after o B
 

@@ -42,14 +42,16 @@ pub record DearestCarry (F : Floor) : Type 0 where
   pub distances : (a b : ℕ) → a < F.positions → b < F.positions → LeastMoves F a b (distance F a b)
   -- the plan just written, for the order of one rack on the same floor, which reads back as what it is
   pub order_read : order_of (order_record (one_rack F (dearest_start F) (dearest_goal F))) ≡ one_rack F (dearest_start F) (dearest_goal F)
-  pub plan_accepted : plan_answer (order_record (one_rack F (dearest_start F) (dearest_goal F))) (carry_record F) ≡ accepted (longest F ∷ [])
+  pub plan_accepted : plan_answer (order_record (one_rack F (dearest_start F) (dearest_goal F))) (carry_record F) ≡
+      accepted (longest F ∷ [])
   -- no plan for it is shorter, as a list of moves or as a record
   pub is_plan : PlanFor F (dearest_start F) (dearest_goal F) (dearest_moves F)
   pub counted : length (dearest_moves F) ≡ longest F
   -- so a buffer that 28 passes has room for it
   pub few : longest F < F.positions
   pub no_shorter : (ms : List (ℕ × ℕ)) → PlanFor F (dearest_start F) (dearest_goal F) ms → longest F ≤ length ms
-  pub none_accepted : (p : List ℕ) (k : ℕ) → plan_answer (order_record (one_rack F (dearest_start F) (dearest_goal F))) p ≡ accepted (k ∷ [])
+  pub none_accepted : (p : List ℕ) (k : ℕ) → plan_answer (order_record (one_rack F (dearest_start F) (dearest_goal F)))
+      p ≡ accepted (k ∷ [])
       → longest F ≤ k
   -- no pair has a longer shortest plan, and each earlier pair has a shorter one
   pub no_dearer : (a b : ℕ) → a < F.positions → b < F.positions → (k : ℕ) × (k ≤ longest F) × SomePlan F a b k

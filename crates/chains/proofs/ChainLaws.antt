@@ -4,7 +4,8 @@
 --     led_short          a train has at most one move more than the step
 --     led-same-length    a train has one length
 --     led_iff_on         by a table of targets a train has at most k + 1 moves exactly if `led_on k` finds its leader
---     led_on_lem, unled_on, long_on    for the longest train: it is found where there is one no longer, and not where there is none or a longer
+--     led_on_lem, unled_on, long_on    for the longest train: it is found where there is one no longer, and not where there is
+--                                      none or a longer
 --     noted_targets      the targets noted of ascending moves are the step's
 -- Assumes nothing.
 use Prim.Native.Nat.{ℕ, zero, suc, ◌+◌, ◌-◌, ◌≤◌, ◌<◌}
@@ -93,7 +94,8 @@ held_standing h p =
 vacant_on : (h : List ℕ) (p : ℕ) → T (not (held_at h p)) ↔ (get_or h p 0 ≡ 0)
 unfolding held_at
 vacant_on h p = (
-  λ t. ⊎_elim (λ (e : get_or h p 0 ≡ 0). e) (λ (d : get_or h p 0 ≢ 0). absurd (rw (ne_eqb (get_or h p 0) 0 d) at t)) (equal? (get_or h p 0) 0),
+  λ t. ⊎_elim (λ (e : get_or h p 0 ≡ 0). e) (λ (d : get_or h p 0 ≢ 0). absurd (rw (ne_eqb (get_or h p 0) 0 d) at t))
+      (equal? (get_or h p 0) 0),
   λ e. rw (eq-eqb (get_or h p 0) 0 e) tt,
 )
 

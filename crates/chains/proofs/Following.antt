@@ -193,7 +193,8 @@ leaders_next h v j x room e m =
       leaders = λ q l.
           ⊎_elim
           (λ (s : q ≡ j).
-          subst (λ (i : ℕ). get_or (set v j x) i 0 ≡ leader_mark (get_or h i 0)) (sym s) (get_or-set_same v j x 0 (omega (arith, m.size)) ∙ e))
+          subst (λ (i : ℕ). get_or (set v j x) i 0 ≡ leader_mark (get_or h i 0)) (sym s)
+          (get_or-set_same v j x 0 (omega (arith, m.size)) ∙ e))
           (λ (d : q ≢ j). get_or-set_other v j q x 0 d ∙ m.leaders q (omega arith))
           (equal? q j);
     }

@@ -106,7 +106,8 @@ starts_anywhere (m ∷ ms) = leb-zero m.0
 
 pub sound_after_is : (g h : List ℕ) {ms : List (ℕ × ℕ)} → BelowPairs 64 ms → sound_after g h 0 (replicate 64 0) ms ≡ sound_moves g h ms
 unfolding sound_moves
-sound_after_is g h {ms} b = after_is g h 0 (replicate 64 0) b (length-replicate {A = ℕ} 64 0) ∙ rw (starts_anywhere ms, none_flagged ms) refl
+sound_after_is g h {ms} b = after_is g h 0 (replicate 64 0) b (length-replicate {A = ℕ} 64 0) ∙ rw
+    (starts_anywhere ms, none_flagged ms) refl
 
 -- moves that ascend from `lowest` on leave different positions below 64
 ascends_few : (lowest : ℕ) {ms : List (ℕ × ℕ)} → BelowPairs 64 ms → lowest ≤ 64 → T (starts_at lowest ms && ascends ms)
@@ -192,7 +193,13 @@ module _ (g h d : List ℕ) (c : ℕ) (t₀ : List ℕ) where
                     left-next judge (entries_from d c) (entries d 0 c) (0, replicate 64 0) (lowest, v) j a b left.judging at
                     (a + 1, set v b 1)
                     (λ ms.
-                    rw (le-leb lowest a l, ne_eqb (get_or g (a * 64 + b) 0) 0 e, ne_eqb (get_or h a 0) 0 r, eq-eqb (get_or v b 0) 0 f) refl);
+                    rw (
+                      le-leb lowest a l,
+                      ne_eqb (get_or g (a * 64 + b) 0) 0 e,
+                      ne_eqb (get_or h a 0) 0 r,
+                      eq-eqb
+                          (get_or v b 0) 0 f,
+                    ) refl);
                 noting = left-next noted (entries_from d c) (entries d 0 c) t₀ t j a b left.noting at (set t a (b + 1)) (λ ms. refl);
               };
         }

@@ -68,7 +68,8 @@ abbrev pub Says : Type 1
 Says = Floor → ℕ → List ℕ → List ℕ → ℕ → Floor → Type 0
 
 abbrev pub driven : Kind → Says
-driven k h n o t number h' = Tells one_count floor_steps_of (call_answer k (role_of n) h o t) number × (h' ≡ picture_after k (role_of n) h o t)
+driven k h n o t number h' = Tells one_count floor_steps_of (call_answer k (role_of n) h o t) number ×
+    (h' ≡ picture_after k (role_of n) h o t)
 
 -- what is said, of a callee's result
 abbrev Said : Says → Floor → ℕ → Bor (List ℕ) → Bor (List ℕ) → Called → Type 0

@@ -15,7 +15,8 @@ use Rattle.packing.specs.Packed.{one_count}
 use Rattle.packing.specs.Unpacked.{floor_steps_of, Tells}
 
 module _ (k : Kind) (P : Picture) (o t : List ℕ) {r role : Role} (is : r ≡ role) {a : Answer} {n : ℕ} where
-  pub call-told : a ≡ call_answer k r P o t → Tells one_count floor_steps_of a n → Tells one_count floor_steps_of (call_answer k role P o t) n
+  pub call-told : a ≡ call_answer k r P o t → Tells one_count floor_steps_of a n → Tells one_count floor_steps_of
+      (call_answer k role P o t) n
   call-told answered told =
       subst (λ (x : Answer). Tells one_count floor_steps_of x n) (answered ∙ ap (λ (x : Role). call_answer k x P o t) is) told
 

@@ -67,7 +67,8 @@ module _ (o p B : List ℕ) where
     converted_length =
         length_record (not (named p)) (starts_of o) (plan_moves p) ∙ rw (← edition, moves-counted p, ← count_is o p k e) refl
 
-    answer_is : converter_answer o p (length B) ≡ refuse (ltb (length B) (3 + (6 * (move_size (not n) * k) + 7) / 8)) 38 0 (accepted (k ∷ []))
+    answer_is : converter_answer o p (length B) ≡ refuse (ltb (length B) (3 + (6 * (move_size (not n) * k) + 7) / 8)) 38
+        0 (accepted (k ∷ []))
     unfolding converter_answer
     answer_is = pass_up_accepted (plan_answer o p) _ (k ∷ []) (sym e) ∙ rw (converted_length, count_is o p k e) refl
 

@@ -25,7 +25,8 @@ use Rattle.converting.specs.Theorems.{ThereAndBack}
 use Rattle.converting.proofs.Theorems.{there_and_back}
 
 unfoldable pub converter_open : List ℕ → List ℕ → List ℕ → List ℕ
-unfolding plan_open plan_moves moves_of buffer_after converter_answer converted_of plan_record plan_bytes plan_bits spare_bits listed all_units units
+unfolding plan_open plan_moves moves_of buffer_after converter_answer converted_of plan_record plan_bytes plan_bits
+    spare_bits listed all_units units
     position_bits padded to_bytes bytes written
 converter_open o p B = buffer_after o p B
 

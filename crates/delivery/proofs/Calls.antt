@@ -63,7 +63,12 @@ module _ {o P T P' T' : List ℕ} (k : ℕ) (plan : PlanMade o P (accepted (k �
 
   pub all_called : {s : ℕ} → w ≡ Accepted s → (x : TimetableVerdict) (t : List ℕ) → answer_of_check x ≡ timetable_answer o t
       → t ≡ timetable_alone T'
-      → Called o P T (record { planner = accepted (k ∷ []); maker = answered (accepted (s ∷ [])); checker = answered (answer_of_check x) }) P'
+      → Called o P T (record {
+        planner = accepted (k ∷ []);
+        maker = answered (accepted (s ∷ []));
+        checker = answered
+            (answer_of_check x);
+      }) P'
       T'
   all_called e x t ex et =
       checked plan (rw alone at (sym answer ∙ ap answer_of_maker e)) (rw alone at left) (ex ∙ ap (timetable_answer o) et)

@@ -248,7 +248,8 @@ pub zeros_at : (s : List ℕ) (i w : ℕ) → i + w ≤ 8 * length s → field s
 zeros_at s i w h e = sym (bits-zero w) ∙ ap (bits w) (sym e) ∙ bits-field s i w h
 
 -- a run of bits that begins where the first i bits end
-pub join : (s : List ℕ) (i w : ℕ) {a b : List ℕ} → a ≡ take i (bits_of s) → b ≡ take w (drop i (bits_of s)) → a ++ b ≡ take (i + w) (bits_of s)
+pub join : (s : List ℕ) (i w : ℕ) {a b : List ℕ} → a ≡ take i (bits_of s) → b ≡ take w (drop i (bits_of s)) → a ++ b ≡
+    take (i + w) (bits_of s)
 join s i w p q = ap₂ (λ (x y : List ℕ). x ++ y) p q ∙ sym (take-add i w (bits_of s))
 
 pub padded-by : (l : List ℕ) (k : ℕ) → pad (length l) ≡ k → padded l ≡ l ++ replicate k 0

@@ -25,7 +25,8 @@ module _ (s : List ℕ) (i k : ℕ) where
 
   -- the byte after byte k, under whatever name its index has
   module _ (l : ℕ) (n : l ≡ k + 1) (h : l < length s) (b : get_or s l 0 < 256) where
-    across : (r v w t : ℕ) → r + v ≡ 8 → w + t ≡ 8 → field s (8 * k + r) (v + w) ≡ get_or s k 0 % 2 ^ v * 2 ^ w + get_or s l 0 / 2 ^ t % 2 ^ w
+    across : (r v w t : ℕ) → r + v ≡ 8 → w + t ≡ 8 → field s (8 * k + r) (v + w) ≡ get_or s k 0 % 2 ^ v * 2 ^ w + get_or
+        s l 0 / 2 ^ t % 2 ^ w
     across r v w t e f = rw n (field_across s k r v w t (omega arith) e f)
 
     pub sextet_4 : i ≡ 8 * k + 4 → field s i 6 ≡ get_or s k 0 % 16 * 4 + get_or s l 0 / 64

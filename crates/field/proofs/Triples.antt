@@ -54,7 +54,8 @@ module _ (s : List ℕ) (i k l m r : ℕ) (n : l ≡ k + 1) (o : m ≡ k + 2) (h
       (sextet_4 s i k l n (omega arith) b e) (sextet_2 s (i + 6) l (omega arith) (omega arith))
       (sextet_0 s (i + 12) m (omega arith) h c)
 
-  triple_6 : i ≡ 8 * k + 6 → r ≡ get_or s k 0 % 4 * 65536 + get_or s l 0 * 256 + get_or s m 0 → TripleAt s i (r / 4096) (r / 64 % 64) (r % 64)
+  triple_6 : i ≡ 8 * k + 6 → r ≡ get_or s k 0 % 4 * 65536 + get_or s l 0 * 256 + get_or s m 0 → TripleAt s i (r / 4096)
+      (r / 64 % 64) (r % 64)
   triple_6 e is =
       triple_parts s i r (get_or s k 0 % 4 * 16 + get_or s l 0 / 16) (get_or s l 0 % 16 * 4 + get_or s m 0 / 64) (get_or s m 0 % 64)
       (omega arith) (omega arith) (omega arith) (omega arith)
@@ -63,7 +64,8 @@ module _ (s : List ℕ) (i k l m r : ℕ) (n : l ≡ k + 1) (o : m ≡ k + 2) (h
 
 -- the three bytes that a triple stands in, as one number, and the triple taken out of it
 module _ (s : List ℕ) (j r x k : ℕ) (n : k ≡ 2 * j + j / 4) (h : 18 * j + 18 ≤ 8 * length s) (a : get_or s k 0 < 256)
-    (b : get_or s (k + 1) 0 < 256) (c : get_or s (k + 2) 0 < 256) (ex : x ≡ get_or s k 0 * 65536 + get_or s (k + 1) 0 * 256 + get_or s (k + 2) 0)
+    (b : get_or s (k + 1) 0 < 256) (c : get_or s (k + 2) 0 < 256) (ex : x ≡ get_or s k 0 * 65536 + get_or s (k + 1) 0 *
+    256 + get_or s (k + 2) 0)
     (er : r ≡ x / 2 ^ (6 - j % 4 * 2) % 262144) where
   room : k + 2 < length s
   room = omega arith

@@ -96,7 +96,8 @@ same_bit s t p f g =
     (has_or_not s p)
 
 -- an edge joined at both its ends raises the one below the diagonal
-edge_raised : (g : List ℕ) (x y : ℕ) → length g ≡ 64 → x < y → y < 64 → bit (get_or g y 0) x ≡ 0 → Raised g (joining (joining g x y) y x) y x
+edge_raised : (g : List ℕ) (x y : ℕ) → length g ≡ 64 → x < y → y < 64 → bit (get_or g y 0) x ≡ 0 → Raised g
+    (joining (joining g x y) y x) y x
 edge_raised g x y long l h z =
     let g₁ = joining g x y in
     let long₁ : length g₁ ≡ 64 = length-set g x (bit_or (get_or g x 0) (2 ^ y)) ∙ long in

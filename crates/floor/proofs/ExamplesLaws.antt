@@ -85,9 +85,12 @@ pub floors_judged :
     × (floor_answer five_spokes ≡ refused 26 0)
     × (floor_answer five_full ≡ refused 20 0)
     × (floor_answer five_rays ≡ refused 21 0)
-unfolding floor_answer bi_connected? ring? four_sided? count_of same_round? round_place same_order? rack? in_turn? place_on round_of follow onward
-    first_from stands joined some is_pair order_answer wrong_length misfits record_length unit_count wrong_positions padding_set pad_set unclean pad
-    wrong_edges bad_edge precedes ascending wrong_racks wrong_places repeats order_of floor_of starts_of goals_of counts position_count edge_count
+unfolding floor_answer bi_connected? ring? four_sided? count_of same_round? round_place same_order? rack? in_turn?
+    place_on round_of follow onward
+    first_from stands joined some is_pair order_answer wrong_length misfits record_length unit_count wrong_positions
+    padding_set pad_set unclean pad
+    wrong_edges bad_edge precedes ascending wrong_racks wrong_places repeats order_of floor_of starts_of goals_of counts
+    position_count edge_count
     rack_count field number bits_of bits pairs positions
 floors_judged = (refl, refl, refl, refl, refl, refl, refl, refl, refl, refl, refl)
 

@@ -246,6 +246,7 @@ module _ (o : List ℕ) (p : Plannable o) (k : OffRing o) where
       let rows = floor_rows (floor_of o) w.edges_below w.few_positions w.edges_right in
       let counted = edges_counted (floor_of o) w.edges_below w.edges_right in
       let least = bi_connected_edges rows off_ring_rows.0 in
-      let other : length (floor_of o).edges ≢ (floor_of o).positions = λ e. k.no_ring (record { bi_connected = p.bi_connected; count = e }) in
+      let other : length (floor_of o).edges ≢ (floor_of o).positions = λ e. k.no_ring
+      (record { bi_connected = p.bi_connected; count = e }) in
       let more : (floor_of o).positions < edge_count (rows_of (floor_of o)) (floor_of o).positions = omega arith in
       (four (floor_of o).positions (rows_of (floor_of o)) p.bi_connected.three more, omega arith)

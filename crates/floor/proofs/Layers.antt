@@ -87,7 +87,8 @@ module _ {o : List ℕ} {n e m : ℕ} (gave : OrderGave o n e m) where
       let r = gave.racks_are in
       lt-ltb (position_count o) (rack_count o + vacancies_owed (floor_of o)) (omega arith)
 
-  vacant : (k : ℕ) → vacancies_owed (floor_of o) ≡ k → m + k ≤ n → ltb (position_count o) (rack_count o + vacancies_owed (floor_of o)) ≡ false
+  vacant : (k : ℕ) → vacancies_owed (floor_of o) ≡ k → m + k ≤ n → ltb (position_count o)
+      (rack_count o + vacancies_owed (floor_of o)) ≡ false
   vacant k owed h =
       let p = gave.positions_are ∙ positions_are o in
       let r = gave.racks_are in

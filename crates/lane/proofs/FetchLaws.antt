@@ -66,7 +66,8 @@ module _ (n : ℕ) {g : List ℕ} {x x₁ : State} {t t₁ : List ℕ} (opened :
   place_room room log = room_then (room_less (open_moves n + fetch_moves n) (omega arith) room) log opened
 
   module _ {x₂ : State} {t₂ : List ℕ} (fetched : Trip g (fetch_moves n) x₁ t₁ x₂ t₂) where
-    pub place_fits : {l l₂ : List ℕ} → n ≤ 64 → Room x l t (place_moves n) → length l₂ ≡ length l → Fits (relogged x₂ 0) l₂ t₂ (home_moves n)
+    pub place_fits : {l l₂ : List ℕ} → n ≤ 64 → Room x l t (place_moves n) → length l₂ ≡ length l → Fits (relogged x₂ 0)
+        l₂ t₂ (home_moves n)
     unfolding place_moves
     place_fits small room log =
         fits_anew (home_moves n) (omega arith) (home_few n small)

@@ -97,7 +97,8 @@ pub back_to : picture_after taking_back Role.Supervisor halfway order₁ timetab
 unfolding live_open
 back_to = refl
 
-pub none_left : call_answer running Role.Operator (record { racks = row 2 0 0 1; steps = 2; positions = 4 }) order₁ timetable₁ ≡ refused 61 0
+pub none_left : call_answer running Role.Operator (record { racks = row 2 0 0 1; steps = 2; positions = 4 }) order₁
+    timetable₁ ≡ refused 61 0
 unfolding live_open
 none_left = refl
 

@@ -144,7 +144,8 @@ all_apart : T (from 1 5 (λ j. from 1 5 (apart j)))
 unfolding from rows_of columns_of
 all_apart = tt
 
-pub one_model : (j k : ℕ) → unknown_model j ≡ false → unknown_model k ≡ false → (model_floor j).positions ≡ (model_floor k).positions → j ≡ k
+pub one_model : (j k : ℕ) → unknown_model j ≡ false → unknown_model k ≡ false → (model_floor j).positions ≡
+    (model_floor k).positions → j ≡ k
 unfolding model_floor grid
 one_model j k hj hk e =
     let t = models_each (apart j) (models_each (λ j. from 1 5 (apart j)) all_apart j hj) k hk in

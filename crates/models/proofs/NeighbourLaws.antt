@@ -71,7 +71,8 @@ abbrev neighbours : ℕ → Floor
 neighbours k = floor_from (rows_of k * columns_of k) (side_by_side (rows_of k) (columns_of k))
 
 all_listed : T (from 1 5 (λ k. same_pairs (model_floor k).edges (neighbours k).edges))
-unfolding from is_pair model_floor grid grid_edges edges_on to_right to_below rows_of columns_of floor_from edges_listed is_edge side_by_side apart_by_one
+unfolding from is_pair model_floor grid grid_edges edges_on to_right to_below rows_of columns_of floor_from edges_listed
+    is_edge side_by_side apart_by_one
 all_listed = tt
 
 module _ (k : ℕ) (known : unknown_model k ≡ false) where
@@ -86,4 +87,5 @@ module _ (k : ℕ) (known : unknown_model k ≡ false) where
   model_joins a b =
       let few : rows_of k * columns_of k ≤ 64 = unfold model_floor grid in (model_size k known).few_positions in
       ap (λ (F : Floor). joined F a b) model_listed
-      ∙ floor_from-joined (rows_of k * columns_of k) (side_by_side (rows_of k) (columns_of k)) few (side_relation (rows_of k) (columns_of k)) a b
+      ∙ floor_from-joined (rows_of k * columns_of k) (side_by_side (rows_of k) (columns_of k)) few
+      (side_relation (rows_of k) (columns_of k)) a b

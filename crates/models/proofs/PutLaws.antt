@@ -71,7 +71,8 @@ module _ (s : List ℕ) (j : ℕ) {ps : List (ℕ × ℕ)} where
   pub room_one : (a b : ℕ) → ps ≡ (a, b) ∷ [] → Room s j ps → (12 * (j + 1) + 7) / 8 ≤ length s
   room_one a b e h = let r = h.room in let one : length ps ≡ 1 = ap length e in subst (λ (k : ℕ). (12 * (j + k) + 7) / 8 ≤ length s) one r
 
-pub put_pairs_append : (ps qs : List (ℕ × ℕ)) (s : List ℕ) (j : ℕ) → put_pairs s j (ps ++ qs) ≡ put_pairs (put_pairs s j ps) (j + length ps) qs
+pub put_pairs_append : (ps qs : List (ℕ × ℕ)) (s : List ℕ) (j : ℕ) → put_pairs s j (ps ++ qs) ≡ put_pairs
+    (put_pairs s j ps) (j + length ps) qs
 unfolding put_pairs
 put_pairs_append [] qs s j = ap (λ (k : ℕ). put_pairs s k qs) (sym (add-zero j))
 put_pairs_append (p ∷ ps) qs s j =

@@ -154,7 +154,8 @@ module _ (s : List ℕ) (n : ℕ) (v : List ℕ) (a : expand_answer s n ≡ acce
   pub short_plannable : rack_count (expanded s) + 2 ≤ position_count (expanded s) → Plannable (expanded s)
   short_plannable = model_plannable (expanded s) (model_code s) written_out.on_model
 
-pub one_short : (s t : List ℕ) (n m : ℕ) (v w : List ℕ) → Bytes s → Bytes t → expand_answer s n ≡ accepted v → expand_answer t m ≡ accepted w
+pub one_short : (s t : List ℕ) (n m : ℕ) (v w : List ℕ) → Bytes s → Bytes t → expand_answer s n ≡ accepted v →
+    expand_answer t m ≡ accepted w
     → expanded s ≡ expanded t → s ≡ t
 one_short s t n m v w bs bt a b e = short_of_read s t bs bt p.right q.right read
   where

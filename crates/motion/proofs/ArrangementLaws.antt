@@ -69,7 +69,8 @@ rack_from_finds k (q ∷ A) p o =
     ⊎_elim
     (λ (e : q ≡ p). (0, omega arith, e, rw (eq-eqb q p e) (omega arith)))
     (λ (e : q ≢ p).
-    let w = rack_from_finds (suc k) A p (⊎_elim (λ t. absurd (e ((eqb_parts q p).0 t))) (λ t. t) ((or_parts (eqb q p) (occupied A p)).0 o)) in
+    let w = rack_from_finds (suc k) A p (⊎_elim (λ t. absurd (e ((eqb_parts q p).0 t))) (λ t. t)
+    ((or_parts (eqb q p) (occupied A p)).0 o)) in
     (suc w.0, omega (arith, w.1), w.2, rack_from-later k q A p e ∙ omega (arith, w.3)))
     (equal? q p)
 

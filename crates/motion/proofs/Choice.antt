@@ -136,7 +136,8 @@ module _ (idx : List ℕ) where
       (occupied_or_vacant (pick idx A) m.0)
 
   -- where every rack is chosen, every move is a chosen rack's
-  moves_of-pick : (F : Floor) {A B : Arrangement} {ms : List (ℕ × ℕ)} → Names idx (length A) → Leads F A ms B → moves_of (pick idx A) ms ≡ ms
+  moves_of-pick : (F : Floor) {A B : Arrangement} {ms : List (ℕ × ℕ)} → Names idx (length A) → Leads F A ms B → moves_of
+      (pick idx A) ms ≡ ms
   unfolding moves_of
   moves_of-pick F n still = refl
   moves_of-pick F n (◌then◌ {A = A} {x = m} {xs = ms} l p) =
@@ -188,6 +189,7 @@ pub leads_dropped : (F : Floor) (R D R' D' : Arrangement) {ms : List (ℕ × ℕ
 leads_dropped F R D R' D' {ms} e p =
     let w : Within (up_to (length R)) (length (R ++ D)) =
     record { below = λ k h. let h' : k < length R = rw up_to-length at h in omega (arith, up_to-at (length R) k h', length-append R D) } in
-    let q : Leads F (pick (up_to (length R)) (R ++ D)) (moves_of (pick (up_to (length R)) (R ++ D)) ms) (pick (up_to (length R)) (R' ++ D')) =
+    let q : Leads F (pick (up_to (length R)) (R ++ D)) (moves_of (pick (up_to (length R)) (R ++ D)) ms)
+    (pick (up_to (length R)) (R' ++ D')) =
     leads_pick (up_to (length R)) F w p in
     rw (pick_front R D (length R) refl, pick_front R' D' (length R) e) at q

@@ -58,14 +58,16 @@ module _ (A : Arrangement) (r y : ℕ) where
   set_cases : (P : ℕ → Type 0) → r < length A → (k : ℕ) → (k ≡ r → P y) → (k ≢ r → P (get_or A k 0)) → P (get_or (set A r y) k 0)
   set_cases P h k a b =
       ⊎_elim
-      (λ (e : k ≡ r). let s : get_or (set A r y) k 0 ≡ y = ap (λ (i : ℕ). get_or (set A r y) i 0) e ∙ get_or-set_same A r y 0 h in rw s (a e))
+      (λ (e : k ≡ r). let s : get_or (set A r y) k 0 ≡ y = ap (λ (i : ℕ). get_or (set A r y) i 0) e ∙ get_or-set_same A
+      r y 0 h in rw s (a e))
       (λ (d : k ≢ r). rw (get_or-set_other A r k y 0 d) (b d))
       (equal? k r)
 
   module _ (h : r < length A) where
     set-vacant : (p : ℕ) → T (vacant A p) → y ≢ p → T (vacant (set A r y) p)
     set-vacant p v d =
-        (vacant-racks (set A r y) p).1 (λ k q. set_cases (λ (z : ℕ). z ≢ p) h k (λ _. d) (λ _. (vacant-racks A p).0 v k (rw length-set at q)))
+        (vacant-racks (set A r y) p).1 (λ k q. set_cases (λ (z : ℕ). z ≢ p) h k (λ _. d)
+        (λ _. (vacant-racks A p).0 v k (rw length-set at q)))
 
     set-occupied : (p : ℕ) → T (occupied A p) → get_or A r 0 ≢ p → T (occupied (set A r y) p)
     set-occupied p o d =

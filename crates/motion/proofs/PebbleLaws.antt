@@ -69,7 +69,8 @@ module _ (F : Floor) (m : ℕ) (A : Arrangement) (n : length A ≡ m) (s : Sound
   move-along p h =
       let k : p - 1 < length A = omega arith in
       ⊎_elim
-      (λ (e : get_or A (p - 1) 0 ≡ mv.0). inr (rw (moved_rack A mv (p - 1) k e, e) ((on_floor_parts F mv).0 ((legal_parts F A mv).0 l).0).2))
+      (λ (e : get_or A (p - 1) 0 ≡ mv.0). inr (rw (moved_rack A mv (p - 1) k e, e)
+      ((on_floor_parts F mv).0 ((legal_parts F A mv).0 l).0).2))
       (λ (e : get_or A (p - 1) 0 ≢ mv.0). inl (sym (moved_other A mv (p - 1) k e)))
       (equal? (get_or A (p - 1) 0) mv.0)
 

@@ -35,7 +35,8 @@ module _ {X : Type 0} {legal : Arrangement → X → Bool} {next : Arrangement �
   trace_last (l then p) = trace_last p
 
   pub trace_turn : {A B : Arrangement} {xs : List X} → Lawful legal next A xs B → (k : ℕ) → k < length xs
-      → (x : X) × T (legal (get_or (trace next A xs) k []) x) × (get_or (trace next A xs) (suc k) [] ≡ next (get_or (trace next A xs) k []) x)
+      → (x : X) × T (legal (get_or (trace next A xs) k []) x) × (get_or (trace next A xs) (suc k) [] ≡ next
+      (get_or (trace next A xs) k []) x)
   unfolding trace
   trace_turn still k h = absurd (omega arith)
   trace_turn (◌then◌ {A = A} {x = x} {xs = xs} l p) zero h = (x, l, trace-first next (next A x) xs)

@@ -92,7 +92,8 @@ abbrev SameVisits : List (ℕ × ℕ) → List (List (ℕ × ℕ)) → ℕ → T
 SameVisits ms steps p = visitors (trace after starts steps) p ≡ visitors (trace after_move starts ms) p
 
 keeps_each : (steps : List (List (ℕ × ℕ))) → SameRoute plan steps 1 → SameRoute plan steps 2
-    → SameVisits plan steps 0 → SameVisits plan steps 1 → SameVisits plan steps 2 → SameVisits plan steps 3 → Keeps floor_f starts plan steps
+    → SameVisits plan steps 0 → SameVisits plan steps 1 → SameVisits plan steps 2 → SameVisits plan steps 3 → Keeps
+    floor_f starts plan steps
 keeps_each steps a b c d e f =
     record { routes = each_rack (SameRoute plan steps) a b; visits = each_position (SameVisits plan steps) c d e f }
 

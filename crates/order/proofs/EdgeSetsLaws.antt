@@ -72,7 +72,8 @@ module _ (test : ℕ → Bool) where
       by true r = rw (other_place i a b (λ e. omega (arith, l, e)), r) refl
       by false r = r
 
-  listed_at : (k i a b : ℕ) → b < 64 → i ≤ a * 64 + b → a * 64 + b < i + k → some (is_pair (a, b)) (edges_listed test i k) ≡ test (a * 64 + b)
+  listed_at : (k i a b : ℕ) → b < 64 → i ≤ a * 64 + b → a * 64 + b < i + k → some (is_pair (a, b))
+      (edges_listed test i k) ≡ test (a * 64 + b)
   unfolding edges_listed some
   listed_at zero i a b h l u = absurd (omega arith)
   listed_at (suc k) i a b h l u = elim (ℕ_discrete i (a * 64 + b)) [
@@ -81,7 +82,8 @@ module _ (test : ℕ → Bool) where
   ]
     where
       here : i ≡ a * 64 + b
-          → some (is_pair (a, b)) (cond (test i) (pair_of i ∷ edges_listed test (suc i) k) (edges_listed test (suc i) k)) ≡ test (a * 64 + b)
+          → some (is_pair (a, b)) (cond (test i) (pair_of i ∷ edges_listed test (suc i) k)
+          (edges_listed test (suc i) k)) ≡ test (a * 64 + b)
       here e = by (test i) refl
         where
           by : (t : Bool) → test i ≡ t
@@ -90,7 +92,8 @@ module _ (test : ℕ → Bool) where
           by false p = listed-under k (suc i) a b h (omega (arith, e)) ∙ sym (ap test (sym e) ∙ p)
 
       later : (i ≡ a * 64 + b → ⊥) → some (is_pair (a, b)) (edges_listed test (suc i) k) ≡ test (a * 64 + b)
-          → some (is_pair (a, b)) (cond (test i) (pair_of i ∷ edges_listed test (suc i) k) (edges_listed test (suc i) k)) ≡ test (a * 64 + b)
+          → some (is_pair (a, b)) (cond (test i) (pair_of i ∷ edges_listed test (suc i) k)
+          (edges_listed test (suc i) k)) ≡ test (a * 64 + b)
       later d r = by (test i)
         where
           by : (t : Bool)

@@ -35,8 +35,10 @@ case_book_order =
     }
 
 case_book_accepted : order_answer case_book ≡ accepted (4 ∷ 5 ∷ 2 ∷ [])
-unfolding case_book order_answer wrong_length misfits record_length unit_count wrong_positions padding_set pad_set unclean pad wrong_edges some
-    bad_edge precedes ascending wrong_racks wrong_places repeats order_of floor_of starts_of goals_of counts position_count edge_count rack_count
+unfolding case_book order_answer wrong_length misfits record_length unit_count wrong_positions padding_set pad_set
+    unclean pad wrong_edges some
+    bad_edge precedes ascending wrong_racks wrong_places repeats order_of floor_of starts_of goals_of counts
+    position_count edge_count rack_count
     field number bits_of bits pairs positions
 case_book_accepted = refl
 
@@ -63,24 +65,29 @@ meets_10 = refl
 
 -- n = 65
 meets_11 : order_answer (0x82 ∷ 0x00 ∷ 0x00 ∷ []) ≡ refused 11 0
-unfolding order_answer wrong_length misfits record_length unit_count wrong_positions position_count edge_count rack_count field number bits_of bits
+unfolding order_answer wrong_length misfits record_length unit_count wrong_positions position_count edge_count
+    rack_count field number bits_of bits
 meets_11 = refl
 
 -- the second spare bit is set
 meets_12 : order_answer (0x02 ∷ 0x00 ∷ 0x01 ∷ []) ≡ refused 12 0
-unfolding order_answer wrong_length misfits record_length unit_count wrong_positions padding_set pad_set unclean pad position_count edge_count
+unfolding order_answer wrong_length misfits record_length unit_count wrong_positions padding_set pad_set unclean pad
+    position_count edge_count
     rack_count field number bits_of bits
 meets_12 = refl
 
 -- the edge 1-0 is not lower first
 meets_13 : order_answer (0x04 ∷ 0x02 ∷ 0x00 ∷ 0x04 ∷ 0x00 ∷ []) ≡ refused 13 0
-unfolding order_answer wrong_length misfits record_length unit_count wrong_positions padding_set pad_set unclean pad wrong_edges some bad_edge
+unfolding order_answer wrong_length misfits record_length unit_count wrong_positions padding_set pad_set unclean pad
+    wrong_edges some bad_edge
     precedes ascending floor_of position_count edge_count rack_count field number bits_of bits pairs
 meets_13 = refl
 
 -- n = 1, one rack from 0 to 1
 meets_14 : order_answer (0x02 ∷ 0x00 ∷ 0x04 ∷ 0x00 ∷ 0x10 ∷ []) ≡ refused 14 0
-unfolding order_answer wrong_length misfits record_length unit_count wrong_positions padding_set pad_set unclean pad wrong_edges some bad_edge
-    precedes ascending wrong_racks wrong_places repeats order_of floor_of starts_of goals_of position_count edge_count rack_count field number
+unfolding order_answer wrong_length misfits record_length unit_count wrong_positions padding_set pad_set unclean pad
+    wrong_edges some bad_edge
+    precedes ascending wrong_racks wrong_places repeats order_of floor_of starts_of goals_of position_count edge_count
+    rack_count field number
     bits_of bits pairs positions
 meets_14 = refl

@@ -225,7 +225,8 @@ module _ {s : List ℕ} {n e m : ℕ} (told : EdgesGave s n e m) where
 
       pub starts_filled : h₀ ≡ decoded_starts s
       unfolding decoded_starts
-      starts_filled = judged.starts_are f ∙ ap racks_at starts_are ∙ ap (λ (x : Answer). unless_refused x (racks_at (starts_of s))) racks_right
+      starts_filled = judged.starts_are f ∙ ap racks_at starts_are ∙ ap (λ (x : Answer). unless_refused x
+          (racks_at (starts_of s))) racks_right
 
       pub goals_filled : h₁ ≡ decoded_goals s
       unfolding decoded_goals

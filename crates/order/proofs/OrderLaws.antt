@@ -42,7 +42,8 @@ pub record RightHead (s : List ℕ) : Type 0 where
 pub right_head : (s : List ℕ) → wrong_length s ≡ false → wrong_positions s ≡ false → RightHead s
 unfolding wrong_length wrong_positions
 right_head s l p =
-    let some : (position_count s ≡ 0 → ⊥) = eqb-false (position_count s) 0 (or_left (eqb (position_count s) 0) (ltb 64 (position_count s)) p) in
+    let some : (position_count s ≡ 0 → ⊥) = eqb-false (position_count s) 0
+    (or_left (eqb (position_count s) 0) (ltb 64 (position_count s)) p) in
     record {
       fit = fitting s (unit_count s) l;
       some_position = omega arith;

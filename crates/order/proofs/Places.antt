@@ -100,7 +100,8 @@ module _ (s : List ℕ) (n from m : ℕ) where
   left-first h = rw (add-zero from, sub-zero m) (wrong_given_is n 64 (positions s (6 * from) m) h)
 
   module _ (taken : List ℕ) (i p : ℕ) (left : Left taken i) (h : i < m) (e : p ≡ field s (6 * (from + i)) 6) where
-    next : (leb n p || flagged taken p || wrong_given n (set taken p (i + 1)) (i + 1 + 1) (positions s (6 * (from + (i + 1))) (m - (i + 1))))
+    next : (leb n p || flagged taken p || wrong_given n (set taken p (i + 1)) (i + 1 + 1)
+        (positions s (6 * (from + (i + 1))) (m - (i + 1))))
         ≡ wrong_places n (positions s (6 * from) m)
     unfolding Left wrong_given
     next = rw e (ap (wrong_given n taken (i + 1)) (sym (positions-next s from i m h)) ∙ left)

@@ -2,7 +2,8 @@
 -- quotient by 2 ^ k, a mask of k ones the remainder by 2 ^ k, a cast to uint32_t the remainder by 2 ^ 32; size_t is as wide as the number.
 --
 --     number_in r, place_in r        wichteab_number, wichteab_place
---     nothing_of r, record_length_of r, judgement_of r, plan_moves_of r, made_steps_of r, floor_steps_of r, steps_and_moves_of r, offset_and_length_of r,
+--     nothing_of r, record_length_of r, judgement_of r, plan_moves_of r, made_steps_of r, floor_steps_of r, steps_and_moves_of r,
+--     offset_and_length_of r,
 --     start_goal_moves_of r
 --                                  what a caller reads of an accepted answer
 --     taken_apart values r          the answer that a caller makes of the number r: its number, and then its place or what `values` reads

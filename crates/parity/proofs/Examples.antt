@@ -26,7 +26,18 @@ use Rattle.answers.proofs.AnswerLaws.{pass_up_accepted, holds-yes, holds-true}
 use Rattle.field.specs.Bits.{bits_of, bits, number, field, pairs, positions, pad}
 use Rattle.field.specs.Units.{record_length, misfits, pad_set, unclean}
 use Rattle.order.specs.Floor.{Floor, some, is_pair, joined}
-use Rattle.order.specs.Order.{Order, position_count, edge_count, rack_count, unit_count, floor_of, starts_of, goals_of, order_of, order_record}
+use Rattle.order.specs.Order.{
+  Order,
+  position_count,
+  edge_count,
+  rack_count,
+  unit_count,
+  floor_of,
+  starts_of,
+  goals_of,
+  order_of,
+  order_record,
+}
 use Rattle.order.specs.Order.{wrong_length, wrong_positions, padding_set, bad_edge, precedes, ascending, wrong_edges, repeats, wrong_places}
 use Rattle.order.specs.Order.{wrong_racks, counts, order_answer, WellFormed}
 use Rattle.order.proofs.Written.{SoundOrder, record_read, record_sound}
@@ -126,7 +137,8 @@ abbrev pub chess : ℕ → Bool
 chess p = eqb ((p / 4 + p % 4) % 2) 0
 
 pub chess_two : TwoColours (model_floor 3).positions (Joins (model_floor 3)) chess
-unfolding decide_two_colours passes? alike? implies? every? not? model_floor grid grid_edges edges_on to_right to_below rows_of columns_of joined
+unfolding decide_two_colours passes? alike? implies? every? not? model_floor grid grid_edges edges_on to_right to_below
+    rows_of columns_of joined
     some is_pair
 chess_two = holds-true (decide_two_colours (model_floor 3) chess) refl
 
@@ -141,7 +153,8 @@ unfoldable pub puzzle : List ℕ
 puzzle = order_record (Puzzle exchanged)
 
 one_exchange : Impossible (model_floor 3) (placed (13 ∷ 14 ∷ [])) exchanged
-unfolding model_floor grid rows_of columns_of change values_from goal_of vacancy first_from stands inversions count_of rack_at rack_from vacant
+unfolding model_floor grid rows_of columns_of change values_from goal_of vacancy first_from stands inversions count_of
+    rack_at rack_from vacant
     occupied some
 one_exchange = record { colour = chess; joins_both = chess_two; contrary = inl (refl, refl) }
 
@@ -196,8 +209,10 @@ pub small_judged :
     × (vacancy_answer two_and_one ≡ accepted (1 ∷ []))
     × (vacancy_answer turned_on ≡ accepted (0 ∷ []))
 unfolding vacancy_answer judgement impossible? bi_connected? joined some is_pair order_answer wrong_length misfits record_length unit_count
-    wrong_positions padding_set pad_set unclean pad wrong_edges bad_edge precedes ascending wrong_racks wrong_places repeats order_of floor_of
-    starts_of goals_of counts position_count edge_count rack_count field number bits_of bits pairs positions change values_from goal_of vacancy
+    wrong_positions padding_set pad_set unclean pad wrong_edges bad_edge precedes ascending wrong_racks wrong_places
+    repeats order_of floor_of
+    starts_of goals_of counts position_count edge_count rack_count field number bits_of bits pairs positions change
+    values_from goal_of vacancy
     first_from stands inversions count_of rack_at rack_from vacant occupied
 small_judged = (refl, refl, refl, refl, refl, refl, refl, refl, refl)
 

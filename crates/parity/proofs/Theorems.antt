@@ -51,7 +51,8 @@ passed o x e =
     let e₀ : a₀ ≡ accepted v = pass_up-high (order_answer o) a₀ v e in
     let e₁ = refuse_else (not (eqb (position_count o - rack_count o) 1)) 29 0 a₁ v e₀ in
     let e₂ = refuse_else (not (holds (bi_connected? (floor_of o)))) 21 0 a₂ v e₁ in
-    let one = not-false (eqb (position_count o - rack_count o) 1) (refuse_not (not (eqb (position_count o - rack_count o) 1)) 29 0 a₁ v e₀) in
+    let one = not-false (eqb (position_count o - rack_count o) 1) (refuse_not
+    (not (eqb (position_count o - rack_count o) 1)) 29 0 a₁ v e₀) in
     let whole = not-false (holds (bi_connected? (floor_of o))) (refuse_not (not (holds (bi_connected? (floor_of o)))) 21 0 a₂ v e₁) in
     record {
       right = well_formed o low.0 low.1;

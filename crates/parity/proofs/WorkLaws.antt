@@ -78,7 +78,8 @@ homes_next n h at p seats long l before =
     record {
       back = λ q less.
           by_cases (ℕ_discrete q p)
-          (λ e. ap (λ (x : ℕ). get_or (set at (get_or h p 0) p) (get_or h x 0) 0) e ∙ get_or-set_same at (get_or h p 0) p 0 (omega arith) ∙ sym e)
+          (λ e. ap (λ (x : ℕ). get_or (set at (get_or h p 0) p) (get_or h x 0) 0) e ∙ get_or-set_same at (get_or h p 0)
+          p 0 (omega arith) ∙ sym e)
           (λ d.
           get_or-set_other at (get_or h p 0) (get_or h q 0) p 0 (λ e. d (seats.apart q p (omega arith) l e)) ∙ before.back q (omega arith));
       small = set_small at (get_or h p 0) p (omega arith) before.small;

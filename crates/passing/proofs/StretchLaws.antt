@@ -53,7 +53,8 @@ module _ (k n : ℕ) where
   pub end_all : 0 < n → stretch_end k n n ≡ k
   end_all h = omega (arith, end_is n, lt-mul-div-succ k h)
 
-pub moves-split : (e : Bool) (s : List ℕ) (i j l : ℕ) → moves_at e s i (j + l) ≡ moves_at e s i j ++ moves_at e s (i + 6 * (move_size e * j)) l
+pub moves-split : (e : Bool) (s : List ℕ) (i j l : ℕ) → moves_at e s i (j + l) ≡ moves_at e s i j ++ moves_at e s
+    (i + 6 * (move_size e * j)) l
 unfolding moves_at moves_of listed_moves
 moves-split e s i zero l =
     let none : 0 + l ≡ l = zero-add l in

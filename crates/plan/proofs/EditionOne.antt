@@ -71,5 +71,6 @@ module _ (o p : List ℕ) (one : named p ≡ false) where
       let spare : ltb 1 (field p 22 2) ≡ not (eqb (field p 22 2) 0) = spare_tests (field p 22 2) (unfold named in one) in
       let replayed : replay_listed (floor_of o) (starts_of o) (listed_moves false p 24 k)
       ≡ replay_moves (floor_of o) (starts_of o) (pairs p 24 k) =
-      replay_unnamed (floor_of o) (starts_of o) (listed_fit false p 24 k) ∙ ap (replay_moves (floor_of o) (starts_of o)) (moves-pairs p 24 k) in
+      replay_unnamed (floor_of o) (starts_of o) (listed_fit false p 24 k) ∙ ap (replay_moves (floor_of o) (starts_of o))
+      (moves-pairs p 24 k) in
       rw (one, spare, replayed) refl

@@ -57,10 +57,14 @@ abbrev pub case_moves : List (ℕ × ℕ)
 case_moves = (0, 1) ∷ (3, 2) ∷ (2, 0) ∷ (1, 3) ∷ []
 
 unfoldable pub plan_open : List ℕ → List ℕ → Answer
-unfolding plan_answer wrong_plan_length plan_padding_set plan_units move_size named move_count plan_listed listed_moves rack_field judged misplaced
-    replay_listed replay_from listed_fault misnamed move_fault fault_by on_floor joined some is_pair occupied vacant rack_at rack_from after_listed
-    after_move after goes_to order_answer wrong_length misfits record_length unit_count wrong_positions padding_set pad_set unclean pad wrong_edges
-    bad_edge precedes ascending wrong_racks wrong_places repeats order_of floor_of starts_of goals_of counts position_count edge_count rack_count
+unfolding plan_answer wrong_plan_length plan_padding_set plan_units move_size named move_count plan_listed listed_moves
+    rack_field judged misplaced
+    replay_listed replay_from listed_fault misnamed move_fault fault_by on_floor joined some is_pair occupied vacant
+    rack_at rack_from after_listed
+    after_move after goes_to order_answer wrong_length misfits record_length unit_count wrong_positions padding_set
+    pad_set unclean pad wrong_edges
+    bad_edge precedes ascending wrong_racks wrong_places repeats order_of floor_of starts_of goals_of counts
+    position_count edge_count rack_count
     field number bits_of bits pairs positions
 plan_open o p = plan_answer o p
 
@@ -173,7 +177,8 @@ pub case_replayed : ReplayedPlan case_book case_plan (4 ∷ [])
 case_replayed = ((plan_replayed case_book).0 case_plan (4 ∷ [])).0 case_1
 
 pub case_solution : SolutionOf case_book 4 ((0 ∷ 3 ∷ []) ∷ (1 ∷ 3 ∷ []) ∷ (1 ∷ 2 ∷ []) ∷ (1 ∷ 0 ∷ []) ∷ (3 ∷ 0 ∷ []) ∷ [])
-unfolding move_count plan_moves moves_of plan_listed listed_moves rack_field named move_size starts_of edge_count rack_count field number bits_of bits
+unfolding move_count plan_moves moves_of plan_listed listed_moves rack_field named move_size starts_of edge_count
+    rack_count field number bits_of bits
     pairs positions trace after_move after goes_to
 case_solution = case_replayed.solution
 
@@ -194,7 +199,8 @@ case_accepted e p is =
 
 -- all that a record is made of, open
 unfoldable pub record_open : Bool → List ℕ
-unfolding plan_record plan_bytes plan_bits spare_bits listed all_units units rack_at rack_from after_move after goes_to to_bytes bytes padded pad
+unfolding plan_record plan_bytes plan_bits spare_bits listed all_units units rack_at rack_from after_move after goes_to
+    to_bytes bytes padded pad
     number bits position_bits starts_of edge_count rack_count field bits_of positions
 record_open e = plan_record e (starts_of case_book) case_moves
 

@@ -118,7 +118,8 @@ module _ (o p v : List ℕ) where
   pub full_floor_lem : WellFormed o → rack_count o ≡ (floor_of o).positions → (plan_answer o p ≡ accepted v) ↔ EmptyPlan
   full_floor_lem w full =
       let g = well_placed o w in
-      still_plans w (λ l. ((full_leads (floor_of o) (starts_of o) g.starts_sound (g.starts_length ∙ full) (plan_moves p) (goals_of o)).0 l).0)
+      still_plans w (λ l. ((full_leads (floor_of o) (starts_of o) g.starts_sound (g.starts_length ∙ full) (plan_moves p)
+      (goals_of o)).0 l).0)
 
   pub no_racks : WellFormed o → rack_count o ≡ 0 → (plan_answer o p ≡ accepted v) ↔ EmptyPlan
   no_racks w none =
@@ -136,11 +137,13 @@ module _ (o p v : List ℕ) where
 
 -- the plan without moves, in both editions
 nothing-empty : (o : List ℕ) → starts_of o ≡ goals_of o → EmptyPlan o (0x00 ∷ 0x00 ∷ 0x00 ∷ []) (0 ∷ [])
-unfolding wrong_plan_length plan_padding_set plan_units move_size named move_count misfits record_length pad_set pad field number bits_of bits
+unfolding wrong_plan_length plan_padding_set plan_units move_size named move_count misfits record_length pad_set pad
+    field number bits_of bits
 nothing-empty o e = record { length_right = refl; padding_clear = refl; empty = refl; none_counted = refl; settled = e }
 
 named-empty : (o : List ℕ) → starts_of o ≡ goals_of o → EmptyPlan o (0x00 ∷ 0x00 ∷ 0x01 ∷ []) (0 ∷ [])
-unfolding wrong_plan_length plan_padding_set plan_units move_size named move_count misfits record_length pad_set pad field number bits_of bits
+unfolding wrong_plan_length plan_padding_set plan_units move_size named move_count misfits record_length pad_set pad
+    field number bits_of bits
 named-empty o e = record { length_right = refl; padding_clear = refl; empty = refl; none_counted = refl; settled = e }
 
 -- either of them, by its third byte

@@ -26,7 +26,18 @@ use Rattle.field.specs.Units.{record_length, misfits, pad_set, unclean}
 use Rattle.field.specs.Listed.{units, all_units}
 use Rattle.field.specs.Writing.{written}
 use Rattle.order.specs.Floor.{some, is_pair, joined}
-use Rattle.order.specs.Order.{order_bits, order_record, position_count, edge_count, rack_count, unit_count, floor_of, starts_of, goals_of, order_of}
+use Rattle.order.specs.Order.{
+  order_bits,
+  order_record,
+  position_count,
+  edge_count,
+  rack_count,
+  unit_count,
+  floor_of,
+  starts_of,
+  goals_of,
+  order_of,
+}
 use Rattle.order.specs.Order.{wrong_length, wrong_positions, padding_set, bad_edge, precedes, ascending, wrong_edges, repeats}
 use Rattle.order.specs.Order.{wrong_places, wrong_racks, counts, order_answer}
 use Rattle.order.specs.EdgeSets.{edges_listed, is_edge, floor_from}
@@ -86,10 +97,13 @@ pub refusals_met :
     × (refusals four_by_four 65536 ≡ refused 23 0)
     × (refusals all_of_sixteen 65536 ≡ refused 26 0)
     × (refusals two_racks 65536 ≡ accepted [])
-unfolding refusals all_of_sixteen order_record order_bits floor_from edges_listed is_edge bits pair_bits position_bits to_bytes padded pad bytes
+unfolding refusals all_of_sixteen order_record order_bits floor_from edges_listed is_edge bits pair_bits position_bits
+    to_bytes padded pad bytes
     floor_answer bi_connected? ring? four_sided? count_of same_round? round_place same_order? rack? in_turn? place_on round_of follow onward
-    first_from stands joined some is_pair order_answer wrong_length misfits record_length unit_count wrong_positions padding_set pad_set unclean
-    wrong_edges bad_edge precedes ascending wrong_racks wrong_places repeats order_of floor_of starts_of goals_of counts position_count edge_count
+    first_from stands joined some is_pair order_answer wrong_length misfits record_length unit_count wrong_positions
+    padding_set pad_set unclean
+    wrong_edges bad_edge precedes ascending wrong_racks wrong_places repeats order_of floor_of starts_of goals_of counts
+    position_count edge_count
     rack_count field number bits_of pairs positions
 refusals_met = (refl, refl, refl, refl, large_refused, refl, refl)
 
@@ -106,7 +120,8 @@ abbrev pub plan₁ : List ℕ
 plan₁ = 0x00 ∷ 0x00 ∷ 0x11 ∷ 0x00 ∷ 0x10 ∷ 0x03 ∷ 0x08 ∷ 0x10 ∷ 0x80 ∷ 0x04 ∷ 0x10 ∷ 0xC0 ∷ []
 
 record₁ : plan_record true (starts_of two_racks) moves₁ ≡ plan₁
-unfolding plan_record plan_bytes plan_bits spare_bits listed_from rack_at rack_from after_move after goes_to all_units units position_bits bits
+unfolding plan_record plan_bytes plan_bits spare_bits listed_from rack_at rack_from after_move after goes_to all_units
+    units position_bits bits
     to_bytes padded pad bytes number starts_of position_count edge_count rack_count field bits_of positions
 record₁ = refl
 

@@ -88,7 +88,8 @@ abbrev pub plan : List (ℕ × ℕ)
 plan = (0, 1) ∷ (3, 2) ∷ (2, 0) ∷ (1, 3) ∷ []
 
 pub solves_met : Solves two_racks 4 plan
-unfolding replay_moves replay_from move_fault fault_by on_floor joined some is_pair occupied vacant after_move after goes_to floor_of starts_of
+unfolding replay_moves replay_from move_fault fault_by on_floor joined some is_pair occupied vacant after_move after
+    goes_to floor_of starts_of
     goals_of position_count edge_count rack_count field number bits_of bits pairs positions
 solves_met = record { few = lit≤ tt; replayed = refl; still = λ e. absurd (apart (ap (λ (l : List ℕ). get_or l 0 0) e)) }
   where
@@ -98,7 +99,8 @@ solves_met = record { few = lit≤ tt; replayed = refl; still = λ e. absurd (ap
 -- each move with its rack, and these packed
 pub moves_met : Moves two_racks 4 (replicate 1152 0)
     (written (replicate 1152 0) 0 (pack_positions (all_units true ((0, 1, 1) ∷ (3, 2, 2) ∷ (2, 0, 2) ∷ (1, 3, 1) ∷ [])))) 4
-unfolding listed rack_at rack_from after_move after goes_to starts_of position_count edge_count rack_count field number bits_of bits pairs positions
+unfolding listed rack_at rack_from after_move after goes_to starts_of position_count edge_count rack_count field number
+    bits_of bits pairs positions
 moves_met = record { moves = plan; count = refl; solves = solves_met; packed = record { is = refl } }
 
 -- only 23 is left to be judged

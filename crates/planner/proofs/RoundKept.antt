@@ -181,7 +181,8 @@ module _ {o : List ℕ} {n m : ℕ} {g h k : List ℕ} (t : RingTables o n m g h
     near : (place b ≡ next n (place a)) ⊎ (place a ≡ next n (place b))
     near =
         circle-neighbours floor.three circle floor (place a) (place b) (place_of_lem a la).0 (place_of_lem b lb).0
-        (subst (λ (x : ℕ). Edge g x (get_or way (place b) 0)) (sym (place_of_lem a la).1) (subst (Edge g a) (sym (place_of_lem b lb).1) edge))
+        (subst (λ (x : ℕ). Edge g x (get_or way (place b) 0)) (sym (place_of_lem a la).1)
+        (subst (Edge g a) (sym (place_of_lem b lb).1) edge))
 
     gone : (r : ℕ) → Rack m r → Gone (place a) (place b) (place (stands A r)) (place (stands (after_move A (a, b)) r))
     unfolding stands

@@ -56,7 +56,8 @@ module _ (k x : ℕ) (few : k < 2 ^ 22) (spare : x < 4) where
   head_are = more {x = k / 16384} (omega arith) (more {x = k / 64 % 256} (omega arith) (more {x = k % 64 * 4 + x} (omega arith) none))
 
   pub head_bytes_lem : to_bytes (head_bits k x) ≡ head_bytes k x
-  head_bytes_lem = sym (to_bytes-from head_are (head_bits_are k x) (head_bits_lem ∙ sym (padded-whole (head_bits k x) 3 (length-head_bits k x))))
+  head_bytes_lem = sym (to_bytes-from head_are (head_bits_are k x) (head_bits_lem ∙ sym
+      (padded-whole (head_bits k x) 3 (length-head_bits k x))))
 
 -- three bytes at the front, one after another
 pub written_head : (s : List ℕ) (x y z : ℕ) → 3 ≤ length s → set (set (set s 0 x) 1 y) 2 z ≡ written s 0 (x ∷ y ∷ z ∷ [])

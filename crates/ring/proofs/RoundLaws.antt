@@ -124,7 +124,8 @@ module _ {n : ℕ} {E : ℕ → ℕ → Type 0} (floor : Degree n E) (e : ℕ �
       inside
       (λ i l.
       subst (λ (x : ℕ). E (at i) (at x)) (one i)
-      (subst (E (at i)) (sym (round_then i l)) (onward_good e test floor (get_or (n ∷ round_of n e) i 0) (at i) (inside i (omega arith))).0))
+      (subst (E (at i)) (sym (round_then i l)) (onward_good e test floor (get_or (n ∷ round_of n e) i 0) (at i)
+      (inside i (omega arith))).0))
       (λ i l.
       subst (λ (x : ℕ). at x ≢ at i) (two i)
       (λ s. (onward_good e test floor (at i) (at (suc i)) (inside (suc i) (omega arith))).1 (sym (round_then (suc i) (omega arith)) ∙ s)))

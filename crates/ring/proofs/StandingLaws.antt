@@ -172,7 +172,8 @@ module _ {n : ℕ} {g : List ℕ} (rows : Rows n g) (ring : Ring n (Edge g) (edg
             );
             written = λ i li.
                 by_cases (ℕ_discrete i k)
-                (λ e. ap (λ (x : ℕ). get_or (set l k v) x 0) e ∙ get_or-set_same l k v 0 (omega arith) ∙ at_k ∙ ap (λ (x : ℕ). get_or way x 0)
+                (λ e. ap (λ (x : ℕ). get_or (set l k v) x 0) e ∙ get_or-set_same l k v 0 (omega arith) ∙ at_k ∙ ap
+                (λ (x : ℕ). get_or way x 0)
                 (sym e))
                 (λ d. get_or-set_other l k i v 0 d ∙ f.written i (omega arith));
           }

@@ -86,7 +86,8 @@ module _ (o p v : List ℕ) (e : plan_answer o p ≡ accepted v) where
   made_short : length (timetable_record (made_of o p)) ≤ 3 * move_count p + 3
   made_short =
       let parts =
-      ap length (record_bytes (made_of o p) made_packable) ∙ length-append (head_bytes (length (made_of o p)) 0) (steps_bytes (made_of o p)) in
+      ap length (record_bytes (made_of o p) made_packable) ∙ length-append (head_bytes (length (made_of o p)) 0)
+      (steps_bytes (made_of o p)) in
       let few : length (steps_bytes (made_of o p)) ≤ 3 * length (plan_moves p) = unfold made_of in
       made_of_lem.short in omega (arith, parts, length-head_bytes (length (made_of o p)) 0, few, moves-counted p)
 
@@ -102,7 +103,8 @@ module _ (o p v : List ℕ) (e : plan_answer o p ≡ accepted v) where
       ≡ greatest (timed (starts_of o) [] (plan_moves p)) ∷ move_count p ∷ []
   made-counts =
       let r = timetable_record (made_of o p) in
-      let steps : step_count r ≡ greatest (timed (starts_of o) [] (plan_moves p)) = count_record (made_of o p) made_packable ∙ steps_counted in
+      let steps : step_count r ≡ greatest (timed (starts_of o) [] (plan_moves p)) = count_record (made_of o p)
+      made_packable ∙ steps_counted in
       let moves : move_total (steps_of r) ≡ move_count p =
       ap move_total (steps_of_record (made_of o p) made_packable) ∙ moves-total ∙ moves-counted p in
       ap₂ (λ (x y : ℕ). x ∷ y ∷ []) steps moves

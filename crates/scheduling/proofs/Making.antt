@@ -98,7 +98,15 @@ module _ (o p B : List ℕ) where
       module _ (s : ℕ) (b : List ℕ) (es : s ≡ latest (moves_at n (take (length p - 3) (drop 3 p)) 0 k))
           (eb : b ≡ written B 3 (steps_bytes (all_steps (moves_at n (take (length p - 3) (drop 3 p)) 0 k)))) where
         count_few : s ≤ k
-        count_few = omega (arith, es, ap latest (tail-moves o p k e n edition), latest_few (plan_moves p), moves-counted p, count_is o p k e)
+        count_few = omega (
+          arith,
+          es,
+          ap latest (tail-moves o p k e n edition),
+          latest_few (plan_moves p),
+          moves-counted
+              p,
+          count_is o p k e,
+        )
 
         pub head_room : (3 ≤ length b) × (s < 2 ^ 22)
         head_room = (

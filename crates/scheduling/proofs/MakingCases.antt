@@ -6,7 +6,8 @@
 --     case_2_made       "moves 1>3 then 0>1 make one step"
 --     waiting-made      a rack's first move waits for the step in which its place is left: the case book's cases do not
 --                       show this half of the rule
---     nine, nine_plan    nine racks behind one another in a row of positions, and a plan that takes each one position on, the foremost first
+--     nine, nine_plan    nine racks behind one another in a row of positions, and a plan that takes each one position on,
+--                        the foremost first
 --     nine-made         eight of its moves make a train, and the ninth goes one step later
 --     none_made         with no moves there is no step
 --     case_1_theorem    the theorem holds of case 1's plan
@@ -73,7 +74,8 @@ abbrev pub nine_plan : List (ℕ × ℕ)
 nine_plan = (8, 9) ∷ (7, 8) ∷ (6, 7) ∷ (5, 6) ∷ (4, 5) ∷ (3, 4) ∷ (2, 3) ∷ (1, 2) ∷ (0, 1) ∷ []
 
 pub nine-made : made_steps nine nine_plan ≡ train 1 8 ∷ train 0 1 ∷ []
-unfolding train made_steps timed turn_for turn_after place_after step_after of_rack of_leaving place_leaving greatest steps_from moves_in in_step
+unfolding train made_steps timed turn_for turn_after place_after step_after of_rack of_leaving place_leaving greatest
+    steps_from moves_in in_step
     sort insert rack_at rack_from after_move after goes_to
 nine-made = refl
 

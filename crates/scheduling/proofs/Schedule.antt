@@ -200,7 +200,8 @@ module _ {F : Floor} {A B : Arrangement} {l : List Timed} (s : Scheduled F A l B
       → Joins (arranged A l i) (in_step (suc i) l) (place_in (suc i) l) t.move (place_in (suc i) (t ∷ l) t.move.0)
   joins_then i e = rw (place_in-same (suc i) t l e) (joins_by i e turn)
 
-  more_steps : (i : ℕ) → StepMoves F (arranged A (t ∷ l) i) (in_step (suc i) (t ∷ l)) (arranged A (t ∷ l) (suc i)) (place_in (suc i) (t ∷ l))
+  more_steps : (i : ℕ) → StepMoves F (arranged A (t ∷ l) i) (in_step (suc i) (t ∷ l)) (arranged A (t ∷ l) (suc i))
+      (place_in (suc i) (t ∷ l))
   more_steps i =
       dite (dec_le t.step i)
       (λ h.
@@ -292,7 +293,8 @@ module _ {F : Floor} {A B : Arrangement} {l : List Timed} (s : Scheduled F A l B
   unfolding steps_from moves_in
   leads_on zero i = rw add-zero still
   leads_on (suc k) i =
-      let rest : LeadsSteps F (after (arranged A l i) (sort (in_step (suc i) l))) (steps_from (suc (suc i)) k l) (arranged A l (i + suc k)) =
+      let rest : LeadsSteps F (after (arranged A l i) (sort (in_step (suc i) l))) (steps_from (suc (suc i)) k l)
+      (arranged A l (i + suc k)) =
       rw (step_moves-after (s.steps i), add-suc, ← suc-add) (leads_on k (suc i)) in
       (legal_step_iff F (arranged A l i) (sort (in_step (suc i) l))).1 (step_moves_legal (s.steps i)) then rest
 

@@ -78,7 +78,8 @@ module _ (first : ℕ) (w : List ℕ) (t a b : ℕ) where
         let here : t - 1 - first ≡ i = omega arith in
         rw (lt-ltb first t (omega arith), here, lt-ltb i 4096 row, d) (get_or-set_same w (i * 64 + p) (b + 1) 0 (omega arith))
 
-    other : (i * 64 + p ≢ (t - 1 - first) * 64 + a) → get_or (set w ((t - 1 - first) * 64 + a) (b + 1)) (i * 64 + p) 0 ≡ get_or w (i * 64 + p) 0
+    other : (i * 64 + p ≢ (t - 1 - first) * 64 + a) → get_or (set w ((t - 1 - first) * 64 + a) (b + 1)) (i * 64 + p) 0 ≡
+        get_or w (i * 64 + p) 0
     other d = get_or-set_other w ((t - 1 - first) * 64 + a) (i * 64 + p) (b + 1) 0 d
 
     pub noted_other : (first < t → i * 64 + p ≢ (t - 1 - first) * 64 + a)

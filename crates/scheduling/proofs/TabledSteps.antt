@@ -214,7 +214,8 @@ module _ (F : Floor) (few : F.positions ≤ 64) {A B : Arrangement} {ms : List (
     where
       full : 4096 * n ≤ latest ms
           →
-          steps_from 1 (min (latest ms) (4096 * n)) (history A ms) ++ steps_from (4096 * n + 1) (rows_of (latest ms) (4096 * n)) (history A ms)
+          steps_from 1 (min (latest ms) (4096 * n)) (history A ms) ++ steps_from (4096 * n + 1)
+          (rows_of (latest ms) (4096 * n)) (history A ms)
           ≡ steps_from 1 (min (latest ms) (4096 * suc n)) (history A ms)
       full h =
           let here : min (latest ms) (4096 * n) ≡ 4096 * n = omega arith in
@@ -226,7 +227,8 @@ module _ (F : Floor) (few : F.positions ≤ 64) {A B : Arrangement} {ms : List (
 
       past : (4096 * n ≤ latest ms → ⊥)
           →
-          steps_from 1 (min (latest ms) (4096 * n)) (history A ms) ++ steps_from (4096 * n + 1) (rows_of (latest ms) (4096 * n)) (history A ms)
+          steps_from 1 (min (latest ms) (4096 * n)) (history A ms) ++ steps_from (4096 * n + 1)
+          (rows_of (latest ms) (4096 * n)) (history A ms)
           ≡ steps_from 1 (min (latest ms) (4096 * suc n)) (history A ms)
       past h =
           let none : rows_of (latest ms) (4096 * n) ≡ 0 = omega arith in

@@ -176,7 +176,8 @@ module _ (ms : List (ℕ × ℕ)) (s : List ℕ) where
             → WroteWindows b' at' (n + 1)
         unfolding WroteWindows
         windows_more at' b' v =
-            wrote_as (sym (window_bytes n)) (wrote_then (steps_bytes (windows ms n)) (steps_bytes (window_steps ms (4096 * n))) more_fits w v)
+            wrote_as (sym (window_bytes n)) (wrote_then (steps_bytes (windows ms n))
+            (steps_bytes (window_steps ms (4096 * n))) more_fits w v)
 
       module _ (h : n ≤ latest ms / 4096 + 1) (u : latest ms ≤ 4096 * n) where
         -- behind the last step a window has no steps

@@ -93,7 +93,8 @@ pub row_most : (t : List ℕ) (i p : ℕ) → p ≤ 64 → length (row_from t i 
 unfolding row_moves
 row_most t i p h =
     let all : 64 ≡ p + (64 - p) = omega arith in
-    let whole : row_from t i 0 64 ≡ row_from t i 0 p ++ row_from t i (0 + p) (64 - p) = ap (row_from t i 0) all ∙ row-split t i 0 p (64 - p) in
+    let whole : row_from t i 0 64 ≡ row_from t i 0 p ++ row_from t i (0 + p) (64 - p) = ap (row_from t i 0) all ∙
+    row-split t i 0 p (64 - p) in
     omega (arith, ap length whole, length-append (row_from t i 0 p) (row_from t i (0 + p) (64 - p)))
 
 pub row_few : (t : List ℕ) (i q k : ℕ) → length (row_from t i q k) ≤ k

@@ -33,7 +33,8 @@ unfolding season_answer season_from no_totals parallelism
 nothing-reported = refl
 
 unfoldable season_open : List ℕ → Answer
-unfolding timetable_open season_answer season_from pair_order behind_order pair_timetable behind_pair cut_short no_totals counted parallelism
+unfolding timetable_open season_answer season_from pair_order behind_order pair_timetable behind_pair cut_short
+    no_totals counted parallelism
     order_length whole_order_length steps_length timetable_length whole_timetable_length whole_length
 season_open s = season_answer s
 

@@ -56,7 +56,8 @@ unfolding shortened shorten later_move partner first_from without cancels visits
 rule_open A ms = shortened A ms
 
 unfoldable pub shortened_open : List ℕ → List ℕ → List (ℕ × ℕ)
-unfolding shortened_of rule_open named move_count plan_moves plan_listed moves_of listed_moves rack_field move_size starts_of edge_count rack_count
+unfolding shortened_of rule_open named move_count plan_moves plan_listed moves_of listed_moves rack_field move_size
+    starts_of edge_count rack_count
     field number bits_of bits positions
 shortened_open o p = shortened_of o p
 
@@ -70,11 +71,13 @@ long_shortened = refl
 
 -- fewer moves, and here fewer steps
 pub long_steps : greatest (timed (0 ∷ 3 ∷ []) [] ((0, 1) ∷ (1, 0) ∷ (0, 1) ∷ (3, 2) ∷ (2, 0) ∷ (1, 3) ∷ [])) ≡ 4
-unfolding greatest timed turn_for turn_after place_after step_after place_leaving of_rack of_leaving rack_at rack_from after_move after goes_to
+unfolding greatest timed turn_for turn_after place_after step_after place_leaving of_rack of_leaving rack_at rack_from
+    after_move after goes_to
 long_steps = refl
 
 pub short_steps : greatest (timed (0 ∷ 3 ∷ []) [] ((0, 1) ∷ (3, 2) ∷ (2, 0) ∷ (1, 3) ∷ [])) ≡ 2
-unfolding greatest timed turn_for turn_after place_after step_after place_leaving of_rack of_leaving rack_at rack_from after_move after goes_to
+unfolding greatest timed turn_for turn_after place_after step_after place_leaving of_rack of_leaving rack_at rack_from
+    after_move after goes_to
 short_steps = refl
 
 pub long_shorter : Shorter case_book long_plan

@@ -127,7 +127,8 @@ module _ (F : Floor) {A B : Arrangement} {ms : List (ℕ × ℕ)} (p : Leads F A
 
 -- moves change places
 
-module _ (F : Floor) (A : Arrangement) (m x : ℕ × ℕ) (a : Apart m x) (l : T (legal_move F A m)) (k : T (legal_move F (after_move A m) x)) where
+module _ (F : Floor) (A : Arrangement) (m x : ℕ × ℕ) (a : Apart m x) (l : T (legal_move F A m))
+    (k : T (legal_move F (after_move A m) x)) where
   of_m : T (on_floor F m) × T (occupied A m.0) × T (vacant A m.1)
   of_m = (legal_parts F A m).0 l
 

@@ -67,7 +67,8 @@ some_to t [] d h n b = absurd (omega arith)
 some_to t (x ∷ l) d h zero b =
     (not_parts (t x)).1 (λ u. (not_parts (t x || some t l)).0 h ((or_parts (t x) (some t l)).1 (inl u)))
 some_to t (x ∷ l) d h (suc n) b =
-    some_to t l d ((not_parts (some t l)).1 (λ u. (not_parts (t x || some t l)).0 h ((or_parts (t x) (some t l)).1 (inr u)))) n (omega arith)
+    some_to t l d ((not_parts (some t l)).1 (λ u. (not_parts (t x || some t l)).0 h
+    ((or_parts (t x) (some t l)).1 (inr u)))) n (omega arith)
 
 some-from : {X : Type 0} (t : X → Bool) (l : List X) (d : X) → ((n : ℕ) → n < length l → T (not (t (get_or l n d)))) → T (not (some t l))
 unfolding some

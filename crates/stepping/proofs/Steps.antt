@@ -76,7 +76,8 @@ module _ (o t v : List ℕ) (l : LeadingTimetable o t v) where
     next_is =
         let same : i + 1 - 1 ≡ i = omega arith in
         drop-cons (steps_of t) i [] (omega (arith, count_steps t))
-        ∙ ap (λ (x : List (ℕ × ℕ)). x ∷ drop (suc i) (steps_of t)) (sym (step_listed t (i + 1) ∙ ap (λ (j : ℕ). get_or (steps_of t) j []) same))
+        ∙ ap (λ (x : List (ℕ × ℕ)). x ∷ drop (suc i) (steps_of t)) (sym (step_listed t (i + 1) ∙ ap
+        (λ (j : ℕ). get_or (steps_of t) j []) same))
 
     pub first_is : take (i + 1) (steps_of t) ≡ take i (steps_of t) ++ next ∷ []
     first_is =

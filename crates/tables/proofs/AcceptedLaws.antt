@@ -77,7 +77,8 @@ module _ (o : List ℕ) (w : WellFormed o) where
   unfolding wrong_racks order_of floor_of
   goals =
       places_sound (position_count o) (goals_of o)
-      (or_right (wrong_places (position_count o) (starts_of o)) (wrong_places (position_count o) (goals_of o)) (right_order o w).racks_right)
+      (or_right (wrong_places (position_count o) (starts_of o)) (wrong_places (position_count o) (goals_of o))
+      (right_order o w).racks_right)
 
   starts-count : length (starts_of o) ≡ rack_count o
   unfolding starts_of

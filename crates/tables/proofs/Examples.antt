@@ -81,11 +81,13 @@ unfolding wrong_edges some bad_edge precedes ascending
 edges_right = refl
 
 four_judged : judged_on 33 goals (4 ∷ []) (replay_on (matrix_of floor_f) (table_of starts) named-moves) ≡ accepted (4 ∷ [])
-unfolding named-moves listed judged misplaced replay_listed replay_from listed_fault misnamed move_fault fault_by on_floor joined some is_pair
+unfolding named-moves listed judged misplaced replay_listed replay_from listed_fault misnamed move_fault fault_by
+    on_floor joined some is_pair
     occupied vacant rack_at rack_from after_listed after_move after goes_to
 four_judged = moves-judged floor_f (lit≤ tt) edges_small edges_right starts starts_sound named_fit 33 goals (4 ∷ []) refl
 
 last_misnamed : judged_on 33 goals (4 ∷ []) (replay_on (matrix_of floor_f) (table_of starts) wrong_last) ≡ refused 36 4
-unfolding wrong_last named-moves listed judged misplaced replay_listed replay_from listed_fault misnamed move_fault fault_by on_floor joined some
+unfolding wrong_last named-moves listed judged misplaced replay_listed replay_from listed_fault misnamed move_fault
+    fault_by on_floor joined some
     is_pair occupied vacant rack_at rack_from after_listed after_move after goes_to
 last_misnamed = moves-judged floor_f (lit≤ tt) edges_small edges_right starts starts_sound wrong_fit 33 goals (4 ∷ []) refl

@@ -84,7 +84,8 @@ module _ (s o p B : List ℕ) (eo : o ≡ order_part s) (ep : p ≡ plan_part s)
 
     module _ (n : ℕ) (en : n ≡ whole_timetable_length b) where
       record_is : take n b ≡ timetable_record (made_of o p)
-      record_is = ap₂ take (en ∙ end_is) begins ∙ take_at (timetable_record (made_of o p)) rest (length (timetable_record (made_of o p))) refl
+      record_is = ap₂ take (en ∙ end_is) begins ∙ take_at (timetable_record (made_of o p)) rest
+          (length (timetable_record (made_of o p))) refl
 
       pub made-packed : WellPacked (take n b)
       made-packed = subst WellPacked (sym record_is) packed

@@ -144,7 +144,8 @@ reading_is : (s : List ℕ) → 3 ≤ length s
 unfolding reading_answer steps_answer timetable_padding_set parts_of
 reading_is s h =
     rw (wrong_length_lem s, le-ltb (length s) 3 h)
-    (chain (wrong_steps (step_count s) (drop 3 s)) (not (eqb (field s 22 2) 0)) (some step_pad_set (step_parts (step_count s) (drop 3 s))) _)
+    (chain (wrong_steps (step_count s) (drop 3 s)) (not (eqb (field s 22 2) 0))
+    (some step_pad_set (step_parts (step_count s) (drop 3 s))) _)
   where
     chain : (w x y : Bool) (v : List ℕ)
         → refuse w 40 0 (refuse (x || y) 41 0 (accepted v))

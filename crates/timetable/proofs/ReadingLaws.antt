@@ -85,7 +85,8 @@ timetable_answer_is o s =
     chain false true v rest = refl
     chain false false v rest = refl
 
-pub step_answer_is : (s : List ℕ) (i : ℕ) → step_answer s i ≡ pass_up (number_answer s i) (accepted (offset s i ∷ length (step_part s i) ∷ []))
+pub step_answer_is : (s : List ℕ) (i : ℕ) → step_answer s i ≡ pass_up (number_answer s i)
+    (accepted (offset s i ∷ length (step_part s i) ∷ []))
 unfolding step_answer number_answer reading_answer
 step_answer_is s i =
     chain (wrong_timetable_length s) (timetable_padding_set s) (eqb i 0 || ltb (step_count s) i) (step_count s ∷ total (parts_of s) ∷ []) _

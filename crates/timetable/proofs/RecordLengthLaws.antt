@@ -69,4 +69,5 @@ size-right r rest e =
 pub timetable-length_found : (s : List ℕ) → LengthFound (λ (r : List ℕ). wrong_timetable_length r ≡ false) s (whole_timetable_length s)
 unfolding whole_timetable_length
 timetable-length_found =
-    length_found (λ (r : List ℕ). wrong_timetable_length r ≡ false) timetable_length (λ s. omega (arith, head_within s)) right-size size-right
+    length_found (λ (r : List ℕ). wrong_timetable_length r ≡ false) timetable_length (λ s. omega (arith, head_within s))
+    right-size size-right

@@ -50,8 +50,10 @@ pub stands_there : (s : List ℕ) (k i at : ℕ) → 1 ≤ i → i ≤ k → k �
     → (at ≡ offset s k) × (at < length s)
 unfolding offset
 stands_there s k i at low high within up stands =
-    let same : i ≡ k = omega arith in
-    (stands.begins_at_lem ∙ ap (λ (n : ℕ). 3 + steps_length (n - 1) (drop 3 s)) same, (stands_room s (i - 1) at stands (omega arith)).begins)
+    let same : i ≡ k = omega arith in (
+      stands.begins_at_lem ∙ ap (λ (n : ℕ). 3 + steps_length (n - 1) (drop 3 s)) same,
+      (stands_room s (i - 1) at stands (omega arith)).begins,
+    )
 
 module _ (s : List ℕ) (i : ℕ) where
   pub not_found : (a : Answer) (n p : ℕ) → a ≡ number_answer s i → a ≡ refused n p → refused n p ≡ step_answer s i

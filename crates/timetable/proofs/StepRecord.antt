@@ -145,4 +145,5 @@ module _ (p : List ℕ) (part : Part p) where
   unfolding step_record
   record_of_part =
       sym (to_bytes-from part.bytes_are (step_bits_are (step_moves p))
-      (sym part_runs ∙ sym (padded-whole (step_bits (step_moves p)) (step_length (length (step_moves p))) (length-step_bits (step_moves p)))))
+      (sym part_runs ∙ sym (padded-whole (step_bits (step_moves p)) (step_length (length (step_moves p)))
+      (length-step_bits (step_moves p)))))

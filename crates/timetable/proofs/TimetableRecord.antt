@@ -188,7 +188,8 @@ parts_right (suc k) (x ∷ t) b w c =
     let n = step_length x in
     let fits : n ≤ length (x ∷ t) = ltb-false (length (x ∷ t)) n (or_left _ _ w) in
     let rest =
-    parts_right k (drop n (x ∷ t)) (below_drop n b) (or_right (ltb (length (x ∷ t)) n) _ w) (or_right (step_pad_set (take n (x ∷ t))) _ c) in
+    parts_right k (drop n (x ∷ t)) (below_drop n b) (or_right (ltb (length (x ∷ t)) n) _ w)
+    (or_right (step_pad_set (take n (x ∷ t))) _ c) in
     let first : Part (take n (x ∷ t)) =
     record {
       bytes_are = below_take n b;
@@ -228,7 +229,8 @@ module _ {s : List ℕ} (b : Bytes s) (w : WellPacked s) where
   head_bits_lem : bits_of (take 3 s) ≡ head_bits (step_count s) 0
   unfolding head_bits step_count
   head_bits_lem =
-      sym (take_at (bits_of (take 3 s)) (bits_of (drop 3 s)) 24 (length-bits_of (take 3 s) ∙ ap (λ (n : ℕ). 8 * n) (length-take-le 3 s long)))
+      sym (take_at (bits_of (take 3 s)) (bits_of (drop 3 s)) 24 (length-bits_of (take 3 s) ∙ ap (λ (n : ℕ). 8 * n)
+      (length-take-le 3 s long)))
       ∙ ap (take 24) (sym (bits_of_append (take 3 s) (drop 3 s)) ∙ ap bits_of (take-append-drop 3 s))
       ∙ take-add 22 2 (bits_of s)
       ∙ ap₂ ◌++◌ (sym (bits-field s 0 22 (omega (arith, long)))) (sym (bits-field s 22 2 (omega (arith, long))) ∙ ap (bits 2) spare_zero)
@@ -257,7 +259,8 @@ module _ {s : List ℕ} (b : Bytes s) (w : WellPacked s) where
   pub record_only : (l : List (List (ℕ × ℕ))) → steps_of s ≡ l → s ≡ timetable_record l
   record_only l e = sym record_steps_of ∙ ap timetable_record e
 
-pub one_record : {l : List (List (ℕ × ℕ))} {s : List ℕ} → Packable l → Bytes s → (WellPacked s × (steps_of s ≡ l)) ↔ (s ≡ timetable_record l)
+pub one_record : {l : List (List (ℕ × ℕ))} {s : List ℕ} → Packable l → Bytes s → (WellPacked s × (steps_of s ≡ l)) ↔
+    (s ≡ timetable_record l)
 one_record {l} {s} p b = (
   λ h. record_only b h.0 l h.1,
   λ e. (subst WellPacked (sym e) (record_well_packed l p), ap steps_of e ∙ steps_of_record l p),

@@ -52,7 +52,15 @@ use Rattle.motion.specs.Judgement.{misplaced, judged}
 use Rattle.motion.specs.StepOf.{moved, insert, sort, step_of}
 use Rattle.motion.specs.StepSolutions.{steps_between}
 use Rattle.timetable.specs.Timetable.{step_bits, all_step_bits, timetable_bits, timetable_record, step_length, step_count, move_total}
-use Rattle.timetable.specs.Timetable.{step_parts, parts_of, wrong_timetable_length, step_pad_set, timetable_padding_set, step_moves, steps_of}
+use Rattle.timetable.specs.Timetable.{
+  step_parts,
+  parts_of,
+  wrong_timetable_length,
+  step_pad_set,
+  timetable_padding_set,
+  step_moves,
+  steps_of,
+}
 use Rattle.timetable.specs.Timetable.{timetable_answer, steps_length, offset, step_part, step_answer, timetable_length}
 use Rattle.timetable.specs.Reading.{reading_answer, WellPacked, part_given, place_given, total}
 use Rattle.timetable.proofs.ReadingLaws.{Stands, stands_at}
@@ -97,7 +105,8 @@ packable₁ = record {
 }
 
 pub packed₁ : WellPacked timetable₁
-unfolding wrong_timetable_length timetable_padding_set timetable_length steps_length some step_pad_set pad parts_of step_parts step_length step_count
+unfolding wrong_timetable_length timetable_padding_set timetable_length steps_length some step_pad_set pad parts_of
+    step_parts step_length step_count
     field number bits_of bits
 packed₁ = record { length_right = refl; padding_clear = refl }
 
@@ -125,37 +134,44 @@ second-part = record {
 }
 
 pub reading₁ : reading_answer timetable₁ ≡ accepted (2 ∷ 4 ∷ [])
-unfolding reading_answer total wrong_timetable_length timetable_padding_set timetable_length steps_length some step_pad_set pad parts_of step_parts
+unfolding reading_answer total wrong_timetable_length timetable_padding_set timetable_length steps_length some
+    step_pad_set pad parts_of step_parts
     step_length step_count field number bits_of bits
 reading₁ = refl
 
 pub step_zero : step_answer timetable₁ 0 ≡ refused 45 0
-unfolding step_answer wrong_timetable_length timetable_padding_set timetable_length steps_length some step_pad_set pad parts_of step_parts step_length
+unfolding step_answer wrong_timetable_length timetable_padding_set timetable_length steps_length some step_pad_set pad
+    parts_of step_parts step_length
     step_count field number bits_of bits
 step_zero = refl
 
 pub step_one : step_answer timetable₁ 1 ≡ accepted (3 ∷ 4 ∷ [])
-unfolding step_answer offset step_part wrong_timetable_length timetable_padding_set timetable_length steps_length some step_pad_set pad parts_of
+unfolding step_answer offset step_part wrong_timetable_length timetable_padding_set timetable_length steps_length some
+    step_pad_set pad parts_of
     step_parts step_length step_count field number bits_of bits
 step_one = refl
 
 pub step_two : step_answer timetable₁ 2 ≡ accepted (7 ∷ 4 ∷ [])
-unfolding step_answer offset step_part wrong_timetable_length timetable_padding_set timetable_length steps_length some step_pad_set pad parts_of
+unfolding step_answer offset step_part wrong_timetable_length timetable_padding_set timetable_length steps_length some
+    step_pad_set pad parts_of
     step_parts step_length step_count field number bits_of bits
 step_two = refl
 
 pub step_three : step_answer timetable₁ 3 ≡ refused 45 0
-unfolding step_answer wrong_timetable_length timetable_padding_set timetable_length steps_length some step_pad_set pad parts_of step_parts step_length
+unfolding step_answer wrong_timetable_length timetable_padding_set timetable_length steps_length some step_pad_set pad
+    parts_of step_parts step_length
     step_count field number bits_of bits
 step_three = refl
 
 pub second_given : part_given timetable₁ 2 ≡ 0x02 ∷ 0x04 ∷ 0x30 ∷ 0x80 ∷ []
-unfolding part_given step_answer offset step_part wrong_timetable_length timetable_padding_set timetable_length steps_length some step_pad_set pad
+unfolding part_given step_answer offset step_part wrong_timetable_length timetable_padding_set timetable_length
+    steps_length some step_pad_set pad
     parts_of step_parts step_length step_count field number bits_of bits
 second_given = refl
 
 pub none_given : part_given timetable₁ 3 ≡ []
-unfolding part_given step_answer wrong_timetable_length timetable_padding_set timetable_length steps_length some step_pad_set pad parts_of step_parts
+unfolding part_given step_answer wrong_timetable_length timetable_padding_set timetable_length steps_length some
+    step_pad_set pad parts_of step_parts
     step_length step_count field number bits_of bits
 none_given = refl
 
@@ -164,17 +180,20 @@ abbrev pub alike : List ℕ
 alike = 0x00 ∷ 0x00 ∷ 0x08 ∷ 0x00 ∷ 0x00 ∷ []
 
 pub alike-bytes : part_given alike 1 ≡ part_given alike 2
-unfolding part_given step_answer offset step_part wrong_timetable_length timetable_padding_set timetable_length steps_length some step_pad_set pad
+unfolding part_given step_answer offset step_part wrong_timetable_length timetable_padding_set timetable_length
+    steps_length some step_pad_set pad
     parts_of step_parts step_length step_count field number bits_of bits
 alike-bytes = refl
 
 pub first-place : (block : ℕ) → place_given (block, 100) alike 1 ≡ (block, 103)
-unfolding place_given step_answer offset step_part wrong_timetable_length timetable_padding_set timetable_length steps_length some step_pad_set pad
+unfolding place_given step_answer offset step_part wrong_timetable_length timetable_padding_set timetable_length
+    steps_length some step_pad_set pad
     parts_of step_parts step_length step_count field number bits_of bits
 first-place block = refl
 
 pub second-place : (block : ℕ) → place_given (block, 100) alike 2 ≡ (block, 104)
-unfolding place_given step_answer offset step_part wrong_timetable_length timetable_padding_set timetable_length steps_length some step_pad_set pad
+unfolding place_given step_answer offset step_part wrong_timetable_length timetable_padding_set timetable_length
+    steps_length some step_pad_set pad
     parts_of step_parts step_length step_count field number bits_of bits
 second-place block = refl
 
@@ -189,12 +208,14 @@ left_over = refl
 
 -- 41, by a spare bit of the head and by a pad bit of a step of one move
 pub spare_bit : reading_answer (0x00 ∷ 0x00 ∷ 0x05 ∷ 0x00 ∷ []) ≡ refused 41 0
-unfolding reading_answer wrong_timetable_length timetable_padding_set timetable_length steps_length some step_pad_set pad parts_of step_parts
+unfolding reading_answer wrong_timetable_length timetable_padding_set timetable_length steps_length some step_pad_set
+    pad parts_of step_parts
     step_length step_count field number bits_of bits
 spare_bit = refl
 
 pub pad-bit : reading_answer (0x00 ∷ 0x00 ∷ 0x04 ∷ 0x01 ∷ 0x00 ∷ 0x11 ∷ []) ≡ refused 41 0
-unfolding reading_answer wrong_timetable_length timetable_padding_set timetable_length steps_length some step_pad_set pad parts_of step_parts
+unfolding reading_answer wrong_timetable_length timetable_padding_set timetable_length steps_length some step_pad_set
+    pad parts_of step_parts
     step_length step_count field number bits_of bits
 pad-bit = refl
 
@@ -218,9 +239,12 @@ swap_timetable = 0x00 ∷ 0x00 ∷ 0x04 ∷ 0x02 ∷ 0x00 ∷ 0x10 ∷ 0x40 ∷ 
 
 unfoldable pub timetable_open : List ℕ → List ℕ → Answer
 unfolding timetable_answer judged misplaced replay_steps replay_from step_fault legal_step? by_test legal_step every ascends leaves enters
-    entered_once led occupied vacant on_floor goes_to after joined some is_pair order_answer counts wrong_racks wrong_places repeats wrong_edges
-    ascending precedes bad_edge padding_set wrong_positions wrong_length unit_count floor_of starts_of goals_of order_of position_count edge_count
-    rack_count pad_set unclean misfits record_length positions move_total steps_of step_moves pairs wrong_timetable_length timetable_padding_set
+    entered_once led occupied vacant on_floor goes_to after joined some is_pair order_answer counts wrong_racks
+    wrong_places repeats wrong_edges
+    ascending precedes bad_edge padding_set wrong_positions wrong_length unit_count floor_of starts_of goals_of order_of
+    position_count edge_count
+    rack_count pad_set unclean misfits record_length positions move_total steps_of step_moves pairs
+    wrong_timetable_length timetable_padding_set
     timetable_length steps_length step_pad_set pad parts_of step_parts step_length step_count field number bits_of bits
 timetable_open o s = timetable_answer o s
 
@@ -237,12 +261,14 @@ replayed₁ = ((timetable_replayed order₁).0 timetable₁ (2 ∷ 4 ∷ [])).0 
 
 -- the racks change sides in two steps, rack 1 over position 1 and rack 2 over position 2
 pub solution₁ : SolutionOf order₁ 2 ((0 ∷ 3 ∷ []) ∷ (1 ∷ 2 ∷ []) ∷ (3 ∷ 0 ∷ []) ∷ [])
-unfolding trace after goes_to starts_of edge_count rack_count positions steps_of step_moves pairs parts_of step_parts step_length step_count field
+unfolding trace after goes_to starts_of edge_count rack_count positions steps_of step_moves pairs parts_of step_parts
+    step_length step_count field
     number bits_of bits
 solution₁ = replayed₁.solution
 
 pub accepted₁ : AcceptedTimetable order₁ timetable₁ (2 ∷ 4 ∷ [])
-unfolding steps_between step_of sort insert moved move_total timetable_record timetable_bits all_step_bits step_bits pair_bits padded pad to_bytes
+unfolding steps_between step_of sort insert moved move_total timetable_record timetable_bits all_step_bits step_bits
+    pair_bits padded pad to_bytes
     bytes number bits
 accepted₁ =
     record {
@@ -338,8 +364,10 @@ abbrev pub full_order : List ℕ
 full_order = 0x04 ∷ 0x02 ∷ 0x08 ∷ 0x00 ∷ 0x10 ∷ 0x01 ∷ 0x00 ∷ 0x10 ∷ []
 
 pub full_right : WellFormed full_order
-unfolding order_answer counts wrong_racks wrong_places repeats wrong_edges ascending precedes bad_edge padding_set wrong_positions wrong_length
-    unit_count floor_of starts_of goals_of order_of position_count edge_count rack_count pad_set unclean misfits record_length positions pairs some
+unfolding order_answer counts wrong_racks wrong_places repeats wrong_edges ascending precedes bad_edge padding_set
+    wrong_positions wrong_length
+    unit_count floor_of starts_of goals_of order_of position_count edge_count rack_count pad_set unclean misfits
+    record_length positions pairs some
     pad field number bits_of bits
 full_right = refl
 

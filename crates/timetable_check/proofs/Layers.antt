@@ -31,7 +31,8 @@ use Rattle.timetable.proofs.TimetableRecord.{moves-low}
 
 -- 42, 43 and acceptance
 abbrev pub judgement : List ℕ → List ℕ → Answer
-judgement o s = judged 43 (goals_of o) (step_count s ∷ total (parts_of s) ∷ []) (replay_steps (legal_step? (floor_of o)) (starts_of o) (steps_of s))
+judgement o s = judged 43 (goals_of o) (step_count s ∷ total (parts_of s) ∷ [])
+    (replay_steps (legal_step? (floor_of o)) (starts_of o) (steps_of s))
 
 pub record ReadingGave (s : List ℕ) (steps moves : ℕ) : Type 0 where
   pub accepted_is : accepted (steps ∷ moves ∷ []) ≡ reading_answer s

@@ -125,14 +125,16 @@ module _ (o s v : List ℕ) (w : WellFormed o) where
 
 -- the timetable without steps
 nothing-packed : WellPacked (0x00 ∷ 0x00 ∷ 0x00 ∷ [])
-unfolding wrong_timetable_length timetable_padding_set timetable_length steps_length some parts_of step_parts step_count field number bits_of bits
+unfolding wrong_timetable_length timetable_padding_set timetable_length steps_length some parts_of step_parts step_count
+    field number bits_of bits
 nothing-packed = record { length_right = refl; padding_clear = refl }
 
 nothing-counted : step_count (0x00 ∷ 0x00 ∷ 0x00 ∷ []) ≡ 0
 unfolding step_count field number bits_of bits
 nothing-counted = refl
 
-pub nothing : (o : List ℕ) → WellFormed o → (timetable_answer o (0x00 ∷ 0x00 ∷ 0x00 ∷ []) ≡ accepted (0 ∷ 0 ∷ [])) ↔ (starts_of o ≡ goals_of o)
+pub nothing : (o : List ℕ) → WellFormed o → (timetable_answer o (0x00 ∷ 0x00 ∷ 0x00 ∷ []) ≡ accepted (0 ∷ 0 ∷ [])) ↔
+    (starts_of o ≡ goals_of o)
 nothing o w =
     let by = no_steps o (0x00 ∷ 0x00 ∷ 0x00 ∷ []) (0 ∷ 0 ∷ []) w nothing-counted in (
       λ a. (by.0 a).settled,

@@ -89,12 +89,14 @@ timetable_small = each_more (below_64 ((0, 1) ∷ (3, 2) ∷ []) tt) (each_more 
 -- case 1
 
 pub case_1_first : legal_step_on (matrix_of floor_f) (table_of starts) ((0, 1) ∷ (3, 2) ∷ []) ≡ true
-unfolding matrix_of table_of marked placed legal_step_on sound_moves all_led led_on every ascends entered_once enters leaves some goes_to edge_at
+unfolding matrix_of table_of marked placed legal_step_on sound_moves all_led led_on every ascends entered_once enters
+    leaves some goes_to edge_at
     held_at
 case_1_first = refl
 
 pub case_1_second : legal_step_on (matrix_of floor_f) (table_of (1 ∷ 2 ∷ [])) ((1, 3) ∷ (2, 0) ∷ []) ≡ true
-unfolding matrix_of table_of marked placed legal_step_on sound_moves all_led led_on every ascends entered_once enters leaves some goes_to edge_at
+unfolding matrix_of table_of marked placed legal_step_on sound_moves all_led led_on every ascends entered_once enters
+    leaves some goes_to edge_at
     held_at
 case_1_second = refl
 
@@ -111,13 +113,15 @@ pub case_1_judged : judged_on 43 goals (2 ∷ 4 ∷ []) (replay_steps_on (matrix
     ≡ judged 43 goals (2 ∷ 4 ∷ []) (replay_steps (legal_step? floor_f) starts timetable)
 case_1_judged = steps_judged floor_f floor_f_few floor_f_below floor_f-right starts starts_sound timetable_small 43 goals (2 ∷ 4 ∷ []) refl
 
-pub case_1_accepted : judged_on 43 goals (2 ∷ 4 ∷ []) (replay_steps_on (matrix_of floor_f) (table_of starts) timetable) ≡ accepted (2 ∷ 4 ∷ [])
+pub case_1_accepted : judged_on 43 goals (2 ∷ 4 ∷ []) (replay_steps_on (matrix_of floor_f) (table_of starts) timetable)
+    ≡ accepted (2 ∷ 4 ∷ [])
 unfolding judged_on misplaced_on table_of placed
 case_1_accepted = rw case_1_tables refl
 
 -- case 2
 
-pub case_2_tables : replay_steps_on (matrix_of floor_f) (table_of (0 ∷ 1 ∷ [])) (((0, 1) ∷ (1, 3) ∷ []) ∷ []) ≡ ended (table_of (1 ∷ 3 ∷ []))
+pub case_2_tables : replay_steps_on (matrix_of floor_f) (table_of (0 ∷ 1 ∷ [])) (((0, 1) ∷ (1, 3) ∷ []) ∷ []) ≡ ended
+    (table_of (1 ∷ 3 ∷ []))
 unfolding replay_steps_on replay_from step_fault_on matrix_of table_of marked placed legal_step_on sound_moves all_led led_on every ascends
     entered_once enters leaves some goes_to edge_at held_at step_on taken_up put_down
 case_2_tables = refl
@@ -125,12 +129,14 @@ case_2_tables = refl
 -- case 3: racks at 0, 1, 2
 
 pub case_3_ring : legal_step_on (matrix_of floor_f) (table_of (0 ∷ 1 ∷ 2 ∷ [])) ((0, 1) ∷ (1, 2) ∷ (2, 0) ∷ []) ≡ false
-unfolding matrix_of table_of marked placed legal_step_on sound_moves all_led led_on every ascends entered_once enters leaves some goes_to edge_at
+unfolding matrix_of table_of marked placed legal_step_on sound_moves all_led led_on every ascends entered_once enters
+    leaves some goes_to edge_at
     held_at
 case_3_ring = refl
 
 pub case_3_swap : legal_step_on (matrix_of floor_f) (table_of (0 ∷ 1 ∷ 2 ∷ [])) ((0, 1) ∷ (1, 0) ∷ []) ≡ false
-unfolding matrix_of table_of marked placed legal_step_on sound_moves all_led led_on every ascends entered_once enters leaves some goes_to edge_at
+unfolding matrix_of table_of marked placed legal_step_on sound_moves all_led led_on every ascends entered_once enters
+    leaves some goes_to edge_at
     held_at
 case_3_swap = refl
 
@@ -141,16 +147,19 @@ case_3_stays = rw case_3_ring refl
 -- trains on a row of positions
 
 pub eight-tables : legal_step_on (matrix_of lane) (table_of eight) (train 0 8) ≡ true
-unfolding train matrix_of table_of marked placed legal_step_on sound_moves all_led led_on every ascends entered_once enters leaves some goes_to
+unfolding train matrix_of table_of marked placed legal_step_on sound_moves all_led led_on every ascends entered_once
+    enters leaves some goes_to
     edge_at held_at
 eight-tables = refl
 
 pub nine-tables : legal_step_on (matrix_of lane) (table_of (0 ∷ 1 ∷ 2 ∷ 3 ∷ 4 ∷ 5 ∷ 6 ∷ 7 ∷ 8 ∷ [])) (train 0 9) ≡ false
-unfolding train matrix_of table_of marked placed legal_step_on sound_moves all_led led_on every ascends entered_once enters leaves some goes_to
+unfolding train matrix_of table_of marked placed legal_step_on sound_moves all_led led_on every ascends entered_once
+    enters leaves some goes_to
     edge_at held_at
 nine-tables = refl
 
 pub side_by_side : legal_step_on (matrix_of lane) (table_of (0 ∷ 1 ∷ 2 ∷ 3 ∷ 4 ∷ 5 ∷ 6 ∷ 7 ∷ 9 ∷ [])) (train 0 8 ++ (9, 10) ∷ []) ≡ true
-unfolding train matrix_of table_of marked placed legal_step_on sound_moves all_led led_on every ascends entered_once enters leaves some goes_to
+unfolding train matrix_of table_of marked placed legal_step_on sound_moves all_led led_on every ascends entered_once
+    enters leaves some goes_to
     edge_at held_at
 side_by_side = refl

@@ -116,7 +116,8 @@ module _ (F : Floor) (few : F.positions ≤ 64) (A : Arrangement) (h : List ℕ)
       on (taken m n e g) = rw g (entered n ∙ ap (λ (q : ℕ). get_or h q 0) e ∙ holds.racks i k)
       on (stays away g) =
           rw g
-          (unentered (get_or A i 0) (alone (get_or A i 0) ((occupied_iff A (get_or A i 0)).0 ((occupied_rack A (get_or A i 0)).1 (i, k, refl))) away)
+          (unentered (get_or A i 0) (alone (get_or A i 0) ((occupied_iff A (get_or A i 0)).0
+          ((occupied_rack A (get_or A i 0)).1 (i, k, refl))) away)
           ∙ taken_up_other h ms (get_or A i 0) away
           ∙ holds.racks i k)
 

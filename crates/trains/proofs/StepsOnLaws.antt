@@ -66,6 +66,7 @@ module _ (F : Floor) (few : F.positions ≤ 64) (below : BelowPairs 64 F.edges) 
         1 A (placed (replicate 64 0) 1 A) small (sound, placed-holds F.positions A few sound, refl)
 
     pub steps_judged : (off : ℕ) (G counts : List ℕ) → length G ≡ length A
-        → judged_on off G counts (replay_steps_on (matrix_of F) (table_of A) steps) ≡ judged off G counts (replay_steps (legal_step? F) A steps)
+        → judged_on off G counts (replay_steps_on (matrix_of F) (table_of A) steps) ≡ judged off G counts
+        (replay_steps (legal_step? F) A steps)
     steps_judged off G counts e =
         judged_on_lem (Kept F.positions (length A)) off G counts (λ B h r. (r.1, e ∙ sym r.2)) steps_alike

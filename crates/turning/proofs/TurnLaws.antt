@@ -196,7 +196,11 @@ module _ (m a b : ℕ) (h : ℕ → ℕ) where
   unfolding moves_of
   pass_none e =
       let no = le-ltb 0 (h a) (omega arith) in
-      record { moves = ap moves_of (pass_is is_rack false no); written = pass_is (is_real m) false (ap (λ (t : Bool). t && leb (h a) m) no) }
+      record {
+        moves = ap moves_of (pass_is is_rack false no);
+        written = pass_is (is_real m) false
+            (ap (λ (t : Bool). t && leb (h a) m) no);
+      }
 
   module _ (n : h a ≢ 0) where
     pass_real : h a ≤ m → PassedBy m a b h ((a, b) ∷ []) ((a, b, h a) ∷ [])

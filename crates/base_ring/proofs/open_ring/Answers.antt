@@ -22,8 +22,10 @@ clear_within-cleared-requires c =
     record {
       rows = c.requires.rows;
       inside = ring_below c.requires.rows c.requires.base_ring _ c.part-ring.ensures;
-      reaches = ring-reaches c.requires.rows c.requires.base_ring _ c.part-ring.ensures c.requires.rest_settled.table (open_rest c.requires.rows c.requires.base_ring c.requires.rest_settled) 0 (omega arith);
-      room_to_clear = clear_room (ring_few c.requires.rows c.requires.base_ring _ c.part-ring.ensures) (fits_anew _ (omega arith) (omega arith) c.requires.room);
+      reaches = ring-reaches c.requires.rows c.requires.base_ring _ c.part-ring.ensures c.requires.rest_settled.table
+          (open_rest c.requires.rows c.requires.base_ring c.requires.rest_settled) 0 (omega arith);
+      room_to_clear = clear_room (ring_few c.requires.rows c.requires.base_ring _ c.part-ring.ensures)
+          (fits_anew _ (omega arith) (omega arith) c.requires.room);
     }
 
 pub without-requires : goal.without-requires
@@ -41,9 +43,12 @@ clear_within-requires c =
     record {
       rows = c.requires.rows;
       inside = λ q h. ring_below c.requires.rows c.requires.base_ring _ c.part-ring.ensures q ((c.without.ensures q).0 h).0;
-      reaches = ring-reaches-without c.requires.rows c.requires.base_ring _ c.part-ring.ensures table (open_first c.requires.rows c.requires.base_ring c.requires.rest_settled _ c.part-ring.ensures c.clear_within-cleared.ensures.cleared) 0 1
+      reaches = ring-reaches-without c.requires.rows c.requires.base_ring _ c.part-ring.ensures table
+          (open_first c.requires.rows c.requires.base_ring c.requires.rest_settled _ c.part-ring.ensures
+          c.clear_within-cleared.ensures.cleared) 0 1
           (omega arith) (omega arith) (omega arith) _ c.without.ensures;
-      room_to_clear = clear_room (ring_few_without c.requires.rows c.requires.base_ring _ c.part-ring.ensures 0 (omega arith) _ c.without.ensures)
+      room_to_clear = clear_room (ring_few_without c.requires.rows c.requires.base_ring _ c.part-ring.ensures 0
+          (omega arith) _ c.without.ensures)
           (fits_then (fits_anew (open_moves c.args.circle.size) (omega arith) (omega arith) c.requires.room) way);
     }
 
@@ -51,11 +56,13 @@ pub returns : goal.returns
 returns c =
     let three = c.requires.base_ring.three in
     let way = (clear_few (ring_few c.requires.rows c.requires.base_ring _ c.part-ring.ensures) c.clear_within-cleared.ensures).journey in
-    let end = (clear_few (ring_few_without c.requires.rows c.requires.base_ring _ c.part-ring.ensures 0 (omega arith) _ c.without.ensures) c.clear_within.ensures).journey in
+    let end = (clear_few (ring_few_without c.requires.rows c.requires.base_ring _ c.part-ring.ensures 0 (omega arith) _
+    c.without.ensures) c.clear_within.ensures).journey in
     let one = table_went c.requires.rows.inside way.trip.went c.requires.rest_settled.table in
     let two = table_went c.requires.rows.inside end.trip.went one in
     record {
       trip = trip_anew (trip_append way.trip end.trip);
-      ringing = open_done c.requires.rows c.requires.base_ring c.requires.rest_settled _ c.part-ring.ensures c.clear_within-cleared.ensures.cleared _ c.without.ensures c.clear_within.ensures.cleared two;
+      ringing = open_done c.requires.rows c.requires.base_ring c.requires.rest_settled _ c.part-ring.ensures
+          c.clear_within-cleared.ensures.cleared _ c.without.ensures c.clear_within.ensures.cleared two;
       log_len_unchanged = end.log ∙ way.log;
     }

@@ -11,7 +11,8 @@ make_move-requires c = record {
     leaves = c.requires.passable_by.passes;
     enters = c.requires.passable_by.enters;
     held = λ e. c.requires.passable_by.held (sym c.make_move-there.ensures.passed.entered ∙ e);
-    vacant = c.make_move-there.ensures.passed.others c.args.to (λ e. c.requires.passable_by.other (sym e)) (λ e. c.requires.passable_by.beside (sym e)) ∙ c.requires.passable_by.vacant;
+    vacant = c.make_move-there.ensures.passed.others c.args.to (λ e. c.requires.passable_by.other (sym e))
+        (λ e. c.requires.passable_by.beside (sym e)) ∙ c.requires.passable_by.vacant;
   };
   fits = fits_move c.args.from c.args.x 1 c.requires.passable_by.leaves c.requires.fits c.make_move-there.ensures.journey_on;
 }

@@ -38,12 +38,16 @@ loop-j-smaller c = let l = c.loop-j-test.true in omega arith
 pub loop-j-preserved : goal.loop-j-preserved
 loop-j-preserved c =
     let small = c.requires.1 in
-    let less = c.loop-j-test.true in
-    (omega arith, laid_next (row c.args.order.now) c.args.size c.place_of-z.result c.loop-j.j c.loop-j.circle (omega arith) c.loop-j.invariant.1)
+    let less = c.loop-j-test.true in (
+      omega arith,
+      laid_next (row c.args.order.now) c.args.size c.place_of-z.result c.loop-j.j c.loop-j.circle
+          (omega arith) c.loop-j.invariant.1,
+    )
 
 pub returns : goal.returns
 returns c =
     let low = c.loop-j.invariant.0 in
     let high = c.loop-j-test.false in
     let all : c.loop-j.j ≡ c.args.size = omega arith in
-    c.loop-j.invariant.1 ∙ ap (Laid c.args.order.now c.args.size c.place_of-z.result) all ∙ ap (λ (i : ℕ). Laid c.args.order.now c.args.size i c.args.size) c.place_of-z.ensures
+    c.loop-j.invariant.1 ∙ ap (Laid c.args.order.now c.args.size c.place_of-z.result) all ∙ ap
+    (λ (i : ℕ). Laid c.args.order.now c.args.size i c.args.size) c.place_of-z.ensures

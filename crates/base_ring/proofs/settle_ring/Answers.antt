@@ -47,7 +47,8 @@ loop-i-smaller c =
 
 pub loop-i-preserved : goal.loop-i-preserved
 loop-i-preserved c =
-    settling_next _ c.loop-i.invariant c.loop-i-test.true c.settle_place-state.ensures.trip c.settle_place-state.ensures.ringing_2 c.settle_place-state.ensures.log_len_unchanged
+    settling_next _ c.loop-i.invariant c.loop-i-test.true c.settle_place-state.ensures.trip
+    c.settle_place-state.ensures.ringing_2 c.settle_place-state.ensures.log_len_unchanged
 
 pub shape_of-tail : goal.shape_of-tail
 shape_of-tail c = c.loop-i.invariant.trip.tail ∙ c.open_ring-state.ensures.trip.tail

@@ -20,7 +20,9 @@ pass_by-there-requires c = record {
 pub pass_by-requires : goal.pass_by-requires
 pass_by-requires c = record {
   passable_by = swap_third c.requires.swappable c.pass_by-away.ensures.passed c.pass_by-there.ensures.passed;
-  fits = fits_by 2 (swap-second c.requires.swappable c.pass_by-away.ensures.passed) (fits_by 4 (swap-first c.requires.swappable) c.requires.fits c.pass_by-away.ensures.journey_on) c.pass_by-there.ensures.journey_on;
+  fits = fits_by 2 (swap-second c.requires.swappable c.pass_by-away.ensures.passed)
+      (fits_by 4 (swap-first c.requires.swappable) c.requires.fits c.pass_by-away.ensures.journey_on)
+      c.pass_by-there.ensures.journey_on;
 }
 
 pub returns : goal.returns

@@ -19,13 +19,15 @@ way_round-route-requires c = record {
 pub overflow_sub-inner : goal.overflow_sub-inner
 overflow_sub-inner c =
     handle_found c.args.settled.now c.args.pair.from c.args.pair.to c.args.pair.size
-    c.way_round-route.result.size c.way_round-route.result.at c.requires.rows c.requires.size_nonzero c.requires.handle_choice c.way_round-route.ensures
+    c.way_round-route.result.size c.way_round-route.result.at c.requires.rows c.requires.size_nonzero
+    c.requires.handle_choice c.way_round-route.ensures
 
 pub extend-requires : goal.extend-requires
 extend-requires c = record {
   settled = c.requires.building_of.settled;
   fresh = handle_fresh c.args.settled.now c.args.pair.from c.args.pair.to
-      c.args.pair.size c.way_round-route.result.size c.way_round-route.result.at c.requires.rows c.requires.size_nonzero c.requires.handle_choice c.way_round-route.ensures;
+      c.args.pair.size c.way_round-route.result.size c.way_round-route.result.at c.requires.rows c.requires.size_nonzero
+      c.requires.handle_choice c.way_round-route.ensures;
 }
 
 pub overflow_add-start : goal.overflow_add-start
@@ -71,7 +73,8 @@ pub returns : goal.returns
 returns c =
     let pair = c.requires.handle_choice.pair c.requires.size_nonzero in
     let some = handle_found c.args.settled.now c.args.pair.from c.args.pair.to c.args.pair.size
-    c.way_round-route.result.size c.way_round-route.result.at c.requires.rows c.requires.size_nonzero c.requires.handle_choice c.way_round-route.ensures in
+    c.way_round-route.result.size c.way_round-route.result.at c.requires.rows c.requires.size_nonzero
+    c.requires.handle_choice c.way_round-route.ensures in
     let next = building_add c.requires.building_of c.args.pair.from c.args.pair.to c.way_round-route.result.size
     c.way_round-route.result.at _ _ (c.requires.rows.inside _ _ pair.edge).0 pair c.way_round-route.ensures some c.extend.ensures in
     record {

@@ -11,7 +11,8 @@ use Rattle.breakdown.proofs.choose_handle_at.Given as goal
 
 abbrev pub invariant-loop-rest : goal.invariant-loop-rest
 invariant-loop-rest l =
-    HandleChoice l.n l.rows l.settled (Upto l.u l.rest) l.best.from l.best.to l.best.size × ((y : ℕ) → Has l.rest y → Leaves (Edge l.rows) l.settled l.u y)
+    HandleChoice l.n l.rows l.settled (Upto l.u l.rest) l.best.from l.best.to l.best.size ×
+    ((y : ℕ) → Has l.rest y → Leaves (Edge l.rows) l.settled l.u y)
 
 abbrev pub decreases-loop-rest : goal.decreases-loop-rest
 decreases-loop-rest l = ones l.rest

@@ -52,8 +52,10 @@ overflow_add-i c =
 pub loop-i-preserved : goal.loop-i-preserved
 loop-i-preserved c = (
   omega arith,
-  extended_push _ _ _ _ _ _ _ (c.requires.fresh.small c.loop-i.i (omega arith)) (c.loop-i.invariant.2 c.loop-i.i (omega arith) (omega arith)) c.with.ensures c.loop-i.invariant.1,
-  λ j h k x. ⊎_elim (λ y. c.loop-i.invariant.2 j (omega arith) k y) (λ e. c.requires.fresh.distinct c.loop-i.i j (omega arith) k (sym e)) ((c.with.ensures (row c.args.at.now j)).0 x),
+  extended_push _ _ _ _ _ _ _ (c.requires.fresh.small c.loop-i.i (omega arith))
+      (c.loop-i.invariant.2 c.loop-i.i (omega arith) (omega arith)) c.with.ensures c.loop-i.invariant.1,
+  λ j h k x. ⊎_elim (λ y. c.loop-i.invariant.2 j (omega arith) k y) (λ e. c.requires.fresh.distinct c.loop-i.i j
+      (omega arith) k (sym e)) ((c.with.ensures (row c.args.at.now j)).0 x),
 )
 
 pub returns : goal.returns

@@ -14,7 +14,8 @@ loop-at-init c =
 
 pub touching-requires : goal.touching-requires
 touching-requires c =
-    let room = room_fewer c.args.named (c.loop-at.at - 1 + 1) c.args.from _ (omega (arith, c.loop-at.invariant.0)) c.requires.from_bound.0 in
+    let room = room_fewer c.args.named (c.loop-at.at - 1 + 1) c.args.from _ (omega (arith, c.loop-at.invariant.0))
+    c.requires.from_bound.0 in
     (room, omega arith)
 
 pub shape_of-blocks-then-touching : goal.shape_of-blocks-then-touching

@@ -32,8 +32,20 @@ take_move-requires c =
       c.meet-next.ensures.index_value.1,
       record {
         for_marks = omega (arith, c.meet-next.ensures.index_value.0, c.loop-j.invariant.2, c.requires.room.0.for_marks);
-        for_blocks = omega (arith, c.meet-next.ensures.index_value.0, c.meet-next.auto.blocks, c.loop-j.invariant.3, c.requires.room.0.for_blocks);
-        for_groups = omega (arith, c.meet-next.ensures.index_value.0, c.meet-next.auto.groups, c.loop-j.invariant.4, c.requires.room.0.for_groups);
+        for_blocks = omega (
+          arith,
+          c.meet-next.ensures.index_value.0,
+          c.meet-next.auto.blocks,
+          c.loop-j.invariant.3,
+          c.requires.room.0.for_blocks,
+        );
+        for_groups = omega (
+          arith,
+          c.meet-next.ensures.index_value.0,
+          c.meet-next.auto.groups,
+          c.loop-j.invariant.4,
+          c.requires.room.0.for_groups,
+        );
       },
     )
 
@@ -48,7 +60,8 @@ loop-j-preserved c =
     let more = c.loop-j-test.true in let few = c.requires.k_bound.0 in (
       omega arith,
       going_at (ap (λ (i : ℕ). i + 1) c.meet-next.ensures.index_value.0)
-          (c.take_move.ensures _ c.meet-next.ensures.met (going_at (sym c.meet-next.ensures.index_value.0) (going_looked c.meet-next.ensures.looked_2 c.loop-j.invariant.1))),
+          (c.take_move.ensures _ c.meet-next.ensures.met (going_at (sym c.meet-next.ensures.index_value.0)
+          (going_looked c.meet-next.ensures.looked_2 c.loop-j.invariant.1))),
       c.take_move.auto.marks ∙ c.loop-j.invariant.2,
       c.take_move.auto.blocks ∙ c.meet-next.auto.blocks ∙ c.loop-j.invariant.3,
       c.take_move.auto.groups ∙ c.meet-next.auto.groups ∙ c.loop-j.invariant.4,

@@ -7,7 +7,8 @@ use Rattle.cancelling.proofs.mark_kept.Given as goal
 
 abbrev pub invariant-loop-j : goal.invariant-loop-j
 invariant-loop-j l =
-    (l.j ≤ l.k) × Going (listed_of l.named l.tail) l.j l.marks l.blocks l.groups l.bounds l.lefts l.enters × (length l.marks ≡ length l.initial.marks)
+    (l.j ≤ l.k) × Going (listed_of l.named l.tail) l.j l.marks l.blocks l.groups l.bounds l.lefts l.enters ×
+    (length l.marks ≡ length l.initial.marks)
     × (length l.blocks ≡ length l.initial.blocks) × (length l.groups ≡ length l.initial.groups)
 
 abbrev pub decreases-loop-j : goal.decreases-loop-j

@@ -10,23 +10,41 @@ use Rattle.cancelling.proofs.meet.Goals as goal
 
 pub look_back-at-requires : goal.look_back-at-requires
 look_back-at-requires c =
-    let less : c.later-from.result ≤ c.args.j + 1 = omega (arith, (from_low _ _ _ (ends_are _ _ c.only.result _ c.only.ensures c.with-ends.ensures) (listed_of c.args.named c.args.tail.now) c.args.j _ _ c.requires.looked.1 c.later-from.result c.later-from.ensures)) in
+    let less : c.later-from.result ≤ c.args.j + 1 = omega (
+      arith,
+      (from_low _ _ _
+          (ends_are _ _ c.only.result _ c.only.ensures c.with-ends.ensures) (listed_of c.args.named c.args.tail.now)
+          c.args.j _ _ c.requires.looked.1 c.later-from.result c.later-from.ensures),
+    ) in
     record {
       from_bound = (
         room_fewer c.args.named c.later-from.result (c.args.j + 1) _ less c.requires.j_bound.0,
         room_less less c.requires.j_bound.1,
       );
-      looked = (c.requires.looked.0, (from_clear _ _ _ (ends_are _ _ c.only.result _ c.only.ensures c.with-ends.ensures) (listed_of c.args.named c.args.tail.now) c.args.j _ _ c.requires.looked.1 c.later-from.result c.later-from.ensures));
+      looked = (
+        c.requires.looked.0,
+        (from_clear _ _ _ (ends_are _ _ c.only.result _ c.only.ensures c.with-ends.ensures)
+            (listed_of c.args.named c.args.tail.now) c.args.j _ _ c.requires.looked.1 c.later-from.result
+            c.later-from.ensures),
+      );
     }
 
 pub undone-requires : goal.undone-requires
 undone-requires c =
     room_fewer c.args.named c.look_back-at.result (c.args.j + 1) _
-    (omega (arith, (from_low _ _ _ (ends_are _ _ c.only.result _ c.only.ensures c.with-ends.ensures) (listed_of c.args.named c.args.tail.now) c.args.j _ _ c.requires.looked.1 c.later-from.result c.later-from.ensures), c.look_back-at.ensures.found.below)) c.requires.j_bound.0
+    (omega (
+      arith,
+      (from_low _ _ _ (ends_are _ _ c.only.result _ c.only.ensures c.with-ends.ensures)
+          (listed_of c.args.named c.args.tail.now) c.args.j _ _ c.requires.looked.1 c.later-from.result
+          c.later-from.ensures),
+      c.look_back-at.ensures.found.below,
+    )) c.requires.j_bound.0
 
 pub returns : goal.returns
 returns c =
-    let found = found_later _ _ _ (from_low _ _ _ (ends_are _ _ c.only.result _ c.only.ensures c.with-ends.ensures) (listed_of c.args.named c.args.tail.now) c.args.j _ _ c.requires.looked.1 c.later-from.result c.later-from.ensures) c.look_back-at.ensures.found in
+    let found = found_later _ _ _ (from_low _ _ _ (ends_are _ _ c.only.result _ c.only.ensures c.with-ends.ensures)
+    (listed_of c.args.named c.args.tail.now) c.args.j _ _ c.requires.looked.1 c.later-from.result
+    c.later-from.ensures) c.look_back-at.ensures.found in
     record {
       index_value = (
         refl,

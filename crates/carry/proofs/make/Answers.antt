@@ -21,11 +21,13 @@ returns-in_default c =
     }
 
 pub is_connected-requires : goal.is_connected-requires
-is_connected-requires c = (filled_rows (order_accepted c.decode-below.ensures.result_value c.in-Accepted.is) c.decode-below.ensures.rows_after)
+is_connected-requires c = (filled_rows (order_accepted c.decode-below.ensures.result_value c.in-Accepted.is)
+    c.decode-below.ensures.rows_after)
 
 pub returns-then-not-is_connected : goal.returns-then-not-is_connected
 returns-then-not-is_connected c =
-    let all = carry-apart c.args.order.now c.args.buffer.now (order_accepted c.decode-below.ensures.result_value c.in-Accepted.is) c.decode-below.ensures.rows_after
+    let all = carry-apart c.args.order.now c.args.buffer.now (order_accepted c.decode-below.ensures.result_value
+    c.in-Accepted.is) c.decode-below.ensures.rows_after
     (λ w. false≢true (sym c.if-not-is_connected.true ∙ c.is_connected.ensures.1 w)) in
     record {
       result_value = all.0;
@@ -36,52 +38,128 @@ pub overflow_sub-n : goal.overflow_sub-n
 overflow_sub-n c = omega (arith, (some_position (order_accepted c.decode-below.ensures.result_value c.in-Accepted.is)))
 
 pub overflow_mul-n : goal.overflow_mul-n
-overflow_mul-n c = omega (arith, (some_position (order_accepted c.decode-below.ensures.result_value c.in-Accepted.is)), ((filled_rows (order_accepted c.decode-below.ensures.result_value c.in-Accepted.is) c.decode-below.ensures.rows_after).small))
+overflow_mul-n c = omega (
+  arith,
+  (some_position (order_accepted c.decode-below.ensures.result_value c.in-Accepted.is)),
+  ((filled_rows (order_accepted c.decode-below.ensures.result_value c.in-Accepted.is)
+      c.decode-below.ensures.rows_after).small),
+)
 
 pub overflow_add-n : goal.overflow_add-n
-overflow_add-n c = omega (arith, (some_position (order_accepted c.decode-below.ensures.result_value c.in-Accepted.is)), ((filled_rows (order_accepted c.decode-below.ensures.result_value c.in-Accepted.is) c.decode-below.ensures.rows_after).small))
+overflow_add-n c = omega (
+  arith,
+  (some_position (order_accepted c.decode-below.ensures.result_value c.in-Accepted.is)),
+  ((filled_rows (order_accepted c.decode-below.ensures.result_value c.in-Accepted.is)
+      c.decode-below.ensures.rows_after).small),
+)
 
 pub overflow_add-n-2 : goal.overflow_add-n-2
-overflow_add-n-2 c = omega (arith, (some_position (order_accepted c.decode-below.ensures.result_value c.in-Accepted.is)), ((filled_rows (order_accepted c.decode-below.ensures.result_value c.in-Accepted.is) c.decode-below.ensures.rows_after).small))
+overflow_add-n-2 c = omega (
+  arith,
+  (some_position (order_accepted c.decode-below.ensures.result_value
+      c.in-Accepted.is)),
+  ((filled_rows (order_accepted c.decode-below.ensures.result_value c.in-Accepted.is)
+      c.decode-below.ensures.rows_after).small),
+)
 
 pub returns-then-buffer-n : goal.returns-then-buffer-n
 returns-then-buffer-n c =
-    let all = carry_short c.args.order.now c.args.buffer.now (order_accepted c.decode-below.ensures.result_value c.in-Accepted.is) c.decode-below.ensures.rows_after (c.is_connected.ensures.0 c.if-not-is_connected.false) c.if-buffer-n.true in
+    let all = carry_short c.args.order.now c.args.buffer.now (order_accepted c.decode-below.ensures.result_value
+    c.in-Accepted.is) c.decode-below.ensures.rows_after (c.is_connected.ensures.0 c.if-not-is_connected.false)
+    c.if-buffer-n.true in
     record {
       result_value = all.0;
       buffer_after = all.1;
     }
 
 pub dearest-carry-requires : goal.dearest-carry-requires
-dearest-carry-requires c =
-    (omega (arith, (some_position (order_accepted c.decode-below.ensures.result_value c.in-Accepted.is))), (filled_rows (order_accepted c.decode-below.ensures.result_value c.in-Accepted.is) c.decode-below.ensures.rows_after), (c.is_connected.ensures.0 c.if-not-is_connected.false))
+dearest-carry-requires c = (
+  omega (arith, (some_position (order_accepted c.decode-below.ensures.result_value c.in-Accepted.is))),
+  (filled_rows (order_accepted c.decode-below.ensures.result_value c.in-Accepted.is)
+      c.decode-below.ensures.rows_after),
+  (c.is_connected.ensures.0 c.if-not-is_connected.false),
+)
 
 pub below-requires : goal.below-requires
-below-requires c = ((filled_rows (order_accepted c.decode-below.ensures.result_value c.in-Accepted.is) c.decode-below.ensures.rows_after).small)
+below-requires c = ((filled_rows (order_accepted c.decode-below.ensures.result_value c.in-Accepted.is)
+    c.decode-below.ensures.rows_after).small)
 
 pub only-requires : goal.only-requires
 only-requires c =
-    omega (arith, c.dearest-carry.ensures.goal_below, ((filled_rows (order_accepted c.decode-below.ensures.result_value c.in-Accepted.is) c.decode-below.ensures.rows_after).small))
+    omega (
+      arith,
+      c.dearest-carry.ensures.goal_below,
+      ((filled_rows (order_accepted c.decode-below.ensures.result_value
+          c.in-Accepted.is) c.decode-below.ensures.rows_after).small),
+    )
 
 pub search-way-requires : goal.search-way-requires
 search-way-requires c = record {
-  symmetric = (filled_rows (order_accepted c.decode-below.ensures.result_value c.in-Accepted.is) c.decode-below.ensures.rows_after).symmetric;
-  from_bound = omega (arith, c.dearest-carry.ensures.start_below, ((filled_rows (order_accepted c.decode-below.ensures.result_value c.in-Accepted.is) c.decode-below.ensures.rows_after).small));
+  symmetric = (filled_rows (order_accepted c.decode-below.ensures.result_value c.in-Accepted.is)
+      c.decode-below.ensures.rows_after).symmetric;
+  from_bound = omega (
+    arith,
+    c.dearest-carry.ensures.start_below,
+    ((filled_rows
+        (order_accepted c.decode-below.ensures.result_value c.in-Accepted.is) c.decode-below.ensures.rows_after).small),
+  );
 }
 
 pub list_way-requires : goal.list_way-requires
-list_way-requires c = let f = ((let it : Found c.args.order.now c.args.buffer.now c.in-Accepted.counts.positions c.in-Accepted.counts.edges c.in-Accepted.counts.racks c.decode-below.new.rows c.dearest-carry.result.start c.dearest-carry.result.goal c.dearest-carry.result.moves c.search-way.result.at = record { gave = (order_accepted c.decode-below.ensures.result_value c.in-Accepted.is); filled = c.decode-below.ensures.rows_after; whole = (c.is_connected.ensures.0 c.if-not-is_connected.false); room = c.if-buffer-n.false; dear = c.dearest-carry.ensures; size = c.search-way.result.size; way = way_nearest c.in-Accepted.counts.positions c.below.result c.only.result _ _ _ c.decode-below.new.rows c.search-way.result.at c.below.ensures c.only.ensures c.search-way.ensures } in it)) in
+list_way-requires c = let f = ((let it : Found c.args.order.now c.args.buffer.now c.in-Accepted.counts.positions
+    c.in-Accepted.counts.edges c.in-Accepted.counts.racks c.decode-below.new.rows c.dearest-carry.result.start
+    c.dearest-carry.result.goal c.dearest-carry.result.moves c.search-way.result.at = record {
+      gave = (order_accepted c.decode-below.ensures.result_value c.in-Accepted.is);
+      filled =
+          c.decode-below.ensures.rows_after;
+      whole = (c.is_connected.ensures.0 c.if-not-is_connected.false);
+      room =
+          c.if-buffer-n.false;
+      dear = c.dearest-carry.ensures;
+      size = c.search-way.result.size;
+      way = way_nearest
+          c.in-Accepted.counts.positions c.below.result c.only.result _ _ _ c.decode-below.new.rows c.search-way.result.at
+          c.below.ensures c.only.ensures c.search-way.ensures;
+    } in it)) in
     record {
       k_bound = places_below f;
       k_in_bounds = moves_room f;
     }
 
 pub put_head-requires : goal.put_head-requires
-put_head-requires c = part_back ((let it : Found c.args.order.now c.args.buffer.now c.in-Accepted.counts.positions c.in-Accepted.counts.edges c.in-Accepted.counts.racks c.decode-below.new.rows c.dearest-carry.result.start c.dearest-carry.result.goal c.dearest-carry.result.moves c.search-way.result.at = record { gave = (order_accepted c.decode-below.ensures.result_value c.in-Accepted.is); filled = c.decode-below.ensures.rows_after; whole = (c.is_connected.ensures.0 c.if-not-is_connected.false); room = c.if-buffer-n.false; dear = c.dearest-carry.ensures; size = c.search-way.result.size; way = way_nearest c.in-Accepted.counts.positions c.below.result c.only.result _ _ _ c.decode-below.new.rows c.search-way.result.at c.below.ensures c.only.ensures c.search-way.ensures } in it)) _
+put_head-requires c = part_back ((let it : Found c.args.order.now c.args.buffer.now c.in-Accepted.counts.positions
+    c.in-Accepted.counts.edges c.in-Accepted.counts.racks c.decode-below.new.rows c.dearest-carry.result.start
+    c.dearest-carry.result.goal c.dearest-carry.result.moves c.search-way.result.at = record {
+      gave = (order_accepted c.decode-below.ensures.result_value c.in-Accepted.is);
+      filled =
+          c.decode-below.ensures.rows_after;
+      whole = (c.is_connected.ensures.0 c.if-not-is_connected.false);
+      room =
+          c.if-buffer-n.false;
+      dear = c.dearest-carry.ensures;
+      size = c.search-way.result.size;
+      way = way_nearest
+          c.in-Accepted.counts.positions c.below.result c.only.result _ _ _ c.decode-below.new.rows c.search-way.result.at
+          c.below.ensures c.only.ensures c.search-way.ensures;
+    } in it)) _
 
 pub returns : goal.returns
 returns c =
-    let all = carry-made ((let it : Found c.args.order.now c.args.buffer.now c.in-Accepted.counts.positions c.in-Accepted.counts.edges c.in-Accepted.counts.racks c.decode-below.new.rows c.dearest-carry.result.start c.dearest-carry.result.goal c.dearest-carry.result.moves c.search-way.result.at = record { gave = (order_accepted c.decode-below.ensures.result_value c.in-Accepted.is); filled = c.decode-below.ensures.rows_after; whole = (c.is_connected.ensures.0 c.if-not-is_connected.false); room = c.if-buffer-n.false; dear = c.dearest-carry.ensures; size = c.search-way.result.size; way = way_nearest c.in-Accepted.counts.positions c.below.result c.only.result _ _ _ c.decode-below.new.rows c.search-way.result.at c.below.ensures c.only.ensures c.search-way.ensures } in it)) c.list_way.ensures c.put_head.ensures in
+    let all = carry-made ((let it : Found c.args.order.now c.args.buffer.now c.in-Accepted.counts.positions
+    c.in-Accepted.counts.edges c.in-Accepted.counts.racks c.decode-below.new.rows c.dearest-carry.result.start
+    c.dearest-carry.result.goal c.dearest-carry.result.moves c.search-way.result.at = record {
+      gave = (order_accepted c.decode-below.ensures.result_value c.in-Accepted.is);
+      filled =
+          c.decode-below.ensures.rows_after;
+      whole = (c.is_connected.ensures.0 c.if-not-is_connected.false);
+      room =
+          c.if-buffer-n.false;
+      dear = c.dearest-carry.ensures;
+      size = c.search-way.result.size;
+      way = way_nearest
+          c.in-Accepted.counts.positions c.below.result c.only.result _ _ _ c.decode-below.new.rows c.search-way.result.at
+          c.below.ensures c.only.ensures c.search-way.ensures;
+    } in it)) c.list_way.ensures c.put_head.ensures in
     record {
       result_value = all.0;
       buffer_after = all.1;

@@ -16,7 +16,10 @@ second_of-b-requires c = tt
 
 pub returns-then-a-lowest : goal.returns-then-a-lowest
 returns-then-a-lowest c =
-    let all = (move-told c.args.matrix.now c.args.racks.now c.args.step.now c.args.c c.args.target.now c.loop-j.lowest c.loop-j.entered c.loop-j.target c.loop-j.j _ _ c.loop-j.invariant.2 (entries_at c.args.step.now c.args.c c.loop-j.j _ _ (omega arith) c.first_of-a.ensures c.second_of-b.ensures)).not_ascending (omega arith) in
+    let all = (move-told c.args.matrix.now c.args.racks.now c.args.step.now c.args.c c.args.target.now c.loop-j.lowest
+    c.loop-j.entered c.loop-j.target c.loop-j.j _ _ c.loop-j.invariant.2
+    (entries_at c.args.step.now c.args.c c.loop-j.j _ _ (omega arith) c.first_of-a.ensures
+    c.second_of-b.ensures)).not_ascending (omega arith) in
     record {
       sound = all.0;
       all = all.1;
@@ -24,7 +27,10 @@ returns-then-a-lowest c =
 
 pub returns-then-matrix-a-eq0 : goal.returns-then-matrix-a-eq0
 returns-then-matrix-a-eq0 c =
-    let all = (move-told c.args.matrix.now c.args.racks.now c.args.step.now c.args.c c.args.target.now c.loop-j.lowest c.loop-j.entered c.loop-j.target c.loop-j.j _ _ c.loop-j.invariant.2 (entries_at c.args.step.now c.args.c c.loop-j.j _ _ (omega arith) c.first_of-a.ensures c.second_of-b.ensures)).no_edge c.if-matrix-a-eq0.true in
+    let all = (move-told c.args.matrix.now c.args.racks.now c.args.step.now c.args.c c.args.target.now c.loop-j.lowest
+    c.loop-j.entered c.loop-j.target c.loop-j.j _ _ c.loop-j.invariant.2
+    (entries_at c.args.step.now c.args.c c.loop-j.j _ _ (omega arith) c.first_of-a.ensures
+    c.second_of-b.ensures)).no_edge c.if-matrix-a-eq0.true in
     record {
       sound = all.0;
       all = all.1;
@@ -32,7 +38,10 @@ returns-then-matrix-a-eq0 c =
 
 pub returns-then-racks-a-eq0 : goal.returns-then-racks-a-eq0
 returns-then-racks-a-eq0 c =
-    let all = (move-told c.args.matrix.now c.args.racks.now c.args.step.now c.args.c c.args.target.now c.loop-j.lowest c.loop-j.entered c.loop-j.target c.loop-j.j _ _ c.loop-j.invariant.2 (entries_at c.args.step.now c.args.c c.loop-j.j _ _ (omega arith) c.first_of-a.ensures c.second_of-b.ensures)).no_rack c.if-racks-a-eq0.true in
+    let all = (move-told c.args.matrix.now c.args.racks.now c.args.step.now c.args.c c.args.target.now c.loop-j.lowest
+    c.loop-j.entered c.loop-j.target c.loop-j.j _ _ c.loop-j.invariant.2
+    (entries_at c.args.step.now c.args.c c.loop-j.j _ _ (omega arith) c.first_of-a.ensures
+    c.second_of-b.ensures)).no_rack c.if-racks-a-eq0.true in
     record {
       sound = all.0;
       all = all.1;
@@ -40,19 +49,30 @@ returns-then-racks-a-eq0 c =
 
 pub returns-then-entered-b-ne0 : goal.returns-then-entered-b-ne0
 returns-then-entered-b-ne0 c =
-    let all = (move-told c.args.matrix.now c.args.racks.now c.args.step.now c.args.c c.args.target.now c.loop-j.lowest c.loop-j.entered c.loop-j.target c.loop-j.j _ _ c.loop-j.invariant.2 (entries_at c.args.step.now c.args.c c.loop-j.j _ _ (omega arith) c.first_of-a.ensures c.second_of-b.ensures)).entered_twice c.if-entered-b-ne0.true in
+    let all = (move-told c.args.matrix.now c.args.racks.now c.args.step.now c.args.c c.args.target.now c.loop-j.lowest
+    c.loop-j.entered c.loop-j.target c.loop-j.j _ _ c.loop-j.invariant.2
+    (entries_at c.args.step.now c.args.c c.loop-j.j _ _ (omega arith) c.first_of-a.ensures
+    c.second_of-b.ensures)).entered_twice c.if-entered-b-ne0.true in
     record {
       sound = all.0;
       all = all.1;
     }
 
 pub loop-j-preserved : goal.loop-j-preserved
-loop-j-preserved c =
-    (omega arith, omega arith, (move-told c.args.matrix.now c.args.racks.now c.args.step.now c.args.c c.args.target.now c.loop-j.lowest c.loop-j.entered c.loop-j.target c.loop-j.j _ _ c.loop-j.invariant.2 (entries_at c.args.step.now c.args.c c.loop-j.j _ _ (omega arith) c.first_of-a.ensures c.second_of-b.ensures)).sound (omega arith) c.if-matrix-a-eq0.false c.if-racks-a-eq0.false c.if-entered-b-ne0.false)
+loop-j-preserved c = (
+  omega arith,
+  omega arith,
+  (move-told c.args.matrix.now c.args.racks.now c.args.step.now c.args.c c.args.target.now
+      c.loop-j.lowest c.loop-j.entered c.loop-j.target c.loop-j.j _ _ c.loop-j.invariant.2
+      (entries_at c.args.step.now c.args.c c.loop-j.j _ _ (omega arith) c.first_of-a.ensures
+      c.second_of-b.ensures)).sound (omega arith) c.if-matrix-a-eq0.false c.if-racks-a-eq0.false
+      c.if-entered-b-ne0.false,
+)
 
 pub returns : goal.returns
 returns c =
-    let all = noting_last c.args.matrix.now c.args.racks.now c.args.step.now c.args.c c.args.target.now c.loop-j.lowest c.loop-j.entered c.loop-j.target c.loop-j.j
+    let all = noting_last c.args.matrix.now c.args.racks.now c.args.step.now c.args.c c.args.target.now c.loop-j.lowest
+    c.loop-j.entered c.loop-j.target c.loop-j.j
     c.loop-j.invariant.2 (omega arith) in
     record {
       sound = all.0;

@@ -4,4 +4,5 @@ use Rattle.chains.proofs.train_length.Goals as goal
 
 pub returns-then-marks-p-ne0 : goal.returns-then-marks-p-ne0
 returns-then-marks-p-ne0 c =
-    chain_known c.args.target.now c.args.racks.now c.args.marks.now c.args.p c.requires.chain c.if-marks-p-ne0.true (c.requires.none_passed c.args.p)
+    chain_known c.args.target.now c.args.racks.now c.args.marks.now c.args.p c.requires.chain c.if-marks-p-ne0.true
+    (c.requires.none_passed c.args.p)

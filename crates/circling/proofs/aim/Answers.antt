@@ -21,18 +21,28 @@ overflow_cast-to c = omega (arith, c.requires.n_bound, c.requires.g_bound)
 pub cost-least-requires : goal.cost-least-requires
 cost-least-requires c = record {
   n_bound = c.requires.n_bound;
-  bases = (aimed-at c.args.n c.args.from (row c.args.g.now 1) 0 (row c.args.g.now 1) c.requires.n_bound.0 c.requires.n_bound_2.0 c.requires.n_bound_2.1 c.requires.g_bound (omega arith) (at_first (row c.args.g.now 1) c.args.n)).there;
+  bases = (aimed-at c.args.n c.args.from (row c.args.g.now 1) 0 (row c.args.g.now 1) c.requires.n_bound.0
+      c.requires.n_bound_2.0 c.requires.n_bound_2.1 c.requires.g_bound (omega arith)
+      (at_first (row c.args.g.now 1) c.args.n)).there;
   places = c.requires.places;
   places_2 = c.requires.places_2;
 }
 
 pub loop-lap-init : goal.loop-lap-init
-loop-lap-init c =
-    (omega arith, omega arith, at_first (row c.args.g.now 1) c.args.n, (aimed-at c.args.n c.args.from (row c.args.g.now 1) 0 (row c.args.g.now 1) c.requires.n_bound.0 c.requires.n_bound_2.0 c.requires.n_bound_2.1 c.requires.g_bound (omega arith) (at_first (row c.args.g.now 1) c.args.n)))
+loop-lap-init c = (
+  omega arith,
+  omega arith,
+  at_first (row c.args.g.now 1) c.args.n,
+  (aimed-at c.args.n c.args.from
+      (row c.args.g.now 1) 0 (row c.args.g.now 1) c.requires.n_bound.0 c.requires.n_bound_2.0 c.requires.n_bound_2.1
+      c.requires.g_bound (omega arith) (at_first (row c.args.g.now 1) c.args.n)),
+)
 
 pub overflow_add-to : goal.overflow_add-to
 overflow_add-to c =
-    let l = (aimed-at c.args.n c.args.from (row c.args.g.now 1) c.loop-lap.lap (row c.args.g.now 1 + c.args.n * c.loop-lap.lap) c.requires.n_bound.0 c.requires.n_bound_2.0 c.requires.n_bound_2.1 c.requires.g_bound (omega arith) (omega arith)).there.second in
+    let l = (aimed-at c.args.n c.args.from (row c.args.g.now 1) c.loop-lap.lap
+    (row c.args.g.now 1 + c.args.n * c.loop-lap.lap) c.requires.n_bound.0 c.requires.n_bound_2.0
+    c.requires.n_bound_2.1 c.requires.g_bound (omega arith) (omega arith)).there.second in
     let w = c.loop-lap.invariant.2 in
     let u = up c.args.n c.loop-lap.lap c.loop-lap.invariant.0 in
     omega arith
@@ -40,7 +50,11 @@ overflow_add-to c =
 pub cost-moves-requires : goal.cost-moves-requires
 cost-moves-requires c = record {
   n_bound = c.requires.n_bound;
-  bases = ((let it : Aimed c.args.n c.args.from (row c.args.g.now 1) (c.loop-lap.to + c.args.n) = subst (Aimed c.args.n c.args.from (row c.args.g.now 1)) (let w = c.loop-lap.invariant.2 in let u = up c.args.n c.loop-lap.lap c.loop-lap.invariant.0 in omega arith) (aimed-at c.args.n c.args.from (row c.args.g.now 1) c.loop-lap.lap (row c.args.g.now 1 + c.args.n * c.loop-lap.lap) c.requires.n_bound.0 c.requires.n_bound_2.0 c.requires.n_bound_2.1 c.requires.g_bound (omega arith) (omega arith)) in it)).there;
+  bases = ((let it : Aimed c.args.n c.args.from (row c.args.g.now 1) (c.loop-lap.to + c.args.n) = subst
+      (Aimed c.args.n c.args.from (row c.args.g.now 1)) (let w = c.loop-lap.invariant.2 in let u = up c.args.n
+      c.loop-lap.lap c.loop-lap.invariant.0 in omega arith) (aimed-at c.args.n c.args.from (row c.args.g.now 1)
+      c.loop-lap.lap (row c.args.g.now 1 + c.args.n * c.loop-lap.lap) c.requires.n_bound.0 c.requires.n_bound_2.0
+      c.requires.n_bound_2.1 c.requires.g_bound (omega arith) (omega arith)) in it)).there;
   places = c.requires.places;
   places_2 = c.requires.places_2;
 }
@@ -52,7 +66,12 @@ loop-lap-preserved c = (
   (let w = c.loop-lap.invariant.2 in let u = up c.args.n c.loop-lap.lap c.loop-lap.invariant.0 in
       let z : c.args.n * (c.loop-lap.lap + 1 - 1) ≡ c.args.n * c.loop-lap.lap = ap (λ (x : ℕ). c.args.n * x) (omega arith) in omega arith),
   elim c.if-moves-least.branch [
-    | then-moves-least w ↦ subst (Aimed c.args.n c.args.from (row c.args.g.now 1)) (sym w.best-is) ((let it : Aimed c.args.n c.args.from (row c.args.g.now 1) (c.loop-lap.to + c.args.n) = subst (Aimed c.args.n c.args.from (row c.args.g.now 1)) (let w = c.loop-lap.invariant.2 in let u = up c.args.n c.loop-lap.lap c.loop-lap.invariant.0 in omega arith) (aimed-at c.args.n c.args.from (row c.args.g.now 1) c.loop-lap.lap (row c.args.g.now 1 + c.args.n * c.loop-lap.lap) c.requires.n_bound.0 c.requires.n_bound_2.0 c.requires.n_bound_2.1 c.requires.g_bound (omega arith) (omega arith)) in it))
+    | then-moves-least w ↦ subst (Aimed c.args.n c.args.from (row c.args.g.now 1)) (sym w.best-is)
+        ((let it : Aimed c.args.n c.args.from (row c.args.g.now 1) (c.loop-lap.to + c.args.n) = subst
+        (Aimed c.args.n c.args.from (row c.args.g.now 1)) (let w = c.loop-lap.invariant.2 in let u = up c.args.n
+        c.loop-lap.lap c.loop-lap.invariant.0 in omega arith) (aimed-at c.args.n c.args.from (row c.args.g.now 1)
+        c.loop-lap.lap (row c.args.g.now 1 + c.args.n * c.loop-lap.lap) c.requires.n_bound.0 c.requires.n_bound_2.0
+        c.requires.n_bound_2.1 c.requires.g_bound (omega arith) (omega arith)) in it))
     | else-moves-least w ↦ subst (Aimed c.args.n c.args.from (row c.args.g.now 1)) (sym w.best-is) c.loop-lap.invariant.3
   ],
 )

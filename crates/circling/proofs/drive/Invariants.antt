@@ -7,7 +7,8 @@ use Rattle.circling.proofs.drive.Given as goal
 
 abbrev pub invariant-loop-need : goal.invariant-loop-need
 invariant-loop-need l =
-    Driving l.n l.real (row l.circle) l.initial.need (unlogged l.initial.racks l.real l.initial.written) l.initial.tail l.need (unlogged l.racks l.real l.written) l.tail
+    Driving l.n l.real (row l.circle) l.initial.need (unlogged l.initial.racks l.real l.initial.written) l.initial.tail
+    l.need (unlogged l.racks l.real l.written) l.tail
 
 abbrev pub decreases-loop-need : goal.decreases-loop-need
 decreases-loop-need l = total l.need

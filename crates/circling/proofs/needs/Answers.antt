@@ -46,12 +46,14 @@ overflow_add-r c = omega (arith, c.requires.n_bound)
 pub loop-r-preserved : goal.loop-r-preserved
 loop-r-preserved c =
     let near : reach c.args.n c.args.to (row c.args.g.now) c.loop-r.r
-    ≤ reach c.args.n c.args.from (row c.args.p.now) c.loop-r.r + 4 * c.args.n = omega (arith, c.requires.bases.near, c.reach-y.ensures.is, c.reach-y.ensures.lap) in
+    ≤ reach c.args.n c.args.from (row c.args.p.now) c.loop-r.r + 4 * c.args.n = omega
+    (arith, c.requires.bases.near, c.reach-y.ensures.is, c.reach-y.ensures.lap) in
     elim c.if-x-y.branch [
       | then-x-y w ↦
           let is : c.if-x-y.need
           ≡ set c.loop-r.need c.loop-r.r (reach c.args.n c.args.to (row c.args.g.now) c.loop-r.r - reach c.args.n c.args.from (row
-          c.args.p.now) c.loop-r.r) = w.need-is ∙ ap (set c.loop-r.need c.loop-r.r) (omega (arith, c.reach-x.ensures.is, c.reach-y.ensures.is)) in
+          c.args.p.now) c.loop-r.r) = w.need-is ∙ ap (set c.loop-r.need c.loop-r.r)
+          (omega (arith, c.reach-x.ensures.is, c.reach-y.ensures.is)) in
           subst (λ (k : List ℕ). Needing c.args.n c.args.m c.args.from (row c.args.p.now) c.args.to (row
           c.args.g.now) k (c.loop-r.r + 1)) (sym is)
           (needing_next _ _ _ _ _ _ c.loop-r.invariant c.loop-r-test.true (omega (arith, c.requires.n_bound)) near)

@@ -7,11 +7,17 @@ use Rattle.comparing.proofs.Choices.{bytes-by, lengths, front_checked, stays, ba
 use Rattle.comparing.proofs.take_better.Goals as goal
 
 pub slice_bounds-improves-end : goal.slice_bounds-improves-end
-slice_bounds-improves-end c = (lengths c.args.order.now c.requires.buffer c.args.kept.now c.args.k c.args.buffer.now c.requires.overwritten).0
+slice_bounds-improves-end c = (lengths c.args.order.now c.requires.buffer c.args.kept.now c.args.k c.args.buffer.now
+    c.requires.overwritten).0
 
 pub slice_bounds-improves-end-2 : goal.slice_bounds-improves-end-2
 slice_bounds-improves-end-2 c =
-    omega (arith, length-take (length c.args.kept.now) c.args.buffer.now, (lengths c.args.order.now c.requires.buffer c.args.kept.now c.args.k c.args.buffer.now c.requires.overwritten).0)
+    omega (
+      arith,
+      length-take (length c.args.kept.now) c.args.buffer.now,
+      (lengths c.args.order.now c.requires.buffer c.args.kept.now c.args.k c.args.buffer.now
+          c.requires.overwritten).0,
+    )
 
 pub improves-requires : goal.improves-requires
 improves-requires c = front_checked c.args.order.now c.requires.buffer c.args.kept.now c.args.k c.args.buffer.now c.requires.overwritten
@@ -24,7 +30,9 @@ put_bytes-requires c = back_fits c.args.order.now c.requires.buffer c.args.kept.
 
 pub put_bytes-requires-2 : goal.put_bytes-requires-2
 put_bytes-requires-2 c =
-    rw c.put_bytes.ensures.bytes_are (found_fits c.args.order.now c.requires.buffer c.args.kept.now c.args.k c.args.buffer.now c.requires.overwritten c.args.found.now (bytes-by c.args.found.now (λ i. (c.type_inv.found i).fits)) (c.improves.ensures.0 c.if-not-improves.false))
+    rw c.put_bytes.ensures.bytes_are (found_fits c.args.order.now c.requires.buffer c.args.kept.now c.args.k
+    c.args.buffer.now c.requires.overwritten c.args.found.now (bytes-by c.args.found.now
+    (λ i. (c.type_inv.found i).fits)) (c.improves.ensures.0 c.if-not-improves.false))
 
 pub count_at_head-requires : goal.count_at_head-requires
 count_at_head-requires c =
@@ -34,4 +42,5 @@ pub returns : goal.returns
 unfolding move_count
 returns c B' w =
     rw (c.count_at_head.ensures, c.put_bytes-2.ensures.bytes_are, c.put_bytes.ensures.bytes_are)
-    (replaced c.args.order.now B' c.args.kept.now c.args.k c.args.buffer.now w c.args.found.now (bytes-by c.args.found.now (λ i. (c.type_inv.found i).fits)) (c.improves.ensures.0 c.if-not-improves.false))
+    (replaced c.args.order.now B' c.args.kept.now c.args.k c.args.buffer.now w c.args.found.now
+    (bytes-by c.args.found.now (λ i. (c.type_inv.found i).fits)) (c.improves.ensures.0 c.if-not-improves.false))

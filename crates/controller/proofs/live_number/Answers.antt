@@ -18,5 +18,6 @@ pub returns-in-Refused : goal.returns-in-Refused
 returns-in-Refused c =
     let is = sym (ap answer_of c.in-Refused.is) in
     tells floor_steps_pack
-    (subst (Sized WordCount) is (refuses (omega (arith, number_of-some c.in-Refused.fault)) (omega (arith, number_of_le c.in-Refused.fault)) (omega arith)))
+    (subst (Sized WordCount) is (refuses (omega (arith, number_of-some c.in-Refused.fault))
+    (omega (arith, number_of_le c.in-Refused.fault)) (omega arith)))
     (c.refusal.ensures ∙ ap (packed one_count) is)

@@ -10,7 +10,8 @@ use Rattle.controller.proofs.wichteab_order_check.Goals as goal
 pub returns-in-Accepted : goal.returns-in-Accepted
 returns-in-Accepted c =
     let answer = ap answer_of (sym c.in-Accepted.is) ∙ c.read.ensures in
-    tells nothing_packs (uncounted_sized (order_sized c.args.order.now)) (ap (packed nothing) answer ∙ uncounted-same (order_answer c.args.order.now))
+    tells nothing_packs (uncounted_sized (order_sized c.args.order.now)) (ap (packed nothing) answer ∙ uncounted-same
+    (order_answer c.args.order.now))
 
 pub returns-in-Refused : goal.returns-in-Refused
 returns-in-Refused c =

@@ -12,7 +12,8 @@ pub returns-in-Report : goal.returns-in-Report
 returns-in-Report c =
     let is = ap answer_of (sym c.in-Report.is) ∙ c.report.ensures in
     record {
-      tells = tells nothing_packs (uncounted_sized (season_sized c.args.bytes.now)) (c.put_report.ensures.value ∙ ap (packed nothing) is ∙ uncounted-same (season_answer c.args.bytes.now));
+      tells = tells nothing_packs (uncounted_sized (season_sized c.args.bytes.now))
+          (c.put_report.ensures.value ∙ ap (packed nothing) is ∙ uncounted-same (season_answer c.args.bytes.now));
       report_after = c.put_report.ensures.report_after ∙ ap (λ (a : Answer). report_after a c.args.report.now) is;
     }
 

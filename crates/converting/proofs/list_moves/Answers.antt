@@ -24,7 +24,12 @@ put_listed-requires c =
     let room = next_room c.args.tail.now c.args.named c.args.k c.args.racks.now c.args.room.now c.requires.k_in_bounds c.loop-j.racks
     c.loop-j.room c.loop-j.j c.loop-j.invariant.1 c.loop-j-test.true _ _ c.move_at-step.ensures in
     record {
-      a_bound = (c.move_at-step.ensures.first_below, c.move_at-step.ensures.second_below, λ e. rw c.wide.ensures.0 (rack (sym c.loop-j.invariant.2 ∙ e)));
+      a_bound = (
+        c.move_at-step.ensures.first_below,
+        c.move_at-step.ensures.second_below,
+        λ e. rw c.wide.ensures.0
+            (rack (sym c.loop-j.invariant.2 ∙ e)),
+      );
       j_in_bounds = rw c.loop-j.invariant.2 room;
     }
 

@@ -36,7 +36,8 @@ racks_sound-requires c =
 
 pub returns-then-not-racks_sound : goal.returns-then-not-racks_sound
 returns-then-not-racks_sound c =
-    let down = racks_wrong (edges_gave c.decode_edges-edges.ensures.result_value c.in-Accepted.is) c.racks_sound.ensures c.if-not-racks_sound.true in
+    let down = racks_wrong (edges_gave c.decode_edges-edges.ensures.result_value c.in-Accepted.is) c.racks_sound.ensures
+    c.if-not-racks_sound.true in
     record {
       result_value = down;
       rows_after = no_rows c.args.order.now 14 0 down;

@@ -27,9 +27,11 @@ join-requires c = record {
 
 pub loop-j-preserved : goal.loop-j-preserved
 loop-j-preserved c =
-    let first = first_is c.args.tail.now c.args.n c.args.e c.loop-j.last c.loop-j.j c.next_edge-place.result c.loop-j.invariant.1 (omega arith)
+    let first = first_is c.args.tail.now c.args.n c.args.e c.loop-j.last c.loop-j.j c.next_edge-place.result
+    c.loop-j.invariant.1 (omega arith)
     c.next_edge-place.ensures c.if-place-eq0.false in
-    let second = second_is c.args.tail.now c.args.n c.args.e c.loop-j.last c.loop-j.j c.next_edge-place.result c.loop-j.invariant.1 (omega arith)
+    let second = second_is c.args.tail.now c.args.n c.args.e c.loop-j.last c.loop-j.j c.next_edge-place.result
+    c.loop-j.invariant.1 (omega arith)
     c.next_edge-place.ensures c.if-place-eq0.false in (
       omega arith,
       left-next c.args.tail.now c.args.n c.args.e c.loop-j.last c.loop-j.j c.next_edge-place.result c.loop-j.invariant.1 (omega arith)

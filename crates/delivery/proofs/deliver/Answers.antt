@@ -46,7 +46,8 @@ pub returns-in_default-made : goal.returns-in_default-made
 unfolding plan_alone plan_length record_length
 returns-in_default-made c =
     let plan = plan_made c.in-Planned.is c.make-planned.ensures in
-    let all = both (refused_timetable _ plan _ _ c.make-made.ensures.result_value c.make-made.ensures.buffer_after refl c.in_default-made.is) in
+    let all = both (refused_timetable _ plan _ _ c.make-made.ensures.result_value c.make-made.ensures.buffer_after refl
+    c.in_default-made.is) in
     record {
       called = all.0;
       delivered = all.1;
@@ -63,7 +64,8 @@ unfolding plan_alone plan_length record_length timetable_alone
 returns c =
     let plan = plan_made c.in-Planned.is c.make-planned.ensures in
     let all = both
-    (all_called _ plan _ _ c.make-made.ensures.result_value c.make-made.ensures.buffer_after refl c.in-Accepted.is c.check-checked.result _ c.check-checked.ensures
+    (all_called _ plan _ _ c.make-made.ensures.result_value c.make-made.ensures.buffer_after refl c.in-Accepted.is
+    c.check-checked.result _ c.check-checked.ensures
     (ap (λ (n : ℕ). take n c.make-made.new.buffer) c.record_length-timetable_end.ensures)) in
     record {
       called = all.0;

@@ -17,8 +17,11 @@ returns-then-missed-ne0 c =
     c.lowest.ensures.has c.lowest.ensures.by_index
 
 pub loop-from-preserved : goal.loop-from-preserved
-loop-from-preserved c =
-    (omega arith, full_next _ c.args.balls.now _ c.below-all.ensures _ _ c.minus-missed.ensures c.loop-from.invariant.1 c.if-missed-ne0.false)
+loop-from-preserved c = (
+  omega arith,
+  full_next _ c.args.balls.now _ c.below-all.ensures _ _ c.minus-missed.ensures c.loop-from.invariant.1
+      c.if-missed-ne0.false,
+)
 
 pub returns : goal.returns
 returns c =

@@ -16,7 +16,8 @@ returns-then-place-eq1 c =
     record {
       is = omega (
         arith,
-        sextet_6 c.args.s.now (6 * c.args.q) (c.args.q / 4 * 3) (c.args.q / 4 * 3 + 1) (omega arith) (omega arith) (omega arith) (omega arith),
+        sextet_6 c.args.s.now (6 * c.args.q) (c.args.q / 4 * 3) (c.args.q / 4 * 3 + 1) (omega arith) (omega arith)
+            (omega arith) (omega arith),
       );
       below = omega arith;
     }
@@ -34,4 +35,11 @@ returns-then-place-eq2 c =
 
 pub returns : goal.returns
 returns c =
-    record { is = omega (arith, sextet_2 c.args.s.now (6 * c.args.q) (c.args.q / 4 * 3 + 2) (omega arith) (omega arith)); below = omega arith }
+    record {
+      is = omega (
+        arith,
+        sextet_2 c.args.s.now (6 * c.args.q) (c.args.q / 4 * 3 + 2) (omega arith)
+            (omega arith),
+      );
+      below = omega arith;
+    }

@@ -35,7 +35,9 @@ is_ring-requires c = record {
 
 pub returns-then-n-m : goal.returns-then-n-m
 returns-then-n-m c =
-    let down = ring_full (order_accepted c.decode-below.ensures.result_value c.in-Accepted.is) ((rings (order_accepted c.decode-below.ensures.result_value c.in-Accepted.is) c.decode-below.ensures.rows_after).0 (c.is_ring.ensures.0 c.if-is_ring.true)) c.if-n-m.true in
+    let down = ring_full (order_accepted c.decode-below.ensures.result_value c.in-Accepted.is)
+    ((rings (order_accepted c.decode-below.ensures.result_value c.in-Accepted.is)
+    c.decode-below.ensures.rows_after).0 (c.is_ring.ensures.0 c.if-is_ring.true)) c.if-n-m.true in
     record {
       result_value = down;
       result_value_2 = refused_too c.args.order.now 20 0 down;
@@ -45,13 +47,28 @@ returns-then-n-m c =
     }
 
 pub same_round-requires : goal.same_round-requires
-same_round-requires c = (c.args.order.now, ((let it : RingTables c.args.order.now c.in-Accepted.counts.positions c.in-Accepted.counts.racks c.decode-below.new.rows c.decode-below.new.starts c.decode-below.new.goals = ring-tables (order_accepted c.decode-below.ensures.result_value c.in-Accepted.is) c.decode-below.ensures.rows_after (c.is_ring.ensures.0 c.if-is_ring.true) c.if-n-m.false c.decode-below.ensures.starts_after c.decode-below.ensures.goals_after in it)))
+same_round-requires c = (
+  c.args.order.now,
+  ((let it : RingTables c.args.order.now c.in-Accepted.counts.positions
+      c.in-Accepted.counts.racks c.decode-below.new.rows c.decode-below.new.starts c.decode-below.new.goals = ring-tables
+      (order_accepted c.decode-below.ensures.result_value c.in-Accepted.is) c.decode-below.ensures.rows_after
+      (c.is_ring.ensures.0 c.if-is_ring.true) c.if-n-m.false c.decode-below.ensures.starts_after
+      c.decode-below.ensures.goals_after in it)),
+)
 
 pub returns-then-not-same_round : goal.returns-then-not-same_round
 returns-then-not-same_round c =
-    let down = ring_other (order_accepted c.decode-below.ensures.result_value c.in-Accepted.is) ((rings (order_accepted c.decode-below.ensures.result_value c.in-Accepted.is) c.decode-below.ensures.rows_after).0 (c.is_ring.ensures.0 c.if-is_ring.true)) c.if-n-m.false
-    (λ s. false≢true (sym c.if-not-same_round.true ∙ (c.same_round.ensures c.args.order.now ((let it : RingTables c.args.order.now c.in-Accepted.counts.positions c.in-Accepted.counts.racks c.decode-below.new.rows c.decode-below.new.starts c.decode-below.new.goals = ring-tables (order_accepted c.decode-below.ensures.result_value c.in-Accepted.is) c.decode-below.ensures.rows_after (c.is_ring.ensures.0 c.if-is_ring.true) c.if-n-m.false c.decode-below.ensures.starts_after c.decode-below.ensures.goals_after in it))).1
-    (subst (λ (m : ℕ). SameRound (floor_of c.args.order.now) m (starts_of c.args.order.now) (goals_of c.args.order.now)) (sym (order_accepted c.decode-below.ensures.result_value c.in-Accepted.is).racks_are) s))) in
+    let down = ring_other (order_accepted c.decode-below.ensures.result_value c.in-Accepted.is)
+    ((rings (order_accepted c.decode-below.ensures.result_value c.in-Accepted.is)
+    c.decode-below.ensures.rows_after).0 (c.is_ring.ensures.0 c.if-is_ring.true)) c.if-n-m.false
+    (λ s. false≢true (sym c.if-not-same_round.true ∙ (c.same_round.ensures c.args.order.now
+    ((let it : RingTables c.args.order.now c.in-Accepted.counts.positions c.in-Accepted.counts.racks
+    c.decode-below.new.rows c.decode-below.new.starts c.decode-below.new.goals = ring-tables
+    (order_accepted c.decode-below.ensures.result_value c.in-Accepted.is) c.decode-below.ensures.rows_after
+    (c.is_ring.ensures.0 c.if-is_ring.true) c.if-n-m.false c.decode-below.ensures.starts_after
+    c.decode-below.ensures.goals_after in it))).1
+    (subst (λ (m : ℕ). SameRound (floor_of c.args.order.now) m (starts_of c.args.order.now) (goals_of c.args.order.now))
+    (sym (order_accepted c.decode-below.ensures.result_value c.in-Accepted.is).racks_are) s))) in
     record {
       result_value = down;
       result_value_2 = refused_too c.args.order.now 24 0 down;
@@ -62,9 +79,16 @@ returns-then-not-same_round c =
 
 pub returns-then-is_ring : goal.returns-then-is_ring
 returns-then-is_ring c =
-    let up = ring-plain (order_accepted c.decode-below.ensures.result_value c.in-Accepted.is) ((rings (order_accepted c.decode-below.ensures.result_value c.in-Accepted.is) c.decode-below.ensures.rows_after).0 (c.is_ring.ensures.0 c.if-is_ring.true)) c.if-n-m.false
-    (subst (λ (m : ℕ). SameRound (floor_of c.args.order.now) m (starts_of c.args.order.now) (goals_of c.args.order.now)) (order_accepted c.decode-below.ensures.result_value c.in-Accepted.is).racks_are
-    ((c.same_round.ensures c.args.order.now ((let it : RingTables c.args.order.now c.in-Accepted.counts.positions c.in-Accepted.counts.racks c.decode-below.new.rows c.decode-below.new.starts c.decode-below.new.goals = ring-tables (order_accepted c.decode-below.ensures.result_value c.in-Accepted.is) c.decode-below.ensures.rows_after (c.is_ring.ensures.0 c.if-is_ring.true) c.if-n-m.false c.decode-below.ensures.starts_after c.decode-below.ensures.goals_after in it))).0 c.if-not-same_round.false)) in
+    let up = ring-plain (order_accepted c.decode-below.ensures.result_value c.in-Accepted.is)
+    ((rings (order_accepted c.decode-below.ensures.result_value c.in-Accepted.is)
+    c.decode-below.ensures.rows_after).0 (c.is_ring.ensures.0 c.if-is_ring.true)) c.if-n-m.false
+    (subst (λ (m : ℕ). SameRound (floor_of c.args.order.now) m (starts_of c.args.order.now) (goals_of c.args.order.now))
+    (order_accepted c.decode-below.ensures.result_value c.in-Accepted.is).racks_are
+    ((c.same_round.ensures c.args.order.now ((let it : RingTables c.args.order.now c.in-Accepted.counts.positions
+    c.in-Accepted.counts.racks c.decode-below.new.rows c.decode-below.new.starts c.decode-below.new.goals =
+    ring-tables (order_accepted c.decode-below.ensures.result_value c.in-Accepted.is)
+    c.decode-below.ensures.rows_after (c.is_ring.ensures.0 c.if-is_ring.true) c.if-n-m.false
+    c.decode-below.ensures.starts_after c.decode-below.ensures.goals_after in it))).0 c.if-not-same_round.false)) in
     record {
       result_value = up;
       result_value_2 = handed (order_accepted c.decode-below.ensures.result_value c.in-Accepted.is) up;
@@ -78,7 +102,10 @@ overflow_add-m c = omega (arith, (order_accepted c.decode-below.ensures.result_v
 
 pub returns-then-n-m-2 : goal.returns-then-n-m-2
 returns-then-n-m-2 c =
-    let down = crowded (order_accepted c.decode-below.ensures.result_value c.in-Accepted.is) (λ r. false≢true (sym c.if-is_ring.false ∙ c.is_ring.ensures.1 ((rings (order_accepted c.decode-below.ensures.result_value c.in-Accepted.is) c.decode-below.ensures.rows_after).1 r))) (omega arith) in
+    let down = crowded (order_accepted c.decode-below.ensures.result_value c.in-Accepted.is)
+    (λ r. false≢true (sym c.if-is_ring.false ∙ c.is_ring.ensures.1 ((rings
+    (order_accepted c.decode-below.ensures.result_value c.in-Accepted.is) c.decode-below.ensures.rows_after).1 r)))
+    (omega arith) in
     record {
       result_value = down;
       result_value_2 = refused_too c.args.order.now 20 0 down;
@@ -88,11 +115,16 @@ returns-then-n-m-2 c =
     }
 
 pub is_biconnected-requires : goal.is_biconnected-requires
-is_biconnected-requires c = filled_rows (order_accepted c.decode-below.ensures.result_value c.in-Accepted.is) c.decode-below.ensures.rows_after
+is_biconnected-requires c = filled_rows (order_accepted c.decode-below.ensures.result_value c.in-Accepted.is)
+    c.decode-below.ensures.rows_after
 
 pub returns-then-not-is_biconnected : goal.returns-then-not-is_biconnected
 returns-then-not-is_biconnected c =
-    let down = apart (order_accepted c.decode-below.ensures.result_value c.in-Accepted.is) c.decode-below.ensures.rows_after ((λ r. false≢true (sym c.if-is_ring.false ∙ c.is_ring.ensures.1 ((rings (order_accepted c.decode-below.ensures.result_value c.in-Accepted.is) c.decode-below.ensures.rows_after).1 r)))) c.if-n-m-2.false _ c.is_biconnected.ensures c.if-not-is_biconnected.true in
+    let down = apart (order_accepted c.decode-below.ensures.result_value c.in-Accepted.is)
+    c.decode-below.ensures.rows_after ((λ r. false≢true (sym c.if-is_ring.false ∙ c.is_ring.ensures.1
+    ((rings (order_accepted c.decode-below.ensures.result_value c.in-Accepted.is)
+    c.decode-below.ensures.rows_after).1 r)))) c.if-n-m-2.false _ c.is_biconnected.ensures
+    c.if-not-is_biconnected.true in
     record {
       result_value = down;
       result_value_2 = refused_too c.args.order.now 21 0 down;
@@ -107,7 +139,10 @@ is_four_sided-requires c =
 
 pub returns-then-not-is_four_sided : goal.returns-then-not-is_four_sided
 returns-then-not-is_four_sided c =
-    let down = many_sided (order_accepted c.decode-below.ensures.result_value c.in-Accepted.is) c.decode-below.ensures.rows_after ((λ r. false≢true (sym c.if-is_ring.false ∙ c.is_ring.ensures.1 ((rings (order_accepted c.decode-below.ensures.result_value c.in-Accepted.is) c.decode-below.ensures.rows_after).1 r)))) c.if-n-m-2.false _ c.is_biconnected.ensures
+    let down = many_sided (order_accepted c.decode-below.ensures.result_value c.in-Accepted.is)
+    c.decode-below.ensures.rows_after ((λ r. false≢true (sym c.if-is_ring.false ∙ c.is_ring.ensures.1
+    ((rings (order_accepted c.decode-below.ensures.result_value c.in-Accepted.is)
+    c.decode-below.ensures.rows_after).1 r)))) c.if-n-m-2.false _ c.is_biconnected.ensures
     c.if-not-is_biconnected.false _ c.is_four_sided.ensures c.if-not-is_four_sided.true in
     record {
       result_value = down;
@@ -119,7 +154,10 @@ returns-then-not-is_four_sided c =
 
 pub returns : goal.returns
 returns c =
-    let up = plain (order_accepted c.decode-below.ensures.result_value c.in-Accepted.is) c.decode-below.ensures.rows_after ((λ r. false≢true (sym c.if-is_ring.false ∙ c.is_ring.ensures.1 ((rings (order_accepted c.decode-below.ensures.result_value c.in-Accepted.is) c.decode-below.ensures.rows_after).1 r)))) c.if-n-m-2.false _ c.is_biconnected.ensures
+    let up = plain (order_accepted c.decode-below.ensures.result_value c.in-Accepted.is)
+    c.decode-below.ensures.rows_after ((λ r. false≢true (sym c.if-is_ring.false ∙ c.is_ring.ensures.1
+    ((rings (order_accepted c.decode-below.ensures.result_value c.in-Accepted.is)
+    c.decode-below.ensures.rows_after).1 r)))) c.if-n-m-2.false _ c.is_biconnected.ensures
     c.if-not-is_biconnected.false _ c.is_four_sided.ensures c.if-not-is_four_sided.false in
     record {
       result_value = up;

@@ -17,26 +17,39 @@ pub places-from-requires : goal.places-from-requires
 places-from-requires c =
     let few = (rows c.requires.1).small in
     let less = c.requires.1.less in
-    standing_of (starts_on c.requires.1 c.circle-circle.result c.circle-circle.ensures.circle c.circle-circle.ensures.by_index) (omega arith) few
+    standing_of (starts_on c.requires.1 c.circle-circle.result c.circle-circle.ensures.circle
+    c.circle-circle.ensures.by_index) (omega arith) few
     (omega arith) c.circle-circle.ensures.circle.inside
 
 pub places-to-requires : goal.places-to-requires
 places-to-requires c =
     let few = (rows c.requires.1).small in
     let less = c.requires.1.less in
-    standing_of (goals_on c.requires.1 c.circle-circle.result c.circle-circle.ensures.circle c.circle-circle.ensures.by_index) (omega arith) few
+    standing_of (goals_on c.requires.1 c.circle-circle.result c.circle-circle.ensures.circle
+    c.circle-circle.ensures.by_index) (omega arith) few
     (omega arith) c.circle-circle.ensures.circle.inside
 
 pub same_order-requires : goal.same_order-requires
 same_order-requires c = record {
   n_bound = ((rows c.requires.1).small, c.requires.1.less);
-  places = ((let it : StandAt c.args.n c.args.m (row c.circle-circle.result) (row c.args.starts.now) (row c.places-from.result) = stand_at (starts_on c.requires.1 c.circle-circle.result c.circle-circle.ensures.circle c.circle-circle.ensures.by_index) (row c.places-from.result) c.places-from.ensures.by_index in it)).places;
-  places_2 = ((let it : StandAt c.args.n c.args.m (row c.circle-circle.result) (row c.args.goals.now) (row c.places-to.result) = stand_at (goals_on c.requires.1 c.circle-circle.result c.circle-circle.ensures.circle c.circle-circle.ensures.by_index) (row c.places-to.result) c.places-to.ensures.by_index in it)).places;
+  places = ((let it : StandAt c.args.n c.args.m (row c.circle-circle.result) (row c.args.starts.now)
+      (row c.places-from.result) = stand_at (starts_on c.requires.1 c.circle-circle.result
+      c.circle-circle.ensures.circle c.circle-circle.ensures.by_index) (row c.places-from.result)
+      c.places-from.ensures.by_index in it)).places;
+  places_2 = ((let it : StandAt c.args.n c.args.m (row c.circle-circle.result) (row c.args.goals.now)
+      (row c.places-to.result) = stand_at (goals_on c.requires.1 c.circle-circle.result c.circle-circle.ensures.circle
+      c.circle-circle.ensures.by_index) (row c.places-to.result) c.places-to.ensures.by_index in it)).places;
 }
 
 pub returns : goal.returns
 returns c =
     λ o t.
     let says = ring-says t c.circle-circle.result c.circle-circle.ensures.circle c.circle-circle.ensures.by_index
-    (row c.places-from.result) (row c.places-to.result) ((let it : StandAt c.args.n c.args.m (row c.circle-circle.result) (row c.args.starts.now) (row c.places-from.result) = stand_at (starts_on c.requires.1 c.circle-circle.result c.circle-circle.ensures.circle c.circle-circle.ensures.by_index) (row c.places-from.result) c.places-from.ensures.by_index in it)) ((let it : StandAt c.args.n c.args.m (row c.circle-circle.result) (row c.args.goals.now) (row c.places-to.result) = stand_at (goals_on c.requires.1 c.circle-circle.result c.circle-circle.ensures.circle c.circle-circle.ensures.by_index) (row c.places-to.result) c.places-to.ensures.by_index in it)) in
+    (row c.places-from.result) (row c.places-to.result) ((let it : StandAt c.args.n c.args.m
+    (row c.circle-circle.result) (row c.args.starts.now) (row c.places-from.result) = stand_at
+    (starts_on c.requires.1 c.circle-circle.result c.circle-circle.ensures.circle c.circle-circle.ensures.by_index)
+    (row c.places-from.result) c.places-from.ensures.by_index in it))
+    ((let it : StandAt c.args.n c.args.m (row c.circle-circle.result) (row c.args.goals.now)
+    (row c.places-to.result) = stand_at (goals_on c.requires.1 c.circle-circle.result c.circle-circle.ensures.circle
+    c.circle-circle.ensures.by_index) (row c.places-to.result) c.places-to.ensures.by_index in it)) in
     says_same says.0 says.1 c.same_order.ensures

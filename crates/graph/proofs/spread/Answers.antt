@@ -14,7 +14,8 @@ returns-then-fresh-eq0 c =
 
 pub loop-fresh-init : goal.loop-fresh-init
 loop-fresh-init c =
-    begin c.args.rows.now c.args.free c.args.targets c.args.goal c.args.levels.now _ c.requires.levels_len c.ranges.free.fits c.if-fresh-eq0.false
+    begin c.args.rows.now c.args.free c.args.targets c.args.goal c.args.levels.now _ c.requires.levels_len
+    c.ranges.free.fits c.if-fresh-eq0.false
     c.minus-left.ensures
 
 pub returns-then-fresh-goal-ne0 : goal.returns-then-fresh-goal-ne0

@@ -38,7 +38,10 @@ copy_places-requires c =
 
 pub copy_places-requires-2 : goal.copy_places-requires-2
 copy_places-requires-2 c =
-    let all = ((let it : c.args.lane.end - c.args.lane.start + c.search-route.result.size ≤ 64 = let small = c.requires.rows.small in let inner = c.requires.lane_on.handle.inner in let within = c.requires.lane_on.within in let short = route_short c.requires.rows c.requires.lane_on _ c.part-stage.ensures _ _ _ c.only.ensures c.search-route.ensures in omega arith in it)) in
+    let all = ((let it : c.args.lane.end - c.args.lane.start + c.search-route.result.size ≤ 64 = let small =
+    c.requires.rows.small in let inner = c.requires.lane_on.handle.inner in let within =
+    c.requires.lane_on.within in let short = route_short c.requires.rows c.requires.lane_on _ c.part-stage.ensures _
+    _ _ c.only.ensures c.search-route.ensures in omega arith in it)) in
     record {
       count_bound = omega arith;
       count_bound_2 = all;
@@ -46,7 +49,10 @@ copy_places-requires-2 c =
     }
 
 pub overflow_add-result : goal.overflow_add-result
-overflow_add-result c = let all = ((let it : c.args.lane.end - c.args.lane.start + c.search-route.result.size ≤ 64 = let small = c.requires.rows.small in let inner = c.requires.lane_on.handle.inner in let within = c.requires.lane_on.within in let short = route_short c.requires.rows c.requires.lane_on _ c.part-stage.ensures _ _ _ c.only.ensures c.search-route.ensures in omega arith in it)) in omega arith
+overflow_add-result c = let all = ((let it : c.args.lane.end - c.args.lane.start + c.search-route.result.size ≤ 64 =
+    let small = c.requires.rows.small in let inner = c.requires.lane_on.handle.inner in let within =
+    c.requires.lane_on.within in let short = route_short c.requires.rows c.requires.lane_on _ c.part-stage.ensures _ _ _
+    c.only.ensures c.search-route.ensures in omega arith in it)) in omega arith
 
 pub returns : goal.returns
 returns c =

@@ -34,8 +34,11 @@ returns-then-racks-p c =
     says_no (λ all. c.if-racks-p.true (all c.loop-i.i (omega arith) (omega arith)))
 
 pub loop-i-preserved : goal.loop-i-preserved
-loop-i-preserved c =
-    (omega arith, agreed_next (row c.args.order.now) (row c.args.goal.now) (row c.args.racks.now) c.args.s c.loop-i.i c.if-racks-p.false c.loop-i.invariant.1)
+loop-i-preserved c = (
+  omega arith,
+  agreed_next (row c.args.order.now) (row c.args.goal.now) (row c.args.racks.now) c.args.s c.loop-i.i
+      c.if-racks-p.false c.loop-i.invariant.1,
+)
 
 pub returns : goal.returns
 returns c = says-yes (λ j le l. c.loop-i.invariant.1 j le (omega arith))

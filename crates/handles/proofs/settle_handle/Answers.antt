@@ -70,7 +70,8 @@ loop-k-smaller c =
 
 pub loop-k-preserved : goal.loop-k-preserved
 loop-k-preserved c =
-    settling_next c.loop-k.invariant c.loop-k-test.true c.place-state.ensures.trip c.place-state.ensures.lane_placing_2 c.place-state.ensures.log_len_unchanged
+    settling_next c.loop-k.invariant c.loop-k-test.true c.place-state.ensures.trip c.place-state.ensures.lane_placing_2
+    c.place-state.ensures.log_len_unchanged
 
 pub shape_of-tail : goal.shape_of-tail
 shape_of-tail c = c.loop-k.invariant.trip.tail
@@ -80,6 +81,10 @@ returns c =
     let inner = c.requires.lane_on.handle.inner in
     record {
       trip = settling_trip c.loop-k.invariant c.loop-k-test.false;
-      lane_settled = record { table = c.loop-k.invariant.placing.table; agreed = settling_end c.loop-k.invariant (omega arith) c.loop-k-test.false };
+      lane_settled = record {
+        table = c.loop-k.invariant.placing.table;
+        agreed = settling_end c.loop-k.invariant
+            (omega arith) c.loop-k-test.false;
+      };
       log_len_unchanged = c.loop-k.invariant.log;
     }

@@ -7,7 +7,8 @@ use Rattle.handles.proofs.settle_handle.Given as goal
 
 abbrev pub invariant-loop-k : goal.invariant-loop-k
 invariant-loop-k l =
-    Settling l.rows l.lane.positions (row l.lane.order) (row l.goal) l.s l.e l.k l.initial.state l.initial.log l.initial.tail l.state l.log l.tail
+    Settling l.rows l.lane.positions (row l.lane.order) (row l.goal) l.s l.e l.k l.initial.state l.initial.log
+    l.initial.tail l.state l.log l.tail
 
 abbrev pub decreases-loop-k : goal.decreases-loop-k
 decreases-loop-k l = l.e - l.s - l.k

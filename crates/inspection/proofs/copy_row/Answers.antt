@@ -12,8 +12,12 @@ pub bounds-buffer-at : goal.bounds-buffer-at
 bounds-buffer-at c = omega (arith, c.loop-i.invariant.2.same_length)
 
 pub loop-i-preserved : goal.loop-i-preserved
-loop-i-preserved c =
-    (omega arith, c.loop-i.invariant.1, copied_more (up_to c.args.count (row c.args.bytes.now)) c.args.at c.loop-i.i _ _ _ c.used.ensures (omega arith) c.loop-i.invariant.2)
+loop-i-preserved c = (
+  omega arith,
+  c.loop-i.invariant.1,
+  copied_more (up_to c.args.count (row c.args.bytes.now)) c.args.at c.loop-i.i _ _
+      _ c.used.ensures (omega arith) c.loop-i.invariant.2,
+)
 
 pub shape_of-buffer : goal.shape_of-buffer
 shape_of-buffer c = c.loop-i.invariant.2.same_length

@@ -6,7 +6,8 @@ use Rattle.inspection.specs.Inspection.{up_to, Copied}
 use Rattle.inspection.proofs.copy_row.Given as goal
 
 abbrev pub invariant-loop-i : goal.invariant-loop-i
-invariant-loop-i l = (l.i ≤ 64) × (l.at + 64 ≤ length l.initial.buffer) × Copied (up_to l.count (row l.bytes)) l.at l.i l.initial.buffer l.buffer
+invariant-loop-i l = (l.i ≤ 64) × (l.at + 64 ≤ length l.initial.buffer) × Copied (up_to l.count (row l.bytes)) l.at l.i
+    l.initial.buffer l.buffer
 
 abbrev pub decreases-loop-i : goal.decreases-loop-i
 decreases-loop-i l = 64 - l.i

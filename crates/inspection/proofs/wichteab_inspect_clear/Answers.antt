@@ -30,8 +30,22 @@ returns-in_default c =
 
 pub returns-then-position-ge64 : goal.returns-then-position-ge64
 returns-then-position-ge64 c =
-    let far = off_floor ((let it : Decoded c.args.order.now c.in-Accepted.counts.positions c.in-Accepted.counts.edges c.in-Accepted.counts.racks c.decode-below.new.rows c.decode-below.new.starts = record { answer = ap answer_of (sym c.in-Accepted.is) ∙ c.decode-below.ensures.result_value; filled = c.decode-below.ensures.rows_after; placed = c.decode-below.ensures.starts_after } in it)) c.args.held c.args.position c.if-position-ge64.true in
-    let none = number_none ((let it : Decoded c.args.order.now c.in-Accepted.counts.positions c.in-Accepted.counts.edges c.in-Accepted.counts.racks c.decode-below.new.rows c.decode-below.new.starts = record { answer = ap answer_of (sym c.in-Accepted.is) ∙ c.decode-below.ensures.result_value; filled = c.decode-below.ensures.rows_after; placed = c.decode-below.ensures.starts_after } in it)) c.args.held c.args.position _ c.if-buffer-lt64.false far in
+    let far = off_floor ((let it : Decoded c.args.order.now c.in-Accepted.counts.positions c.in-Accepted.counts.edges
+    c.in-Accepted.counts.racks c.decode-below.new.rows c.decode-below.new.starts = record {
+      answer = ap answer_of (sym c.in-Accepted.is) ∙ c.decode-below.ensures.result_value;
+      filled =
+          c.decode-below.ensures.rows_after;
+      placed = c.decode-below.ensures.starts_after;
+    } in it)) c.args.held
+    c.args.position c.if-position-ge64.true in
+    let none = number_none ((let it : Decoded c.args.order.now c.in-Accepted.counts.positions c.in-Accepted.counts.edges
+    c.in-Accepted.counts.racks c.decode-below.new.rows c.decode-below.new.starts = record {
+      answer = ap answer_of (sym c.in-Accepted.is) ∙ c.decode-below.ensures.result_value;
+      filled =
+          c.decode-below.ensures.rows_after;
+      placed = c.decode-below.ensures.starts_after;
+    } in it)) c.args.held
+    c.args.position _ c.if-buffer-lt64.false far in
     record {
       value = sym none;
       clear_left = nothing none;
@@ -39,15 +53,35 @@ returns-then-position-ge64 c =
 
 pub clear-clearing-requires : goal.clear-clearing-requires
 clear-clearing-requires c = record {
-  rows = rows_right ((let it : Decoded c.args.order.now c.in-Accepted.counts.positions c.in-Accepted.counts.edges c.in-Accepted.counts.racks c.decode-below.new.rows c.decode-below.new.starts = record { answer = ap answer_of (sym c.in-Accepted.is) ∙ c.decode-below.ensures.result_value; filled = c.decode-below.ensures.rows_after; placed = c.decode-below.ensures.starts_after } in it));
+  rows = rows_right ((let it : Decoded c.args.order.now c.in-Accepted.counts.positions c.in-Accepted.counts.edges
+      c.in-Accepted.counts.racks c.decode-below.new.rows c.decode-below.new.starts = record {
+        answer = ap answer_of (sym c.in-Accepted.is) ∙ c.decode-below.ensures.result_value;
+        filled =
+            c.decode-below.ensures.rows_after;
+        placed = c.decode-below.ensures.starts_after;
+      } in it));
   p_bound = c.if-position-ge64.false;
-  room_to_clear = room_right ((let it : Decoded c.args.order.now c.in-Accepted.counts.positions c.in-Accepted.counts.edges c.in-Accepted.counts.racks c.decode-below.new.rows c.decode-below.new.starts = record { answer = ap answer_of (sym c.in-Accepted.is) ∙ c.decode-below.ensures.result_value; filled = c.decode-below.ensures.rows_after; placed = c.decode-below.ensures.starts_after } in it)) c.args.held c.args.position;
+  room_to_clear = room_right ((let it : Decoded c.args.order.now c.in-Accepted.counts.positions
+      c.in-Accepted.counts.edges c.in-Accepted.counts.racks c.decode-below.new.rows c.decode-below.new.starts = record {
+        answer = ap answer_of (sym c.in-Accepted.is) ∙ c.decode-below.ensures.result_value;
+        filled =
+            c.decode-below.ensures.rows_after;
+        placed = c.decode-below.ensures.starts_after;
+      } in it)) c.args.held
+      c.args.position;
 }
 
 pub returns-then-not-clearing : goal.returns-then-not-clearing
 returns-then-not-clearing c =
     let not_found = sym (not-not c.clear-clearing.result.found) ∙ ap not c.if-not-clearing.true in
-    let none = told_no_way ((let it : Decoded c.args.order.now c.in-Accepted.counts.positions c.in-Accepted.counts.edges c.in-Accepted.counts.racks c.decode-below.new.rows c.decode-below.new.starts = record { answer = ap answer_of (sym c.in-Accepted.is) ∙ c.decode-below.ensures.result_value; filled = c.decode-below.ensures.rows_after; placed = c.decode-below.ensures.starts_after } in it)) c.args.held c.args.position c.args.buffer.now c.if-buffer-lt64.false c.clear-clearing.ensures not_found in
+    let none = told_no_way ((let it : Decoded c.args.order.now c.in-Accepted.counts.positions c.in-Accepted.counts.edges
+    c.in-Accepted.counts.racks c.decode-below.new.rows c.decode-below.new.starts = record {
+      answer = ap answer_of (sym c.in-Accepted.is) ∙ c.decode-below.ensures.result_value;
+      filled =
+          c.decode-below.ensures.rows_after;
+      placed = c.decode-below.ensures.starts_after;
+    } in it)) c.args.held
+    c.args.position c.args.buffer.now c.if-buffer-lt64.false c.clear-clearing.ensures not_found in
     record {
       value = sym none;
       clear_left = nothing none;
@@ -59,11 +93,39 @@ copy_row-requires c =
     omega arith
 
 pub overflow_add-result : goal.overflow_add-result
-overflow_add-result c = let few = ((let it : (clear_number c.args.order.now c.args.held c.args.position (length c.args.buffer.now) ≡ c.clear-clearing.result.moves + 1) × (c.clear-clearing.result.moves < 64) = told-moves ((let it : Decoded c.args.order.now c.in-Accepted.counts.positions c.in-Accepted.counts.edges c.in-Accepted.counts.racks c.decode-below.new.rows c.decode-below.new.starts = record { answer = ap answer_of (sym c.in-Accepted.is) ∙ c.decode-below.ensures.result_value; filled = c.decode-below.ensures.rows_after; placed = c.decode-below.ensures.starts_after } in it)) c.args.held c.args.position c.args.buffer.now c.if-buffer-lt64.false c.clear-clearing.ensures (sym (not-not c.clear-clearing.result.found) ∙ ap not c.if-not-clearing.false) in it)).1 in omega arith
+overflow_add-result c = let few = ((let it : (clear_number c.args.order.now c.args.held c.args.position
+    (length c.args.buffer.now) ≡ c.clear-clearing.result.moves + 1) × (c.clear-clearing.result.moves < 64) = told-moves
+    ((let it : Decoded c.args.order.now c.in-Accepted.counts.positions c.in-Accepted.counts.edges
+    c.in-Accepted.counts.racks c.decode-below.new.rows c.decode-below.new.starts = record {
+      answer = ap answer_of (sym c.in-Accepted.is) ∙ c.decode-below.ensures.result_value;
+      filled =
+          c.decode-below.ensures.rows_after;
+      placed = c.decode-below.ensures.starts_after;
+    } in it)) c.args.held
+    c.args.position c.args.buffer.now c.if-buffer-lt64.false c.clear-clearing.ensures
+    (sym (not-not c.clear-clearing.result.found) ∙ ap not c.if-not-clearing.false) in it)).1 in omega arith
 
 pub returns : goal.returns
 returns c = record {
-  value = sym ((let it : (clear_number c.args.order.now c.args.held c.args.position (length c.args.buffer.now) ≡ c.clear-clearing.result.moves + 1) × (c.clear-clearing.result.moves < 64) = told-moves ((let it : Decoded c.args.order.now c.in-Accepted.counts.positions c.in-Accepted.counts.edges c.in-Accepted.counts.racks c.decode-below.new.rows c.decode-below.new.starts = record { answer = ap answer_of (sym c.in-Accepted.is) ∙ c.decode-below.ensures.result_value; filled = c.decode-below.ensures.rows_after; placed = c.decode-below.ensures.starts_after } in it)) c.args.held c.args.position c.args.buffer.now c.if-buffer-lt64.false c.clear-clearing.ensures (sym (not-not c.clear-clearing.result.found) ∙ ap not c.if-not-clearing.false) in it)).0;
-  clear_left = shown ((let it : Decoded c.args.order.now c.in-Accepted.counts.positions c.in-Accepted.counts.edges c.in-Accepted.counts.racks c.decode-below.new.rows c.decode-below.new.starts = record { answer = ap answer_of (sym c.in-Accepted.is) ∙ c.decode-below.ensures.result_value; filled = c.decode-below.ensures.rows_after; placed = c.decode-below.ensures.starts_after } in it)) c.args.held c.args.position c.args.buffer.now c.if-buffer-lt64.false c.clear-clearing.ensures (sym (not-not c.clear-clearing.result.found) ∙ ap not c.if-not-clearing.false)
+  value = sym ((let it : (clear_number c.args.order.now c.args.held c.args.position (length c.args.buffer.now) ≡
+      c.clear-clearing.result.moves + 1) × (c.clear-clearing.result.moves < 64) = told-moves
+      ((let it : Decoded c.args.order.now c.in-Accepted.counts.positions c.in-Accepted.counts.edges
+      c.in-Accepted.counts.racks c.decode-below.new.rows c.decode-below.new.starts = record {
+        answer = ap answer_of (sym c.in-Accepted.is) ∙ c.decode-below.ensures.result_value;
+        filled =
+            c.decode-below.ensures.rows_after;
+        placed = c.decode-below.ensures.starts_after;
+      } in it)) c.args.held
+      c.args.position c.args.buffer.now c.if-buffer-lt64.false c.clear-clearing.ensures
+      (sym (not-not c.clear-clearing.result.found) ∙ ap not c.if-not-clearing.false) in it)).0;
+  clear_left = shown ((let it : Decoded c.args.order.now c.in-Accepted.counts.positions c.in-Accepted.counts.edges
+      c.in-Accepted.counts.racks c.decode-below.new.rows c.decode-below.new.starts = record {
+        answer = ap answer_of (sym c.in-Accepted.is) ∙ c.decode-below.ensures.result_value;
+        filled =
+            c.decode-below.ensures.rows_after;
+        placed = c.decode-below.ensures.starts_after;
+      } in it)) c.args.held
+      c.args.position c.args.buffer.now c.if-buffer-lt64.false c.clear-clearing.ensures
+      (sym (not-not c.clear-clearing.result.found) ∙ ap not c.if-not-clearing.false)
       c.copy_row.ensures;
 }

@@ -41,7 +41,8 @@ returns-then-has c =
     let there = c.has.ensures.0 c.if-has.true in
     record {
       trip = trip_more _ (omega arith) (trip_none _ _);
-      lane_fetched = fetch_already c.requires.rows c.requires.lane_on _ c.part-stage.ensures c.requires.lane_placing c.requires.k_bound c.where_is.result is there c.requires.vacancy;
+      lane_fetched = fetch_already c.requires.rows c.requires.lane_on _ c.part-stage.ensures c.requires.lane_placing
+          c.requires.k_bound c.where_is.result is there c.requires.vacancy;
       log_len_unchanged = refl;
     }
 
@@ -57,7 +58,8 @@ open_end-open-requires c = record {
 pub where_is-at-requires : goal.where_is-at-requires
 where_is-at-requires c = record {
   n_bound = c.requires.rows.small;
-  stands = rack_there c.requires.rows c.requires.lane_on (c.open_end-open.ensures.lane_kept _ c.requires.lane_placing) c.requires.k_bound c.next_rack-rack.ensures;
+  stands = rack_there c.requires.rows c.requires.lane_on (c.open_end-open.ensures.lane_kept _ c.requires.lane_placing)
+      c.requires.k_bound c.next_rack-rack.ensures;
 }
 
 pub has-requires-2 : goal.has-requires-2
@@ -77,7 +79,9 @@ returns-then-has-2 c =
     } in
     record {
       trip = trip_more _ (omega arith) c.open_end-open.ensures.trip;
-      lane_fetched = fetch_already c.requires.rows c.requires.lane_on _ c.part-stage.ensures (c.open_end-open.ensures.lane_kept _ c.requires.lane_placing) c.requires.k_bound c.where_is-at.result (c.where_is-at.ensures.there ∙ c.next_rack-rack.ensures) there vacancy;
+      lane_fetched = fetch_already c.requires.rows c.requires.lane_on _ c.part-stage.ensures
+          (c.open_end-open.ensures.lane_kept _ c.requires.lane_placing) c.requires.k_bound c.where_is-at.result
+          (c.where_is-at.ensures.there ∙ c.next_rack-rack.ensures) there vacancy;
       log_len_unchanged = c.open_end-open.ensures.log_len_unchanged;
     }
 
@@ -87,11 +91,17 @@ place_of-q-requires c =
 
 pub carry-requires : goal.carry-requires
 carry-requires c =
-    let q = place_at c.place_of-q.ensures ((let it : Between (row c.args.lane.order) c.args.lane.start c.args.lane.end c.where_is-at.result = let away = fails c.has-2.ensures c.if-has-2.false in fetch_place c.requires.rows c.requires.lane_on _ c.part-stage.ensures (c.open_end-open.ensures.lane_kept _ c.requires.lane_placing) c.requires.k_bound c.where_is-at.result c.where_is-at.ensures.inside (c.where_is-at.ensures.there ∙ c.next_rack-rack.ensures) away in it)) in
+    let q = place_at c.place_of-q.ensures ((let it : Between (row c.args.lane.order) c.args.lane.start c.args.lane.end
+    c.where_is-at.result = let away = fails c.has-2.ensures c.if-has-2.false in fetch_place c.requires.rows
+    c.requires.lane_on _ c.part-stage.ensures (c.open_end-open.ensures.lane_kept _ c.requires.lane_placing)
+    c.requires.k_bound c.where_is-at.result c.where_is-at.ensures.inside
+    (c.where_is-at.ensures.there ∙ c.next_rack-rack.ensures) away in it)) in
     let can : LaneCarriable c.args.lane c.place_of-q.result (row c.open_end-open.result.racks) = record {
       table = (c.open_end-open.ensures.lane_kept _ c.requires.lane_placing).table;
       vacant = c.open_end-open.ensures.lane_open;
-      held = fetch_held c.requires.rows c.requires.lane_on _ c.part-stage.ensures (c.open_end-open.ensures.lane_kept _ c.requires.lane_placing) c.requires.k_bound c.where_is-at.result _ (c.where_is-at.ensures.there ∙ c.next_rack-rack.ensures) q.is;
+      held = fetch_held c.requires.rows c.requires.lane_on _ c.part-stage.ensures
+          (c.open_end-open.ensures.lane_kept _ c.requires.lane_placing) c.requires.k_bound c.where_is-at.result _
+          (c.where_is-at.ensures.there ∙ c.next_rack-rack.ensures) q.is;
     } in
     let room = room_then c.requires.room c.open_end-open.ensures.log_len_unchanged c.open_end-open.ensures.trip in
     record {
@@ -109,11 +119,20 @@ shape_of-tail c =
 
 pub returns : goal.returns
 returns c =
-    let q = place_at c.place_of-q.ensures ((let it : Between (row c.args.lane.order) c.args.lane.start c.args.lane.end c.where_is-at.result = let away = fails c.has-2.ensures c.if-has-2.false in fetch_place c.requires.rows c.requires.lane_on _ c.part-stage.ensures (c.open_end-open.ensures.lane_kept _ c.requires.lane_placing) c.requires.k_bound c.where_is-at.result c.where_is-at.ensures.inside (c.where_is-at.ensures.there ∙ c.next_rack-rack.ensures) away in it)) in
-    let table = table_went c.requires.rows.inside c.carry.ensures.trip.went (c.open_end-open.ensures.lane_kept _ c.requires.lane_placing).table in
+    let q = place_at c.place_of-q.ensures ((let it : Between (row c.args.lane.order) c.args.lane.start c.args.lane.end
+    c.where_is-at.result = let away = fails c.has-2.ensures c.if-has-2.false in fetch_place c.requires.rows
+    c.requires.lane_on _ c.part-stage.ensures (c.open_end-open.ensures.lane_kept _ c.requires.lane_placing)
+    c.requires.k_bound c.where_is-at.result c.where_is-at.ensures.inside
+    (c.where_is-at.ensures.there ∙ c.next_rack-rack.ensures) away in it)) in
+    let table = table_went c.requires.rows.inside c.carry.ensures.trip.went
+    (c.open_end-open.ensures.lane_kept _ c.requires.lane_placing).table in
     record {
       trip = trip_append c.open_end-open.ensures.trip c.carry.ensures.trip;
-      lane_fetched = fetch_carried c.requires.rows c.requires.lane_on _ c.part-stage.ensures (c.open_end-open.ensures.lane_kept _ c.requires.lane_placing) c.requires.k_bound c.args.lane.beside c.where_is-at.result
-          c.place_of-q.result c.requires.lane_beside.there c.requires.lane_beside.right (c.where_is-at.ensures.there ∙ c.next_rack-rack.ensures) q.is c.open_end-open.ensures.lane_open.end c.carry.ensures.lane_carried table;
+      lane_fetched = fetch_carried c.requires.rows c.requires.lane_on _ c.part-stage.ensures
+          (c.open_end-open.ensures.lane_kept _ c.requires.lane_placing) c.requires.k_bound c.args.lane.beside
+          c.where_is-at.result
+          c.place_of-q.result c.requires.lane_beside.there c.requires.lane_beside.right
+          (c.where_is-at.ensures.there ∙ c.next_rack-rack.ensures) q.is c.open_end-open.ensures.lane_open.end
+          c.carry.ensures.lane_carried table;
       log_len_unchanged = c.carry.ensures.log_len_unchanged ∙ c.open_end-open.ensures.log_len_unchanged;
     }

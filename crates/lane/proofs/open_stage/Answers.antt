@@ -48,7 +48,8 @@ clear_within-requires c =
     record {
       rows = c.requires.rows;
       inside = λ q h. region_below c.requires.lane_on c.args.k q ((has q).0 h);
-      reaches = region_reaches c.requires.lane_on c.requires.lane_stacked.1 c.args.lane.right c.requires.rows.symmetric (λ q x. (has q).1 x) here;
+      reaches = region_reaches c.requires.lane_on c.requires.lane_stacked.1 c.args.lane.right c.requires.rows.symmetric
+          (λ q x. (has q).1 x) here;
       room_to_clear = clear_room (region_few c.requires.lane_on c.args.k (λ q x. (has q).0 x))
           (fits_anew (open_moves c.args.lane.positions) (omega arith) (omega arith) c.requires.room);
     }

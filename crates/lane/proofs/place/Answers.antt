@@ -42,7 +42,8 @@ open_stage-opened-requires c = record {
 
 pub fetch-fetched-requires : goal.fetch-fetched-requires
 fetch-fetched-requires c =
-    let room = place_room c.args.lane.positions c.open_stage-opened.ensures.trip c.requires.room c.open_stage-opened.ensures.log_len_unchanged in
+    let room = place_room c.args.lane.positions c.open_stage-opened.ensures.trip c.requires.room
+    c.open_stage-opened.ensures.log_len_unchanged in
     record {
       rows = c.requires.rows;
       lane_on = c.requires.lane_on;
@@ -56,21 +57,31 @@ fetch-fetched-requires c =
 pub where_is-from-requires : goal.where_is-from-requires
 where_is-from-requires c = record {
   n_bound = c.requires.rows.small;
-  stands = rack_there c.requires.rows c.requires.lane_on c.fetch-fetched.ensures.lane_fetched.placing c.requires.k_bound c.next_rack-rack.ensures;
+  stands = rack_there c.requires.rows c.requires.lane_on c.fetch-fetched.ensures.lane_fetched.placing c.requires.k_bound
+      c.next_rack-rack.ensures;
 }
 
 pub bring-brought-requires : goal.bring-brought-requires
 bring-brought-requires c =
     let rack : Bringable (Has c.part-stage.result) c.where_is-from.result c.args.lane.left _ = record {
-      leaves = place-from c.requires.rows c.requires.lane_on _ c.part-stage.ensures c.fetch-fetched.ensures.lane_fetched ((let it : (next_rack c.args.lane (row c.args.goal.now) c.args.k) ≢ 0 = rack_some c.requires.rows c.requires.lane_on c.requires.lane_placing c.requires.k_bound in it)) c.where_is-from.result (c.where_is-from.ensures.there ∙ c.next_rack-rack.ensures);
+      leaves = place-from c.requires.rows c.requires.lane_on _ c.part-stage.ensures c.fetch-fetched.ensures.lane_fetched
+          ((let it : (next_rack c.args.lane (row c.args.goal.now) c.args.k) ≢ 0 = rack_some c.requires.rows
+          c.requires.lane_on c.requires.lane_placing c.requires.k_bound in it)) c.where_is-from.result
+          (c.where_is-from.ensures.there ∙ c.next_rack-rack.ensures);
       enters = stage_in c.requires.rows c.requires.lane_on _ c.part-stage.ensures c.args.lane.left c.requires.lane_on.handle.left;
-      held = rack_held ((let it : (next_rack c.args.lane (row c.args.goal.now) c.args.k) ≢ 0 = rack_some c.requires.rows c.requires.lane_on c.requires.lane_placing c.requires.k_bound in it)) (c.where_is-from.ensures.there ∙ c.next_rack-rack.ensures);
+      held = rack_held ((let it : (next_rack c.args.lane (row c.args.goal.now) c.args.k) ≢ 0 = rack_some c.requires.rows
+          c.requires.lane_on c.requires.lane_placing c.requires.k_bound in it))
+          (c.where_is-from.ensures.there ∙ c.next_rack-rack.ensures);
       vacancy = stage_vacancy c.requires.rows c.requires.lane_on _ c.part-stage.ensures c.fetch-fetched.ensures.lane_fetched.vacancy;
     } in
     let room : RoomToBring (Has c.part-stage.result) _ _ _ = record {
       most = c.args.lane.positions - 2;
       few = stage_few c.requires.rows c.requires.lane_on _ c.part-stage.ensures;
-      fits = fits_less ((c.args.lane.positions - 2) * (c.args.lane.positions - 2)) (omega arith) ((let it : Fits (relogged c.fetch-fetched.result 0) c.fetch-fetched.new.log c.fetch-fetched.new.tail (home_moves c.args.lane.positions) = place_fits c.args.lane.positions c.open_stage-opened.ensures.trip c.fetch-fetched.ensures.trip c.requires.rows.small c.requires.room (c.fetch-fetched.ensures.log_len_unchanged ∙ c.open_stage-opened.ensures.log_len_unchanged) in it));
+      fits = fits_less ((c.args.lane.positions - 2) * (c.args.lane.positions - 2)) (omega arith)
+          ((let it : Fits (relogged c.fetch-fetched.result 0) c.fetch-fetched.new.log c.fetch-fetched.new.tail
+          (home_moves c.args.lane.positions) = place_fits c.args.lane.positions c.open_stage-opened.ensures.trip
+          c.fetch-fetched.ensures.trip c.requires.rows.small c.requires.room
+          (c.fetch-fetched.ensures.log_len_unchanged ∙ c.open_stage-opened.ensures.log_len_unchanged) in it));
     } in
     record {
       rows = c.requires.rows;
@@ -88,16 +99,29 @@ pub clear_within-cleared-requires : goal.clear_within-cleared-requires
 clear_within-cleared-requires c = record {
   rows = c.requires.rows;
   inside = place_below_rest c.requires.rows c.requires.lane_on _ c.part-stage.ensures _ c.without.ensures;
-  reaches = place-reaches c.requires.rows c.requires.lane_on _ c.part-stage.ensures _ c.without.ensures c.where_is-from.result c.bring-brought.ensures.brought (rack_held ((let it : (next_rack c.args.lane (row c.args.goal.now) c.args.k) ≢ 0 = rack_some c.requires.rows c.requires.lane_on c.requires.lane_placing c.requires.k_bound in it)) (c.where_is-from.ensures.there ∙ c.next_rack-rack.ensures));
+  reaches = place-reaches c.requires.rows c.requires.lane_on _ c.part-stage.ensures _ c.without.ensures
+      c.where_is-from.result c.bring-brought.ensures.brought (rack_held ((let it :
+      (next_rack c.args.lane (row c.args.goal.now) c.args.k) ≢ 0 = rack_some c.requires.rows c.requires.lane_on
+      c.requires.lane_placing c.requires.k_bound in it)) (c.where_is-from.ensures.there ∙ c.next_rack-rack.ensures));
   room_to_clear = clear_room (rest_few c.requires.rows c.requires.lane_on _ c.part-stage.ensures _ c.without.ensures)
-      (fits_less (c.args.lane.positions - 3) (omega arith) (fits_then ((let it : Fits (relogged c.fetch-fetched.result 0) c.fetch-fetched.new.log c.fetch-fetched.new.tail (home_moves c.args.lane.positions) = place_fits c.args.lane.positions c.open_stage-opened.ensures.trip c.fetch-fetched.ensures.trip c.requires.rows.small c.requires.room (c.fetch-fetched.ensures.log_len_unchanged ∙ c.open_stage-opened.ensures.log_len_unchanged) in it)) (brought_few (stage_few c.requires.rows c.requires.lane_on _ c.part-stage.ensures) c.bring-brought.ensures.brought_by)));
+      (fits_less (c.args.lane.positions - 3) (omega arith) (fits_then ((let it : Fits
+      (relogged c.fetch-fetched.result 0) c.fetch-fetched.new.log c.fetch-fetched.new.tail
+      (home_moves c.args.lane.positions) = place_fits c.args.lane.positions c.open_stage-opened.ensures.trip
+      c.fetch-fetched.ensures.trip c.requires.rows.small c.requires.room
+      (c.fetch-fetched.ensures.log_len_unchanged ∙ c.open_stage-opened.ensures.log_len_unchanged) in it))
+      (brought_few (stage_few c.requires.rows c.requires.lane_on _ c.part-stage.ensures)
+      c.bring-brought.ensures.brought_by)));
 }
 
 pub turn-requires : goal.turn-requires
 turn-requires c =
     let few = stage_few c.requires.rows c.requires.lane_on _ c.part-stage.ensures in
     let rest = rest_few c.requires.rows c.requires.lane_on _ c.part-stage.ensures _ c.without.ensures in
-    let room = fits_then (fits_then ((let it : Fits (relogged c.fetch-fetched.result 0) c.fetch-fetched.new.log c.fetch-fetched.new.tail (home_moves c.args.lane.positions) = place_fits c.args.lane.positions c.open_stage-opened.ensures.trip c.fetch-fetched.ensures.trip c.requires.rows.small c.requires.room (c.fetch-fetched.ensures.log_len_unchanged ∙ c.open_stage-opened.ensures.log_len_unchanged) in it)) (brought_few few c.bring-brought.ensures.brought_by)) (clear_few rest c.clear_within-cleared.ensures).journey in
+    let room = fits_then (fits_then ((let it : Fits (relogged c.fetch-fetched.result 0) c.fetch-fetched.new.log
+    c.fetch-fetched.new.tail (home_moves c.args.lane.positions) = place_fits c.args.lane.positions
+    c.open_stage-opened.ensures.trip c.fetch-fetched.ensures.trip c.requires.rows.small c.requires.room
+    (c.fetch-fetched.ensures.log_len_unchanged ∙ c.open_stage-opened.ensures.log_len_unchanged) in it))
+    (brought_few few c.bring-brought.ensures.brought_by)) (clear_few rest c.clear_within-cleared.ensures).journey in
     record {
       simple = cycle_simple c.requires.rows c.requires.lane_on c.requires.lane_closed;
       turnable = cycle-vacancy c.requires.rows c.requires.lane_on c.requires.lane_closed c.clear_within-cleared.ensures.cleared;
@@ -115,16 +139,23 @@ returns c =
     let short = c.requires.lane_closed.short in
     let last = (c.turn.ensures.turn_journey _ (cycle-round c.requires.rows c.requires.lane_on c.requires.lane_closed)).journey in
     let go = brought_few (stage_few c.requires.rows c.requires.lane_on _ c.part-stage.ensures) c.bring-brought.ensures.brought_by in
-    let way = (clear_few (rest_few c.requires.rows c.requires.lane_on _ c.part-stage.ensures _ c.without.ensures) c.clear_within-cleared.ensures).journey in
+    let way = (clear_few (rest_few c.requires.rows c.requires.lane_on _ c.part-stage.ensures _ c.without.ensures)
+    c.clear_within-cleared.ensures).journey in
     let table = table_went c.requires.rows.inside go.trip.went c.fetch-fetched.ensures.lane_fetched.placing.table in
-    let placing = place_brought c.requires.rows c.requires.lane_on _ c.part-stage.ensures c.fetch-fetched.ensures.lane_fetched.placing table c.bring-brought.ensures.brought in
+    let placing = place_brought c.requires.rows c.requires.lane_on _ c.part-stage.ensures
+    c.fetch-fetched.ensures.lane_fetched.placing table c.bring-brought.ensures.brought in
     let table2 = table_went c.requires.rows.inside way.trip.went table in
-    let placing2 = place_cleared c.requires.rows c.requires.lane_on _ c.part-stage.ensures _ c.without.ensures placing table2 c.clear_within-cleared.ensures.cleared in
+    let placing2 = place_cleared c.requires.rows c.requires.lane_on _ c.part-stage.ensures _ c.without.ensures placing
+    table2 c.clear_within-cleared.ensures.cleared in
     let table3 = table_went c.requires.rows.inside last.trip.went table2 in
-    let there = place_held c.requires.rows c.requires.lane_on _ c.part-stage.ensures _ c.without.ensures c.clear_within-cleared.ensures.cleared ∙ c.bring-brought.ensures.brought.there ∙ (c.where_is-from.ensures.there ∙ c.next_rack-rack.ensures) in
+    let there = place_held c.requires.rows c.requires.lane_on _ c.part-stage.ensures _ c.without.ensures
+    c.clear_within-cleared.ensures.cleared ∙ c.bring-brought.ensures.brought.there ∙
+    (c.where_is-from.ensures.there ∙ c.next_rack-rack.ensures) in
     let home = trip_append go.trip (trip_append way.trip last.trip) in
     record {
       trip = place_trip c.args.lane.positions c.open_stage-opened.ensures.trip c.fetch-fetched.ensures.trip (omega arith) home;
-      lane_placing_2 = placing_turned c.requires.rows c.requires.lane_on placing2 c.requires.k_bound c.requires.lane_closed there c.turn.ensures.turn_shown.turned table3;
-      log_len_unchanged = last.log ∙ way.log ∙ go.log ∙ c.fetch-fetched.ensures.log_len_unchanged ∙ c.open_stage-opened.ensures.log_len_unchanged;
+      lane_placing_2 = placing_turned c.requires.rows c.requires.lane_on placing2 c.requires.k_bound
+          c.requires.lane_closed there c.turn.ensures.turn_shown.turned table3;
+      log_len_unchanged = last.log ∙ way.log ∙ go.log ∙ c.fetch-fetched.ensures.log_len_unchanged ∙
+          c.open_stage-opened.ensures.log_len_unchanged;
     }

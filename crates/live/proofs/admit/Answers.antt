@@ -17,9 +17,11 @@ returns-in_default c =
 
 pub overflow_cast-result : goal.overflow_cast-result
 overflow_cast-result c =
-    let few = gate_few c.args.allowed c.args.order.now c.args.timetable.now _ _ (ap answer_of_check (sym c.in-Accepted.is) ∙ c.check-checked.ensures) in
+    let few = gate_few c.args.allowed c.args.order.now c.args.timetable.now _ _
+    (ap answer_of_check (sym c.in-Accepted.is) ∙ c.check-checked.ensures) in
     omega arith
 
 pub returns : goal.returns
 returns c =
-    gate_passed c.args.allowed c.args.order.now c.args.timetable.now c.if-not-allowed.false _ _ (ap answer_of_check (sym c.in-Accepted.is) ∙ c.check-checked.ensures)
+    gate_passed c.args.allowed c.args.order.now c.args.timetable.now c.if-not-allowed.false _ _
+    (ap answer_of_check (sym c.in-Accepted.is) ∙ c.check-checked.ensures)

@@ -22,4 +22,9 @@ returns-then-number-eq3 c =
 pub returns : goal.returns
 unfolding role_of
 returns c =
-    rw (ne_eqb c.args.number 1 (λ e. omega arith), ne_eqb c.args.number 2 (λ e. omega arith), ne_eqb c.args.number 3 (λ e. omega arith)) refl
+    rw (
+      ne_eqb c.args.number 1 (λ e. omega arith),
+      ne_eqb c.args.number 2 (λ e. omega arith),
+      ne_eqb c.args.number 3
+          (λ e. omega arith),
+    ) refl

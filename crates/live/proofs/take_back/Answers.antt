@@ -17,7 +17,10 @@ returns-in_default c =
 
 pub returns-then-steps-eq0 : goal.returns-then-steps-eq0
 returns-then-steps-eq0 c =
-    let all = after c.leave-then-steps-eq0.ensures (take_none _ _ _ _ ((let it : Admitted (allowed taking_back c.args.role c.args.floor) c.args.order.now c.args.timetable.now c.in-Accepted.count = let_in taking_back c.args.role c.args.floor _ _ _ c.enter-gate.ensures _ c.in-Accepted.is in it)) (omega arith)) in
+    let all = after c.leave-then-steps-eq0.ensures (take_none _ _ _ _ ((let it : Admitted
+    (allowed taking_back c.args.role c.args.floor) c.args.order.now c.args.timetable.now c.in-Accepted.count =
+    let_in taking_back c.args.role c.args.floor _ _ _ c.enter-gate.ensures _ c.in-Accepted.is in it))
+    (omega arith)) in
     record {
       answer = all.0;
       picture = all.1;
@@ -25,7 +28,10 @@ returns-then-steps-eq0 c =
 
 pub returns-then-count-steps : goal.returns-then-count-steps
 returns-then-count-steps c =
-    let all = after c.leave-then-count-steps.ensures (take_past _ _ _ _ ((let it : Admitted (allowed taking_back c.args.role c.args.floor) c.args.order.now c.args.timetable.now c.in-Accepted.count = let_in taking_back c.args.role c.args.floor _ _ _ c.enter-gate.ensures _ c.in-Accepted.is in it)) (λ e. omega arith) (omega arith)) in
+    let all = after c.leave-then-count-steps.ensures (take_past _ _ _ _ ((let it : Admitted
+    (allowed taking_back c.args.role c.args.floor) c.args.order.now c.args.timetable.now c.in-Accepted.count =
+    let_in taking_back c.args.role c.args.floor _ _ _ c.enter-gate.ensures _ c.in-Accepted.is in it))
+    (λ e. omega arith) (omega arith)) in
     record {
       answer = all.0;
       picture = all.1;
@@ -33,12 +39,17 @@ returns-then-count-steps c =
 
 pub take_back_lent-requires : goal.take_back_lent-requires
 take_back_lent-requires c =
-    take_lent c.args.role c.args.floor c.args.order.now c.args.timetable.now ((let it : Admitted (allowed taking_back c.args.role c.args.floor) c.args.order.now c.args.timetable.now c.in-Accepted.count = let_in taking_back c.args.role c.args.floor _ _ _ c.enter-gate.ensures _ c.in-Accepted.is in it)) (λ e. omega arith) (omega arith)
+    take_lent c.args.role c.args.floor c.args.order.now c.args.timetable.now
+    ((let it : Admitted (allowed taking_back c.args.role c.args.floor) c.args.order.now c.args.timetable.now
+    c.in-Accepted.count = let_in taking_back c.args.role c.args.floor _ _ _ c.enter-gate.ensures _
+    c.in-Accepted.is in it)) (λ e. omega arith) (omega arith)
 
 pub returns-then-not-take_back_lent : goal.returns-then-not-take_back_lent
 returns-then-not-take_back_lent c =
     let all = after c.leave-then-not-take_back_lent.ensures
-    (take_illegal _ _ _ _ ((let it : Admitted (allowed taking_back c.args.role c.args.floor) c.args.order.now c.args.timetable.now c.in-Accepted.count = let_in taking_back c.args.role c.args.floor _ _ _ c.enter-gate.ensures _ c.in-Accepted.is in it)) (λ e. omega arith) (omega arith)
+    (take_illegal _ _ _ _ ((let it : Admitted (allowed taking_back c.args.role c.args.floor) c.args.order.now
+    c.args.timetable.now c.in-Accepted.count = let_in taking_back c.args.role c.args.floor _ _ _
+    c.enter-gate.ensures _ c.in-Accepted.is in it)) (λ e. omega arith) (omega arith)
     (sym c.if-not-take_back_lent.true ∙ c.take_back_lent.ensures.judged)) in
     record {
       answer = all.0;
@@ -47,7 +58,9 @@ returns-then-not-take_back_lent c =
 
 pub returns : goal.returns
 returns c =
-    let all = took_back _ _ _ _ ((let it : Admitted (allowed taking_back c.args.role c.args.floor) c.args.order.now c.args.timetable.now c.in-Accepted.count = let_in taking_back c.args.role c.args.floor _ _ _ c.enter-gate.ensures _ c.in-Accepted.is in it)) (λ e. omega arith) (omega arith)
+    let all = took_back _ _ _ _ ((let it : Admitted (allowed taking_back c.args.role c.args.floor) c.args.order.now
+    c.args.timetable.now c.in-Accepted.count = let_in taking_back c.args.role c.args.floor _ _ _
+    c.enter-gate.ensures _ c.in-Accepted.is in it)) (λ e. omega arith) (omega arith)
     (sym c.if-not-take_back_lent.false ∙ c.take_back_lent.ensures.judged) _ c.take_back_lent.ensures.made in
     record {
       answer = all.0;

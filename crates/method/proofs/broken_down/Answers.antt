@@ -47,7 +47,9 @@ solve-end-requires c =
     let most = room_racks c.requires.some_tables.tables.gave c.requires.some_tables.tables.can c.requires.e_nonzero in
     record {
       rows = filled_rows c.requires.some_tables.tables.gave c.requires.some_tables.tables.rows_are;
-      breaks_down = c.break_down-found.ensures.found (broken c.requires.some_tables.tables.gave c.requires.some_tables.tables.can c.requires.some_tables.tables.rows_are c.requires.e_nonzero c.break_down-found.ensures);
+      breaks_down = c.break_down-found.ensures.found (broken c.requires.some_tables.tables.gave
+          c.requires.some_tables.tables.can c.requires.some_tables.tables.rows_are c.requires.e_nonzero
+          c.break_down-found.ensures);
       table = c.fill.ensures.table;
       table_2 = c.fill-2.ensures.table;
       goal_len = c.fill-2.ensures.racks_len_2;
@@ -63,5 +65,6 @@ returns c =
           (filled_starts t.gave t.starts_are)
           (filled_goals t.gave t.goals_are)
           c.requires.differ
-          c.fill.ensures.filled c.fill-2.ensures.filled c.requires.n_in_bounds (omega arith) c.solve-end.ensures.trip c.solve-end.ensures.same;
+          c.fill.ensures.filled c.fill-2.ensures.filled c.requires.n_in_bounds (omega arith) c.solve-end.ensures.trip
+          c.solve-end.ensures.same;
     }

@@ -15,5 +15,6 @@ put_pair-requires c =
 
 pub returns : goal.returns
 returns c =
-    put_one c.args.tail.now c.args.j c.args.p (c.args.p + c.args.columns) c.put_pair.new.s (below_one c.args.columns c.args.p c.args.n (omega arith))
+    put_one c.args.tail.now c.args.j c.args.p (c.args.p + c.args.columns) c.put_pair.new.s
+    (below_one c.args.columns c.args.p c.args.n (omega arith))
     c.put_pair.ensures

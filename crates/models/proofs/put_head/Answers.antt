@@ -11,4 +11,5 @@ bounds-order-1 c = rw (length-set c.args.order.now 0 (c.args.n * 2 + c.args.e / 
 
 pub returns : goal.returns
 unfolding order_head
-returns c = written_head c.args.order.now (c.args.n * 2 + c.args.e / 128) (c.args.e % 128 * 2 + c.args.m / 64) (c.args.m % 64 * 4) (omega arith)
+returns c = written_head c.args.order.now (c.args.n * 2 + c.args.e / 128) (c.args.e % 128 * 2 + c.args.m / 64)
+    (c.args.m % 64 * 4) (omega arith)

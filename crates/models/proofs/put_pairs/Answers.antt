@@ -17,14 +17,16 @@ pub put_pair-requires : goal.put_pair-requires
 put_pair-requires c = (
   omega arith,
   omega arith,
-  copy_room c.args.from.now c.args.m c.loop-i.i c.loop-i-test.true c.pair_at-pair.result.first c.pair_at-pair.result.second c.pair_at-pair.ensures c.loop-i.invariant.1
+  copy_room c.args.from.now c.args.m c.loop-i.i c.loop-i-test.true c.pair_at-pair.result.first
+      c.pair_at-pair.result.second c.pair_at-pair.ensures c.loop-i.invariant.1
       c.requires.room,
 )
 
 pub loop-i-preserved : goal.loop-i-preserved
 loop-i-preserved c = (
   omega arith,
-  copy-next c.args.from.now c.args.m c.loop-i.i c.loop-i-test.true c.pair_at-pair.result.first c.pair_at-pair.result.second c.pair_at-pair.ensures c.loop-i.invariant.1
+  copy-next c.args.from.now c.args.m c.loop-i.i c.loop-i-test.true c.pair_at-pair.result.first
+      c.pair_at-pair.result.second c.pair_at-pair.ensures c.loop-i.invariant.1
       c.put_pair.new.s
       c.put_pair.ensures,
 )

@@ -20,7 +20,8 @@ pad_after-requires c = pad_room c.args.short.now c.wide-b.result (omega arith) c
     c.if-short-m.false
 
 pub returns-then-pad_after-ne0 : goal.returns-then-pad_after-ne0
-returns-then-pad_after-ne0 c = not_pad c.args.short.now c.wide-b.result (omega arith) c.wide-b.ensures.0 c.wide-b.ensures.1 c.if-short-m.false
+returns-then-pad_after-ne0 c = not_pad c.args.short.now c.wide-b.result (omega arith) c.wide-b.ensures.0
+    c.wide-b.ensures.1 c.if-short-m.false
     c.pad_after.result c.pad_after.ensures c.if-pad_after-ne0.true
 
 pub returns : goal.returns

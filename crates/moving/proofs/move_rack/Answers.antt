@@ -21,7 +21,15 @@ put_listed-requires c =
     let room = c.requires.space.room in
     let bytes = move-bytes (c.args.written + 1) in
     record {
-      a_bound = (c.requires.a_bound.0, c.requires.a_bound.1, λ e. (rack_some c.wide-number.result (λ z. c.requires.a_bound.2 (sym c.wide-number.ensures.0 ∙ z)), omega arith));
+      a_bound = (
+        c.requires.a_bound.0,
+        c.requires.a_bound.1,
+        λ e. (
+          rack_some c.wide-number.result
+              (λ z. c.requires.a_bound.2 (sym c.wide-number.ensures.0 ∙ z)),
+          omega arith,
+        ),
+      );
       j_in_bounds = omega arith;
     }
   where

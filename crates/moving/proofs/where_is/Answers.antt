@@ -27,4 +27,5 @@ loop-p-preserved c =
 
 pub returns : goal.returns
 returns c =
-    seeking_last (row c.args.racks.now) c.args.rack c.loop-p.p c.args.n (omega arith) c.loop-p.invariant.0 c.loop-p.invariant.1 c.requires.stands
+    seeking_last (row c.args.racks.now) c.args.rack c.loop-p.p c.args.n (omega arith) c.loop-p.invariant.0
+    c.loop-p.invariant.1 c.requires.stands

@@ -14,14 +14,16 @@ loop-i-init c = (omega arith, left-first _ _ _ _ (omega arith), place-first _ _ 
 
 pub returns-then-n-p : goal.returns-then-n-p
 returns-then-n-p c = record {
-  value = not_below c.args.tail.now c.args.n c.args.from c.args.m c.loop-i.table c.loop-i.i c.position_at-p.result c.loop-i.invariant.1 (omega arith)
+  value = not_below c.args.tail.now c.args.n c.args.from c.args.m c.loop-i.table c.loop-i.i c.position_at-p.result
+      c.loop-i.invariant.1 (omega arith)
       c.position_at-p.ensures.is (omega arith);
   table_after = λ y. absurd (false≢true y);
 }
 
 pub returns-then-table-p-ne0 : goal.returns-then-table-p-ne0
 returns-then-table-p-ne0 c = record {
-  value = not_free c.args.tail.now c.args.n c.args.from c.args.m c.loop-i.table c.loop-i.i c.position_at-p.result c.loop-i.invariant.1 (omega arith)
+  value = not_free c.args.tail.now c.args.n c.args.from c.args.m c.loop-i.table c.loop-i.i c.position_at-p.result
+      c.loop-i.invariant.1 (omega arith)
       c.position_at-p.ensures.is c.if-table-p-ne0.true;
   table_after = λ y. absurd (false≢true y);
 }
@@ -29,7 +31,8 @@ returns-then-table-p-ne0 c = record {
 pub loop-i-preserved : goal.loop-i-preserved
 loop-i-preserved c = (
   omega arith,
-  left-next c.args.tail.now c.args.n c.args.from c.args.m c.loop-i.table c.loop-i.i c.position_at-p.result c.loop-i.invariant.1 (omega arith)
+  left-next c.args.tail.now c.args.n c.args.from c.args.m c.loop-i.table c.loop-i.i c.position_at-p.result
+      c.loop-i.invariant.1 (omega arith)
       c.position_at-p.ensures.is (omega arith) (omega arith),
   place-next c.args.tail.now c.args.from c.args.m (replicate 64 0) c.loop-i.table c.loop-i.i c.position_at-p.result c.loop-i.invariant.2
       (omega arith) c.position_at-p.ensures.is,

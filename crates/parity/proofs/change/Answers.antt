@@ -18,7 +18,8 @@ loop-p-preserved c = (
   omega arith,
   (
     simp length-set c.loop-p.invariant.1.0,
-    sent_next c.args.starts.now c.args.at.now c.loop-p.sent c.loop-p.p c.loop-p.invariant.1.0 (omega (arith, c.requires.few)) c.loop-p.invariant.1.1,
+    sent_next c.args.starts.now c.args.at.now c.loop-p.sent c.loop-p.p c.loop-p.invariant.1.0
+        (omega (arith, c.requires.few)) c.loop-p.invariant.1.1,
   ),
 )
 

@@ -23,11 +23,13 @@ pub returns-then-n-m : goal.returns-then-n-m
 returns-then-n-m c = not_one (order_accepted c.decode-below.ensures.result_value c.in-Accepted.is) c.if-n-m.true
 
 pub is_biconnected-requires : goal.is_biconnected-requires
-is_biconnected-requires c = filled_rows (order_accepted c.decode-below.ensures.result_value c.in-Accepted.is) c.decode-below.ensures.rows_after
+is_biconnected-requires c = filled_rows (order_accepted c.decode-below.ensures.result_value c.in-Accepted.is)
+    c.decode-below.ensures.rows_after
 
 pub returns-then-not-is_biconnected : goal.returns-then-not-is_biconnected
 returns-then-not-is_biconnected c =
-    apart (order_accepted c.decode-below.ensures.result_value c.in-Accepted.is) c.if-n-m.false c.decode-below.ensures.rows_after _ c.is_biconnected.ensures c.if-not-is_biconnected.true
+    apart (order_accepted c.decode-below.ensures.result_value c.in-Accepted.is) c.if-n-m.false
+    c.decode-below.ensures.rows_after _ c.is_biconnected.ensures c.if-not-is_biconnected.true
 
 pub two_colours-colours-requires : goal.two_colours-colours-requires
 two_colours-colours-requires c =
@@ -40,7 +42,9 @@ two_colours-colours-requires c =
 
 pub returns-then-not-colours : goal.returns-then-not-colours
 returns-then-not-colours c =
-    colourless (order_accepted c.decode-below.ensures.result_value c.in-Accepted.is) c.if-n-m.false c.decode-below.ensures.rows_after (c.is_biconnected.ensures.0 c.if-not-is_biconnected.false) c.two_colours-colours.ensures
+    colourless (order_accepted c.decode-below.ensures.result_value c.in-Accepted.is) c.if-n-m.false
+    c.decode-below.ensures.rows_after (c.is_biconnected.ensures.0 c.if-not-is_biconnected.false)
+    c.two_colours-colours.ensures
     (not-true _ c.if-not-colours.true)
 
 pub is_contrary-requires : goal.is_contrary-requires
@@ -48,16 +52,22 @@ is_contrary-requires c =
     let three = (c.is_biconnected.ensures.0 c.if-not-is_biconnected.false).three in
     record {
       n_nonzero = omega arith;
-      seats = stands_seats _ _ _ (starts_stand (order_accepted c.decode-below.ensures.result_value c.in-Accepted.is) c.if-n-m.false c.decode-below.ensures.starts_after);
-      seats_2 = stands_seats _ _ _ (goals_stand (order_accepted c.decode-below.ensures.result_value c.in-Accepted.is) c.if-n-m.false c.decode-below.ensures.goals_after);
+      seats = stands_seats _ _ _ (starts_stand (order_accepted c.decode-below.ensures.result_value c.in-Accepted.is)
+          c.if-n-m.false c.decode-below.ensures.starts_after);
+      seats_2 = stands_seats _ _ _ (goals_stand (order_accepted c.decode-below.ensures.result_value c.in-Accepted.is)
+          c.if-n-m.false c.decode-below.ensures.goals_after);
     }
 
 pub returns-then-is_contrary : goal.returns-then-is_contrary
 returns-then-is_contrary c =
-    contrary (order_accepted c.decode-below.ensures.result_value c.in-Accepted.is) c.if-n-m.false c.decode-below.ensures.rows_after (c.is_biconnected.ensures.0 c.if-not-is_biconnected.false) c.two_colours-colours.ensures (not-false _ c.if-not-colours.false)
+    contrary (order_accepted c.decode-below.ensures.result_value c.in-Accepted.is) c.if-n-m.false
+    c.decode-below.ensures.rows_after (c.is_biconnected.ensures.0 c.if-not-is_biconnected.false)
+    c.two_colours-colours.ensures (not-false _ c.if-not-colours.false)
     c.decode-below.ensures.starts_after c.decode-below.ensures.goals_after c.is_contrary.ensures c.if-is_contrary.true
 
 pub returns : goal.returns
 returns c =
-    agreeing (order_accepted c.decode-below.ensures.result_value c.in-Accepted.is) c.if-n-m.false c.decode-below.ensures.rows_after (c.is_biconnected.ensures.0 c.if-not-is_biconnected.false) c.two_colours-colours.ensures (not-false _ c.if-not-colours.false)
+    agreeing (order_accepted c.decode-below.ensures.result_value c.in-Accepted.is) c.if-n-m.false
+    c.decode-below.ensures.rows_after (c.is_biconnected.ensures.0 c.if-not-is_biconnected.false)
+    c.two_colours-colours.ensures (not-false _ c.if-not-colours.false)
     c.decode-below.ensures.starts_after c.decode-below.ensures.goals_after c.is_contrary.ensures c.if-is_contrary.false

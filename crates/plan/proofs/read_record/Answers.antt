@@ -16,11 +16,13 @@ pub units_fit-requires : goal.units_fit-requires
 units_fit-requires c = c.units-q.ensures.1
 
 pub returns-then-not-units_fit : goal.returns-then-not-units_fit
-returns-then-not-units_fit c = wrong_length_lem (measured c.count_at_head-k.ensures c.names_racks.ensures c.units-q.ensures.0) c.units_fit.ensures c.if-not-units_fit.true
+returns-then-not-units_fit c = wrong_length_lem (measured c.count_at_head-k.ensures c.names_racks.ensures
+    c.units-q.ensures.0) c.units_fit.ensures c.if-not-units_fit.true
 
 pub returns-then-spare_at_head-gt1 : goal.returns-then-spare_at_head-gt1
 returns-then-spare_at_head-gt1 c =
-    wrong_spare (measured c.count_at_head-k.ensures c.names_racks.ensures c.units-q.ensures.0) c.units_fit.ensures c.if-not-units_fit.false c.spare_at_head.ensures
+    wrong_spare (measured c.count_at_head-k.ensures c.names_racks.ensures c.units-q.ensures.0) c.units_fit.ensures
+    c.if-not-units_fit.false c.spare_at_head.ensures
     c.if-spare_at_head-gt1.true
 
 pub pad_clear-requires : goal.pad_clear-requires
@@ -29,10 +31,12 @@ pad_clear-requires c =
 
 pub returns-then-not-pad_clear : goal.returns-then-not-pad_clear
 returns-then-not-pad_clear c =
-    padding (measured c.count_at_head-k.ensures c.names_racks.ensures c.units-q.ensures.0) c.units_fit.ensures c.if-not-units_fit.false c.spare_at_head.ensures
+    padding (measured c.count_at_head-k.ensures c.names_racks.ensures c.units-q.ensures.0) c.units_fit.ensures
+    c.if-not-units_fit.false c.spare_at_head.ensures
     (omega (arith, c.if-spare_at_head-gt1.false)) c.pad_clear.ensures c.if-not-pad_clear.true
 
 pub returns : goal.returns
 returns c =
-    sound (measured c.count_at_head-k.ensures c.names_racks.ensures c.units-q.ensures.0) c.units_fit.ensures c.if-not-units_fit.false c.spare_at_head.ensures
+    sound (measured c.count_at_head-k.ensures c.names_racks.ensures c.units-q.ensures.0) c.units_fit.ensures
+    c.if-not-units_fit.false c.spare_at_head.ensures
     (omega (arith, c.if-spare_at_head-gt1.false)) c.pad_clear.ensures c.if-not-pad_clear.false

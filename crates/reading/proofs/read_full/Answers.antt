@@ -20,5 +20,10 @@ loop-done-preserved g c =
     let front = take-put_mid_below from room old given from (le_refl _) within in
     let behind = ap (take count) (drop_at (take from old) (given ++ after) from (length-take-le from old within))
     ∙ take-append-le count given after c.in_ok-count.ensures.bound.0 in
-    let joined : take (from + count) new ≡ take from old ++ take count given = take-add from count new ∙ ap₂ (λ xs ys. xs ++ ys) front behind in
-    (search rules, search rules, subst (Consumes _ _) (sym joined) (Consumes-trans _ _ _ _ _ c.loop-done.invariant.2 c.in_ok-count.ensures.bytes.0))
+    let joined : take (from + count) new ≡ take from old ++ take count given = take-add from count new ∙ ap₂
+    (λ xs ys. xs ++ ys) front behind in (
+      search rules,
+      search rules,
+      subst (Consumes _ _) (sym joined) (Consumes-trans _ _ _ _ _ c.loop-done.invariant.2
+          c.in_ok-count.ensures.bytes.0),
+    )

@@ -1,4 +1,5 @@
--- `reading::read_full` ends, since each turn leaves less room, and what stands at the front of the buffer is what was read. Assumes nothing.
+-- `reading::read_full` ends, since each turn leaves less room, and what stands at the front of the buffer is what was read.
+-- Assumes nothing.
 use Rattle.std.proofs.Common.{◌≡◌, ◌-◌, ◌≤◌, length, take}
 use Rattle.std.specs.Io.KnownBytes.{Consumes}
 use Rattle.reading.proofs.read_full.Given as goal

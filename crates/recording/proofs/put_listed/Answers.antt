@@ -10,8 +10,13 @@ overflow_sub-rack c =
 
 pub put_triple-requires : goal.put_triple-requires
 put_triple-requires c =
-    let fits = c.requires.a_bound.2 c.if-named.true in
-    (c.requires.a_bound.0, c.requires.a_bound.1, omega (arith, fits.0, fits.1), triple_end c.args.named c.args.j _ c.if-named.true c.requires.j_in_bounds)
+    let fits = c.requires.a_bound.2 c.if-named.true in (
+      c.requires.a_bound.0,
+      c.requires.a_bound.1,
+      omega (arith, fits.0, fits.1),
+      triple_end c.args.named c.args.j _
+          c.if-named.true c.requires.j_in_bounds,
+    )
 
 pub returns-then-named : goal.returns-then-named
 returns-then-named c =

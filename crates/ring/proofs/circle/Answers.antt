@@ -14,7 +14,12 @@ pub bounds-at-k : goal.bounds-at-k
 bounds-at-k c = let small = c.requires.rows.small in omega arith
 
 pub without-onward-requires : goal.without-onward-requires
-without-onward-requires c = omega (arith, c.requires.rows.small, following_below c.requires.rows c.requires.ring (c.loop-k.invariant c.requires.rows c.requires.ring))
+without-onward-requires c = omega (
+  arith,
+  c.requires.rows.small,
+  following_below c.requires.rows c.requires.ring
+      (c.loop-k.invariant c.requires.rows c.requires.ring),
+)
 
 pub overflow_add-k : goal.overflow_add-k
 overflow_add-k c =

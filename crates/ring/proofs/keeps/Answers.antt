@@ -55,7 +55,7 @@ loop-q-preserved c = (
   omega (arith, c.loop-q-test.true),
   before-next _ _ c.loop-q.q c.loop-q.invariant.2
       (elim c.if-from-distance.branch [
-        then-from-distance+else-distance-to w ↦
+        | then-from-distance+else-distance-to w ↦
             λ front. omega (arith, w.if-distance-to.false, w.distance-then-from-distance.ensures, c.distance-to.ensures)
         | else-from-distance w ↦ λ front. absurd (omega (arith, w.if-from-distance.false, c.distance.ensures, c.distance-from.ensures))
       ]),

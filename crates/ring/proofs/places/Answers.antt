@@ -39,7 +39,8 @@ loop-i-preserved c = (
   omega arith,
   length-set c.loop-i.place (row c.args.racks.now (row c.args.circle.now c.loop-i.i)) c.loop-i.i ∙ c.loop-i.invariant.1,
   below_set c.args.n c.loop-i.place (row c.args.racks.now (row c.args.circle.now c.loop-i.i)) c.loop-i.i (omega arith) c.loop-i.invariant.2,
-  placing_next c.args.n (row c.args.circle.now) (row c.args.racks.now) c.loop-i.place c.loop-i.i c.loop-i.invariant.1 c.requires (omega arith)
+  placing_next c.args.n (row c.args.circle.now) (row c.args.racks.now) c.loop-i.place c.loop-i.i c.loop-i.invariant.1
+      c.requires (omega arith)
       c.loop-i.invariant.3,
 )
 

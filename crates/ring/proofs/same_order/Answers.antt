@@ -40,4 +40,5 @@ loop-r-preserved c = (
 
 pub returns : goal.returns
 returns c =
-    says-yes (kept_order c.requires.places c.requires.places_2 (λ r h. before_last _ _ c.loop-r.r c.loop-r.invariant.2 c.loop-r-test.false r h))
+    says-yes (kept_order c.requires.places c.requires.places_2 (λ r h. before_last _ _ c.loop-r.r c.loop-r.invariant.2
+    c.loop-r-test.false r h))

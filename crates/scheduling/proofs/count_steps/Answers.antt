@@ -13,21 +13,26 @@ returns-in_default c =
     (passed_up c.passed_up.ensures)
 
 pub names_racks-named-requires : goal.names_racks-named-requires
-names_racks-named-requires c = head_there c.args.order.now c.args.plan.now c.in-Accepted.k (ap plan_answer_of (sym c.in-Accepted.is) ∙ c.check-below.ensures)
+names_racks-named-requires c = head_there c.args.order.now c.args.plan.now c.in-Accepted.k
+    (ap plan_answer_of (sym c.in-Accepted.is) ∙ c.check-below.ensures)
 
 pub slice_bounds-latest_step-count : goal.slice_bounds-latest_step-count
-slice_bounds-latest_step-count c = head_there c.args.order.now c.args.plan.now c.in-Accepted.k (ap plan_answer_of (sym c.in-Accepted.is) ∙ c.check-below.ensures)
+slice_bounds-latest_step-count c = head_there c.args.order.now c.args.plan.now c.in-Accepted.k
+    (ap plan_answer_of (sym c.in-Accepted.is) ∙ c.check-below.ensures)
 
 pub slice_bounds-latest_step-start : goal.slice_bounds-latest_step-start
-slice_bounds-latest_step-start c = head_there c.args.order.now c.args.plan.now c.in-Accepted.k (ap plan_answer_of (sym c.in-Accepted.is) ∙ c.check-below.ensures)
+slice_bounds-latest_step-start c = head_there c.args.order.now c.args.plan.now c.in-Accepted.k
+    (ap plan_answer_of (sym c.in-Accepted.is) ∙ c.check-below.ensures)
 
 pub latest_step-steps-requires : goal.latest_step-steps-requires
 latest_step-steps-requires c = (
   count_below c.args.order.now c.args.plan.now c.in-Accepted.k (ap plan_answer_of (sym c.in-Accepted.is) ∙ c.check-below.ensures),
-  tail_fits c.args.order.now c.args.plan.now c.in-Accepted.k (ap plan_answer_of (sym c.in-Accepted.is) ∙ c.check-below.ensures) c.names_racks-named.result c.names_racks-named.ensures,
+  tail_fits c.args.order.now c.args.plan.now c.in-Accepted.k (ap plan_answer_of (sym c.in-Accepted.is) ∙
+      c.check-below.ensures) c.names_racks-named.result c.names_racks-named.ensures,
 )
 
 pub returns : goal.returns
 returns c =
-    steps_counted c.args.order.now c.args.plan.now c.in-Accepted.k (ap plan_answer_of (sym c.in-Accepted.is) ∙ c.check-below.ensures) c.names_racks-named.result c.names_racks-named.ensures c.latest_step-steps.result
+    steps_counted c.args.order.now c.args.plan.now c.in-Accepted.k (ap plan_answer_of (sym c.in-Accepted.is) ∙
+    c.check-below.ensures) c.names_racks-named.result c.names_racks-named.ensures c.latest_step-steps.result
     c.latest_step-steps.ensures

@@ -44,30 +44,40 @@ returns-then-buffer-k c =
     }
 
 pub names_racks-named-requires : goal.names_racks-named-requires
-names_racks-named-requires c = head_there c.args.order.now c.args.plan.now c.in-Accepted.k (ap plan_answer_of (sym c.in-Accepted.is) ∙ c.check-below.ensures)
+names_racks-named-requires c = head_there c.args.order.now c.args.plan.now c.in-Accepted.k
+    (ap plan_answer_of (sym c.in-Accepted.is) ∙ c.check-below.ensures)
 
 pub slice_bounds-make_steps-count : goal.slice_bounds-make_steps-count
-slice_bounds-make_steps-count c = head_there c.args.order.now c.args.plan.now c.in-Accepted.k (ap plan_answer_of (sym c.in-Accepted.is) ∙ c.check-below.ensures)
+slice_bounds-make_steps-count c = head_there c.args.order.now c.args.plan.now c.in-Accepted.k
+    (ap plan_answer_of (sym c.in-Accepted.is) ∙ c.check-below.ensures)
 
 pub slice_bounds-make_steps-start : goal.slice_bounds-make_steps-start
-slice_bounds-make_steps-start c = head_there c.args.order.now c.args.plan.now c.in-Accepted.k (ap plan_answer_of (sym c.in-Accepted.is) ∙ c.check-below.ensures)
+slice_bounds-make_steps-start c = head_there c.args.order.now c.args.plan.now c.in-Accepted.k
+    (ap plan_answer_of (sym c.in-Accepted.is) ∙ c.check-below.ensures)
 
 pub make_steps-s-requires : goal.make_steps-s-requires
 make_steps-s-requires c = (
   count_below c.args.order.now c.args.plan.now c.in-Accepted.k (ap plan_answer_of (sym c.in-Accepted.is) ∙ c.check-below.ensures),
-  tail_fits c.args.order.now c.args.plan.now c.in-Accepted.k (ap plan_answer_of (sym c.in-Accepted.is) ∙ c.check-below.ensures) c.names_racks-named.result c.names_racks-named.ensures,
-  maker_room c.args.order.now c.args.plan.now c.args.buffer.now c.in-Accepted.k (ap plan_answer_of (sym c.in-Accepted.is) ∙ c.check-below.ensures) c.names_racks-named.result c.names_racks-named.ensures c.if-buffer-k.false,
+  tail_fits c.args.order.now c.args.plan.now c.in-Accepted.k (ap plan_answer_of (sym c.in-Accepted.is) ∙
+      c.check-below.ensures) c.names_racks-named.result c.names_racks-named.ensures,
+  maker_room c.args.order.now c.args.plan.now c.args.buffer.now c.in-Accepted.k
+      (ap plan_answer_of (sym c.in-Accepted.is) ∙ c.check-below.ensures) c.names_racks-named.result
+      c.names_racks-named.ensures c.if-buffer-k.false,
 )
 
 pub put_head-requires : goal.put_head-requires
 put_head-requires c =
-    let room = head_room c.args.order.now c.args.plan.now c.args.buffer.now c.in-Accepted.k (ap plan_answer_of (sym c.in-Accepted.is) ∙ c.check-below.ensures) c.names_racks-named.result c.names_racks-named.ensures c.if-buffer-k.false
+    let room = head_room c.args.order.now c.args.plan.now c.args.buffer.now c.in-Accepted.k
+    (ap plan_answer_of (sym c.in-Accepted.is) ∙ c.check-below.ensures) c.names_racks-named.result
+    c.names_racks-named.ensures c.if-buffer-k.false
     c.make_steps-s.result c.make_steps-s.new.buffer c.make_steps-s.ensures.0 c.make_steps-s.ensures.1 in
     (room.0, room.1, lit< tt)
 
 pub returns : goal.returns
 returns c =
-    let all = maker_made c.args.order.now c.args.plan.now c.args.buffer.now c.in-Accepted.k (ap plan_answer_of (sym c.in-Accepted.is) ∙ c.check-below.ensures) c.names_racks-named.result c.names_racks-named.ensures c.if-buffer-k.false
+    let all = maker_made c.args.order.now c.args.plan.now c.args.buffer.now c.in-Accepted.k
+    (ap plan_answer_of (sym c.in-Accepted.is) ∙ c.check-below.ensures) c.names_racks-named.result
+    c.names_racks-named.ensures c.if-buffer-k.false
     c.make_steps-s.result c.make_steps-s.new.buffer c.make_steps-s.ensures.0 c.make_steps-s.ensures.1
     c.put_head.new.s c.put_head.ensures in
     record {

@@ -27,13 +27,33 @@ pass_plan-found-requires c = record {
 pub write_window-next-requires : goal.write_window-next-requires
 write_window-next-requires c = record {
   n_bound = (
-    filled_few (moves_at c.args.named c.args.tail.now 0 c.args.k) (4096 * c.args.done.windows) c.later-steps.result c.pass_plan-found.new.window ((let it : c.later-steps.result ≡ latest (moves_at c.args.named c.args.tail.now 0 c.args.k) = c.later-steps.ensures ∙ counted-latest (moves_at c.args.named c.args.tail.now 0 c.args.k) c.args.due.now c.args.done.steps c.args.done.windows c.requires.counted.0 (subst (λ (k : ℕ). 0 < k) (sym (length-moves c.args.named c.args.tail.now 0 c.args.k)) c.requires.k_nonzero.0) c.pass_plan-found.result c.pass_plan-found.ensures.plan_passed.at_most c.pass_plan-found.ensures.plan_passed.at_first in it)) c.pass_plan-found.ensures.plan_passed.window_is c.rows_of-n.result
+    filled_few (moves_at c.args.named c.args.tail.now 0 c.args.k) (4096 * c.args.done.windows) c.later-steps.result
+        c.pass_plan-found.new.window ((let it : c.later-steps.result ≡ latest
+        (moves_at c.args.named c.args.tail.now 0 c.args.k) = c.later-steps.ensures ∙ counted-latest
+        (moves_at c.args.named c.args.tail.now 0 c.args.k) c.args.due.now c.args.done.steps c.args.done.windows
+        c.requires.counted.0 (subst (λ (k : ℕ). 0 < k) (sym (length-moves c.args.named c.args.tail.now 0 c.args.k))
+        c.requires.k_nonzero.0) c.pass_plan-found.result c.pass_plan-found.ensures.plan_passed.at_most
+        c.pass_plan-found.ensures.plan_passed.at_first in it)) c.pass_plan-found.ensures.plan_passed.window_is
+        c.rows_of-n.result
         c.rows_of-n.ensures,
-    filled_room (moves_at c.args.named c.args.tail.now 0 c.args.k) (4096 * c.args.done.windows) c.later-steps.result c.pass_plan-found.new.window ((let it : c.later-steps.result ≡ latest (moves_at c.args.named c.args.tail.now 0 c.args.k) = c.later-steps.ensures ∙ counted-latest (moves_at c.args.named c.args.tail.now 0 c.args.k) c.args.due.now c.args.done.steps c.args.done.windows c.requires.counted.0 (subst (λ (k : ℕ). 0 < k) (sym (length-moves c.args.named c.args.tail.now 0 c.args.k)) c.requires.k_nonzero.0) c.pass_plan-found.result c.pass_plan-found.ensures.plan_passed.at_most c.pass_plan-found.ensures.plan_passed.at_first in it)) c.pass_plan-found.ensures.plan_passed.window_is c.rows_of-n.result
+    filled_room (moves_at c.args.named c.args.tail.now 0 c.args.k) (4096 * c.args.done.windows) c.later-steps.result
+        c.pass_plan-found.new.window ((let it : c.later-steps.result ≡ latest
+        (moves_at c.args.named c.args.tail.now 0 c.args.k) = c.later-steps.ensures ∙ counted-latest
+        (moves_at c.args.named c.args.tail.now 0 c.args.k) c.args.due.now c.args.done.steps c.args.done.windows
+        c.requires.counted.0 (subst (λ (k : ℕ). 0 < k) (sym (length-moves c.args.named c.args.tail.now 0 c.args.k))
+        c.requires.k_nonzero.0) c.pass_plan-found.result c.pass_plan-found.ensures.plan_passed.at_most
+        c.pass_plan-found.ensures.plan_passed.at_first in it)) c.pass_plan-found.ensures.plan_passed.window_is
+        c.rows_of-n.result
         c.rows_of-n.ensures c.args.done.next c.args.buffer.now c.requires.counted.1,
   );
   entries_fit = (
-    filled_fit (moves_at c.args.named c.args.tail.now 0 c.args.k) (4096 * c.args.done.windows) c.later-steps.result c.pass_plan-found.new.window ((let it : c.later-steps.result ≡ latest (moves_at c.args.named c.args.tail.now 0 c.args.k) = c.later-steps.ensures ∙ counted-latest (moves_at c.args.named c.args.tail.now 0 c.args.k) c.args.due.now c.args.done.steps c.args.done.windows c.requires.counted.0 (subst (λ (k : ℕ). 0 < k) (sym (length-moves c.args.named c.args.tail.now 0 c.args.k)) c.requires.k_nonzero.0) c.pass_plan-found.result c.pass_plan-found.ensures.plan_passed.at_most c.pass_plan-found.ensures.plan_passed.at_first in it)) c.pass_plan-found.ensures.plan_passed.window_is
+    filled_fit (moves_at c.args.named c.args.tail.now 0 c.args.k) (4096 * c.args.done.windows) c.later-steps.result
+        c.pass_plan-found.new.window ((let it : c.later-steps.result ≡ latest
+        (moves_at c.args.named c.args.tail.now 0 c.args.k) = c.later-steps.ensures ∙ counted-latest
+        (moves_at c.args.named c.args.tail.now 0 c.args.k) c.args.due.now c.args.done.steps c.args.done.windows
+        c.requires.counted.0 (subst (λ (k : ℕ). 0 < k) (sym (length-moves c.args.named c.args.tail.now 0 c.args.k))
+        c.requires.k_nonzero.0) c.pass_plan-found.result c.pass_plan-found.ensures.plan_passed.at_most
+        c.pass_plan-found.ensures.plan_passed.at_first in it)) c.pass_plan-found.ensures.plan_passed.window_is
         (moves-at_below c.args.named c.args.tail.now 0 c.args.k),
     c.pass_plan-found.ensures.keeps_left left-empty,
   );
@@ -53,8 +73,24 @@ shape_of-buffer c = c.write_window-next.auto.buffer
 
 pub returns : goal.returns
 returns c = record {
-  windows_value = (refl, ((let it : c.later-steps.result ≡ latest (moves_at c.args.named c.args.tail.now 0 c.args.k) = c.later-steps.ensures ∙ counted-latest (moves_at c.args.named c.args.tail.now 0 c.args.k) c.args.due.now c.args.done.steps c.args.done.windows c.requires.counted.0 (subst (λ (k : ℕ). 0 < k) (sym (length-moves c.args.named c.args.tail.now 0 c.args.k)) c.requires.k_nonzero.0) c.pass_plan-found.result c.pass_plan-found.ensures.plan_passed.at_most c.pass_plan-found.ensures.plan_passed.at_first in it)), (subst (λ (f : ℕ). Kept c.args.named c.args.tail.now c.args.k (length c.args.due.now) f c.pass_plan-found.new.book c.pass_plan-found.new.due) ((let it : 4096 * c.args.done.windows + 4096 ≡ 4096 * (c.args.done.windows + 1) = omega arith in it)) c.pass_plan-found.ensures.plan_passed.kept));
-  wrote = filled_wrote (moves_at c.args.named c.args.tail.now 0 c.args.k) (4096 * c.args.done.windows) c.later-steps.result c.pass_plan-found.new.window ((let it : c.later-steps.result ≡ latest (moves_at c.args.named c.args.tail.now 0 c.args.k) = c.later-steps.ensures ∙ counted-latest (moves_at c.args.named c.args.tail.now 0 c.args.k) c.args.due.now c.args.done.steps c.args.done.windows c.requires.counted.0 (subst (λ (k : ℕ). 0 < k) (sym (length-moves c.args.named c.args.tail.now 0 c.args.k)) c.requires.k_nonzero.0) c.pass_plan-found.result c.pass_plan-found.ensures.plan_passed.at_most c.pass_plan-found.ensures.plan_passed.at_first in it)) c.pass_plan-found.ensures.plan_passed.window_is
+  windows_value = (
+    refl,
+    ((let it : c.later-steps.result ≡ latest (moves_at c.args.named c.args.tail.now 0 c.args.k) =
+        c.later-steps.ensures ∙ counted-latest (moves_at c.args.named c.args.tail.now 0 c.args.k) c.args.due.now
+        c.args.done.steps c.args.done.windows c.requires.counted.0 (subst (λ (k : ℕ). 0 < k)
+        (sym (length-moves c.args.named c.args.tail.now 0 c.args.k)) c.requires.k_nonzero.0) c.pass_plan-found.result
+        c.pass_plan-found.ensures.plan_passed.at_most c.pass_plan-found.ensures.plan_passed.at_first in it)),
+    (subst (λ (f : ℕ). Kept c.args.named c.args.tail.now c.args.k (length c.args.due.now) f c.pass_plan-found.new.book
+        c.pass_plan-found.new.due) ((let it : 4096 * c.args.done.windows + 4096 ≡ 4096 * (c.args.done.windows + 1) = omega
+        arith in it)) c.pass_plan-found.ensures.plan_passed.kept),
+  );
+  wrote = filled_wrote (moves_at c.args.named c.args.tail.now 0 c.args.k) (4096 * c.args.done.windows)
+      c.later-steps.result c.pass_plan-found.new.window ((let it : c.later-steps.result ≡ latest
+      (moves_at c.args.named c.args.tail.now 0 c.args.k) = c.later-steps.ensures ∙ counted-latest
+      (moves_at c.args.named c.args.tail.now 0 c.args.k) c.args.due.now c.args.done.steps c.args.done.windows
+      c.requires.counted.0 (subst (λ (k : ℕ). 0 < k) (sym (length-moves c.args.named c.args.tail.now 0 c.args.k))
+      c.requires.k_nonzero.0) c.pass_plan-found.result c.pass_plan-found.ensures.plan_passed.at_most
+      c.pass_plan-found.ensures.plan_passed.at_first in it)) c.pass_plan-found.ensures.plan_passed.window_is
       c.rows_of-n.result c.rows_of-n.ensures c.args.done.next c.write_window-next.result c.args.buffer.now
       c.write_window-next.new.buffer c.write_window-next.ensures;
 }

@@ -21,30 +21,71 @@ loop-done-init c =
     )
 
 pub overflow_mul-done : goal.overflow_mul-done
-overflow_mul-done c = omega (arith, c.loop-done.invariant.0, ((let it : latest (moves_at c.args.named c.args.tail.now 0 c.args.k) ≤ c.args.k = omega (arith, latest_few (moves_at c.args.named c.args.tail.now 0 c.args.k), length-moves c.args.named c.args.tail.now 0 c.args.k) in it)))
+overflow_mul-done c = omega (
+  arith,
+  c.loop-done.invariant.0,
+  ((let it : latest
+      (moves_at c.args.named c.args.tail.now 0 c.args.k) ≤ c.args.k = omega (
+        arith,
+        latest_few (moves_at c.args.named c.args.tail.now 0 c.args.k),
+        length-moves c.args.named c.args.tail.now 0
+            c.args.k,
+      ) in it)),
+)
 
 pub make_window-done-requires : goal.make_window-done-requires
 make_window-done-requires c = record {
-  k_nonzero = (omega arith, omega arith, omega arith, omega (arith, (counted_on (moves_at c.args.named c.args.tail.now 0 c.args.k) c.loop-done.due c.loop-done.done.steps c.loop-done.done.windows c.loop-done.invariant.1 c.loop-done-test.true), ((let it : latest (moves_at c.args.named c.args.tail.now 0 c.args.k) ≤ c.args.k = omega (arith, latest_few (moves_at c.args.named c.args.tail.now 0 c.args.k), length-moves c.args.named c.args.tail.now 0 c.args.k) in it))));
+  k_nonzero = (
+    omega arith,
+    omega arith,
+    omega arith,
+    omega (
+      arith,
+      (counted_on
+          (moves_at c.args.named c.args.tail.now 0 c.args.k) c.loop-done.due c.loop-done.done.steps c.loop-done.done.windows
+          c.loop-done.invariant.1 c.loop-done-test.true),
+      ((let it : latest (moves_at c.args.named c.args.tail.now 0
+          c.args.k) ≤ c.args.k = omega (
+            arith,
+            latest_few (moves_at c.args.named c.args.tail.now 0 c.args.k),
+            length-moves
+                c.args.named c.args.tail.now 0 c.args.k,
+          ) in it)),
+    ),
+  );
   due_nonzero = (omega (arith, c.loop-done.invariant.3.stretches), rw c.loop-done.invariant.3.stretches c.loop-done.invariant.3);
   counted = (
     c.loop-done.invariant.1,
-    windows_room (moves_at c.args.named c.args.tail.now 0 c.args.k) c.args.buffer.now c.requires.k_nonzero.3 c.loop-done.buffer c.loop-done.done.next
-        c.loop-done.done.windows c.loop-done.invariant.2 (counted_on (moves_at c.args.named c.args.tail.now 0 c.args.k) c.loop-done.due c.loop-done.done.steps c.loop-done.done.windows c.loop-done.invariant.1 c.loop-done-test.true),
+    windows_room (moves_at c.args.named c.args.tail.now 0 c.args.k) c.args.buffer.now c.requires.k_nonzero.3
+        c.loop-done.buffer c.loop-done.done.next
+        c.loop-done.done.windows c.loop-done.invariant.2 (counted_on (moves_at c.args.named c.args.tail.now 0 c.args.k)
+        c.loop-done.due c.loop-done.done.steps c.loop-done.done.windows c.loop-done.invariant.1
+        c.loop-done-test.true),
   );
 }
 
 pub loop-done-smaller : goal.loop-done-smaller
 loop-done-smaller c =
-    omega (arith, c.make_window-done.ensures.windows_value.0, (counted_on (moves_at c.args.named c.args.tail.now 0 c.args.k) c.loop-done.due c.loop-done.done.steps c.loop-done.done.windows c.loop-done.invariant.1 c.loop-done-test.true))
+    omega (
+      arith,
+      c.make_window-done.ensures.windows_value.0,
+      (counted_on
+          (moves_at c.args.named c.args.tail.now 0 c.args.k) c.loop-done.due c.loop-done.done.steps
+          c.loop-done.done.windows c.loop-done.invariant.1 c.loop-done-test.true),
+    )
 
 pub loop-done-preserved : goal.loop-done-preserved
 loop-done-preserved c =
     rw c.make_window-done.ensures.windows_value.0 (
-      (counted_on (moves_at c.args.named c.args.tail.now 0 c.args.k) c.loop-done.due c.loop-done.done.steps c.loop-done.done.windows c.loop-done.invariant.1 c.loop-done-test.true),
-      counted-later (moves_at c.args.named c.args.tail.now 0 c.args.k) _ c.make_window-done.result.steps c.loop-done.done.windows c.make_window-done.ensures.windows_value.1,
-      windows_more (moves_at c.args.named c.args.tail.now 0 c.args.k) c.args.buffer.now c.requires.k_nonzero.3 c.loop-done.buffer c.loop-done.done.next
-          c.loop-done.done.windows c.loop-done.invariant.2 (counted_on (moves_at c.args.named c.args.tail.now 0 c.args.k) c.loop-done.due c.loop-done.done.steps c.loop-done.done.windows c.loop-done.invariant.1 c.loop-done-test.true) c.make_window-done.result.next _ c.make_window-done.ensures.wrote,
+      (counted_on (moves_at c.args.named c.args.tail.now 0 c.args.k) c.loop-done.due c.loop-done.done.steps
+          c.loop-done.done.windows c.loop-done.invariant.1 c.loop-done-test.true),
+      counted-later (moves_at c.args.named c.args.tail.now 0 c.args.k) _ c.make_window-done.result.steps
+          c.loop-done.done.windows c.make_window-done.ensures.windows_value.1,
+      windows_more (moves_at c.args.named c.args.tail.now 0 c.args.k) c.args.buffer.now c.requires.k_nonzero.3
+          c.loop-done.buffer c.loop-done.done.next
+          c.loop-done.done.windows c.loop-done.invariant.2 (counted_on (moves_at c.args.named c.args.tail.now 0
+          c.args.k) c.loop-done.due c.loop-done.done.steps c.loop-done.done.windows c.loop-done.invariant.1
+          c.loop-done-test.true) c.make_window-done.result.next _ c.make_window-done.ensures.wrote,
       rw (c.loop-done.invariant.3.stretches, c.make_window-done.ensures.windows_value.0) at c.make_window-done.ensures.windows_value.2,
     )
 
@@ -56,13 +97,16 @@ shape_of-due c = c.loop-done.invariant.3.stretches
 
 pub shape_of-buffer : goal.shape_of-buffer
 shape_of-buffer c =
-    windows-length (moves_at c.args.named c.args.tail.now 0 c.args.k) c.args.buffer.now c.requires.k_nonzero.3 c.loop-done.buffer c.loop-done.done.next
+    windows-length (moves_at c.args.named c.args.tail.now 0 c.args.k) c.args.buffer.now c.requires.k_nonzero.3
+    c.loop-done.buffer c.loop-done.done.next
     c.loop-done.done.windows c.loop-done.invariant.2 c.loop-done.invariant.0
 
 pub returns : goal.returns
 returns c =
-    let all = (counted_last (moves_at c.args.named c.args.tail.now 0 c.args.k) c.loop-done.due c.loop-done.done.steps c.loop-done.done.windows c.loop-done.invariant.1 c.loop-done-test.false) in (
+    let all = (counted_last (moves_at c.args.named c.args.tail.now 0 c.args.k) c.loop-done.due c.loop-done.done.steps
+    c.loop-done.done.windows c.loop-done.invariant.1 c.loop-done-test.false) in (
       all,
-      windows-all (moves_at c.args.named c.args.tail.now 0 c.args.k) c.args.buffer.now c.requires.k_nonzero.3 c.loop-done.buffer c.loop-done.done.next
+      windows-all (moves_at c.args.named c.args.tail.now 0 c.args.k) c.args.buffer.now c.requires.k_nonzero.3
+          c.loop-done.buffer c.loop-done.done.next
           c.loop-done.done.windows c.loop-done.invariant.2 c.loop-done.invariant.0 (omega (arith, all, c.loop-done-test.false)),
     )

@@ -13,7 +13,8 @@ abbrev pub invariant-loop-done : goal.invariant-loop-done
 invariant-loop-done l =
     let ms = moves_at l.named l.tail 0 l.k in
     (l.done.windows ≤ latest ms / 4096 + 1) × Counted ms l.due l.done.steps l.done.windows
-    × WroteWindows ms l.initial.buffer l.buffer l.done.next l.done.windows × Kept l.named l.tail l.k (length l.initial.due) (4096 * l.done.windows) l.book l.due
+    × WroteWindows ms l.initial.buffer l.buffer l.done.next l.done.windows × Kept l.named l.tail l.k
+    (length l.initial.due) (4096 * l.done.windows) l.book l.due
 
 abbrev pub decreases-loop-done : goal.decreases-loop-done
 decreases-loop-done l = latest (moves_at l.named l.tail 0 l.k) / 4096 + 1 - l.done.windows

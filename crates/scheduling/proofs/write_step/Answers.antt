@@ -15,23 +15,40 @@ loop-rest-init c =
 
 pub overflow_add-at : goal.overflow_add-at
 overflow_add-at c =
-    omega (arith, rest_room _ _ _ _ _ _ _ c.loop-rest.invariant c.lowest-p.result c.lowest-p.ensures.has c.lowest-p.ensures.by_index c.requires.row_bound.1)
+    omega (
+      arith,
+      rest_room _ _ _ _ _ _ _ c.loop-rest.invariant c.lowest-p.result c.lowest-p.ensures.has
+          c.lowest-p.ensures.by_index c.requires.row_bound.1,
+    )
 
 pub slice_bounds-put_pair-count : goal.slice_bounds-put_pair-count
 slice_bounds-put_pair-count c =
-    omega (arith, rest_room _ _ _ _ _ _ _ c.loop-rest.invariant c.lowest-p.result c.lowest-p.ensures.has c.lowest-p.ensures.by_index c.requires.row_bound.1)
+    omega (
+      arith,
+      rest_room _ _ _ _ _ _ _ c.loop-rest.invariant c.lowest-p.result c.lowest-p.ensures.has
+          c.lowest-p.ensures.by_index c.requires.row_bound.1,
+    )
 
 pub slice_bounds-put_pair-start : goal.slice_bounds-put_pair-start
 slice_bounds-put_pair-start c =
-    omega (arith, rest_room _ _ _ _ _ _ _ c.loop-rest.invariant c.lowest-p.result c.lowest-p.ensures.has c.lowest-p.ensures.by_index c.requires.row_bound.1)
+    omega (
+      arith,
+      rest_room _ _ _ _ _ _ _ c.loop-rest.invariant c.lowest-p.result c.lowest-p.ensures.has
+          c.lowest-p.ensures.by_index c.requires.row_bound.1,
+    )
 
 pub slice_bounds-put_pair-end : goal.slice_bounds-put_pair-end
 slice_bounds-put_pair-end c =
-    omega (arith, rest_room _ _ _ _ _ _ _ c.loop-rest.invariant c.lowest-p.result c.lowest-p.ensures.has c.lowest-p.ensures.by_index c.requires.row_bound.1)
+    omega (
+      arith,
+      rest_room _ _ _ _ _ _ _ c.loop-rest.invariant c.lowest-p.result c.lowest-p.ensures.has
+          c.lowest-p.ensures.by_index c.requires.row_bound.1,
+    )
 
 pub overflow_sub-entry : goal.overflow_sub-entry
 overflow_sub-entry c =
-    let some : (c.wide-entry.result ≡ 0 → ⊥) = λ z. rest_some _ _ _ _ _ _ _ c.loop-rest.invariant c.lowest-p.result c.lowest-p.ensures.has c.lowest-p.ensures.by_index (sym c.wide-entry.ensures.0 ∙ z) in
+    let some : (c.wide-entry.result ≡ 0 → ⊥) = λ z. rest_some _ _ _ _ _ _ _ c.loop-rest.invariant c.lowest-p.result
+    c.lowest-p.ensures.has c.lowest-p.ensures.by_index (sym c.wide-entry.ensures.0 ∙ z) in
     omega arith
 
 pub put_pair-requires : goal.put_pair-requires
@@ -39,12 +56,17 @@ put_pair-requires c = (
   c.lowest-p.ensures.upper_bound,
   omega (arith, c.requires.entries_fit.0.at_most (c.args.row * 64 + c.lowest-p.result), c.wide-entry.ensures.0),
   part_room c.loop-rest.buffer _ _ c.lowest-p.result 0
-      (rest_room _ _ _ _ _ _ _ c.loop-rest.invariant c.lowest-p.result c.lowest-p.ensures.has c.lowest-p.ensures.by_index c.requires.row_bound.1),
+      (rest_room _ _ _ _ _ _ _ c.loop-rest.invariant c.lowest-p.result c.lowest-p.ensures.has
+      c.lowest-p.ensures.by_index c.requires.row_bound.1),
 )
 
 pub overflow_add-count : goal.overflow_add-count
 overflow_add-count c =
-    omega (arith, rest_few _ _ _ _ _ _ _ c.loop-rest.invariant c.lowest-p.result c.lowest-p.ensures.has c.lowest-p.ensures.by_index c.requires.row_bound.1)
+    omega (
+      arith,
+      rest_few _ _ _ _ _ _ _ c.loop-rest.invariant c.lowest-p.result c.lowest-p.ensures.has
+          c.lowest-p.ensures.by_index c.requires.row_bound.1,
+    )
 
 pub loop-rest-smaller : goal.loop-rest-smaller
 loop-rest-smaller c =
@@ -52,16 +74,22 @@ loop-rest-smaller c =
 
 pub loop-rest-preserved : goal.loop-rest-preserved
 loop-rest-preserved c =
-    rest-next _ _ _ _ _ _ _ c.loop-rest.invariant c.lowest-p.result c.lowest-p.ensures.has c.lowest-p.ensures.by_index c.requires.row_bound.1 c.wide-entry.result
+    rest-next _ _ _ _ _ _ _ c.loop-rest.invariant c.lowest-p.result c.lowest-p.ensures.has c.lowest-p.ensures.by_index
+    c.requires.row_bound.1 c.wide-entry.result
     c.wide-entry.ensures.0 c.put_pair.new.s c.put_pair.ensures c.without-rest.result c.without-rest.ensures
 
 pub overflow_cast-buffer : goal.overflow_cast-buffer
 overflow_cast-buffer c =
-    omega (arith, count-at_most _ _ _ _ c.requires.row_bound.1 c.loop-rest.count c.loop-rest.buffer (rest_last _ _ _ _ _ _ _ c.loop-rest.invariant (omega arith)))
+    omega (
+      arith,
+      count-at_most _ _ _ _ c.requires.row_bound.1 c.loop-rest.count c.loop-rest.buffer
+          (rest_last _ _ _ _ _ _ _ c.loop-rest.invariant (omega arith)),
+    )
 
 pub bounds-buffer-at : goal.bounds-buffer-at
 bounds-buffer-at c =
-    at_inside _ _ _ _ c.requires.row_bound.1 c.loop-rest.count c.loop-rest.buffer (rest_last _ _ _ _ _ _ _ c.loop-rest.invariant (omega arith))
+    at_inside _ _ _ _ c.requires.row_bound.1 c.loop-rest.count c.loop-rest.buffer
+    (rest_last _ _ _ _ _ _ _ c.loop-rest.invariant (omega arith))
 
 pub overflow_add-result : goal.overflow_add-result
 overflow_add-result c =
@@ -74,11 +102,19 @@ overflow_add-result c =
 
 pub overflow_mul-result : goal.overflow_mul-result
 overflow_mul-result c =
-    omega (arith, count-at_most _ _ _ _ c.requires.row_bound.1 c.loop-rest.count c.loop-rest.buffer (rest_last _ _ _ _ _ _ _ c.loop-rest.invariant (omega arith)))
+    omega (
+      arith,
+      count-at_most _ _ _ _ c.requires.row_bound.1 c.loop-rest.count c.loop-rest.buffer
+          (rest_last _ _ _ _ _ _ _ c.loop-rest.invariant (omega arith)),
+    )
 
 pub overflow_add-result-2 : goal.overflow_add-result-2
 overflow_add-result-2 c =
-    omega (arith, count-at_most _ _ _ _ c.requires.row_bound.1 c.loop-rest.count c.loop-rest.buffer (rest_last _ _ _ _ _ _ _ c.loop-rest.invariant (omega arith)))
+    omega (
+      arith,
+      count-at_most _ _ _ _ c.requires.row_bound.1 c.loop-rest.count c.loop-rest.buffer
+          (rest_last _ _ _ _ _ _ _ c.loop-rest.invariant (omega arith)),
+    )
 
 pub overflow_add-result-3 : goal.overflow_add-result-3
 overflow_add-result-3 c =
@@ -93,8 +129,10 @@ overflow_add-result-3 c =
 pub shape_of-buffer : goal.shape_of-buffer
 shape_of-buffer c =
     length-set c.loop-rest.buffer c.args.at c.loop-rest.count
-    ∙ length_same _ _ _ _ c.requires.row_bound.1 c.loop-rest.count c.loop-rest.buffer (rest_last _ _ _ _ _ _ _ c.loop-rest.invariant (omega arith))
+    ∙ length_same _ _ _ _ c.requires.row_bound.1 c.loop-rest.count c.loop-rest.buffer
+    (rest_last _ _ _ _ _ _ _ c.loop-rest.invariant (omega arith))
 
 pub returns : goal.returns
 returns c =
-    writing_last _ _ _ _ c.requires.row_bound.1 c.loop-rest.count c.loop-rest.buffer (rest_last _ _ _ _ _ _ _ c.loop-rest.invariant (omega arith))
+    writing_last _ _ _ _ c.requires.row_bound.1 c.loop-rest.count c.loop-rest.buffer
+    (rest_last _ _ _ _ _ _ _ c.loop-rest.invariant (omega arith))

@@ -9,7 +9,11 @@ loop-row-init c =
 
 pub write_step-next-requires : goal.write_step-next-requires
 write_step-next-requires c = record {
-  row_bound = (omega arith, rows_room _ _ _ _ c.requires.n_bound.1 c.loop-row.buffer c.loop-row.next c.loop-row.row c.loop-row.invariant.1 (omega arith));
+  row_bound = (
+    omega arith,
+    rows_room _ _ _ _ c.requires.n_bound.1 c.loop-row.buffer c.loop-row.next c.loop-row.row
+        c.loop-row.invariant.1 (omega arith),
+  );
   entries_fit = c.requires.entries_fit;
 }
 

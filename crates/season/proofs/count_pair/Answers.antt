@@ -12,19 +12,25 @@ overflow_add-result c = let w = c.requires.within.pairs in search rules
 
 pub overflow_add-result-in-Accepted : goal.overflow_add-result-in-Accepted
 overflow_add-result-in-Accepted c =
-    let few = ((let it : (c.in-Accepted.steps < 2 ^ 22) × (c.in-Accepted.moves < 2 ^ 30) = checked_small _ (λ i. (c.type_inv.timetable i).fits) _ _ _ (ap answer_of_check (sym c.in-Accepted.is) ∙ c.check.ensures) in it)) in
+    let few = ((let it : (c.in-Accepted.steps < 2 ^ 22) × (c.in-Accepted.moves < 2 ^ 30) = checked_small _
+    (λ i. (c.type_inv.timetable i).fits) _ _ _ (ap answer_of_check (sym c.in-Accepted.is) ∙ c.check.ensures) in
+    it)) in
     let w = c.requires.within.steps in
     search rules
 
 pub overflow_add-result-in-Accepted-2 : goal.overflow_add-result-in-Accepted-2
 overflow_add-result-in-Accepted-2 c =
-    let few = ((let it : (c.in-Accepted.steps < 2 ^ 22) × (c.in-Accepted.moves < 2 ^ 30) = checked_small _ (λ i. (c.type_inv.timetable i).fits) _ _ _ (ap answer_of_check (sym c.in-Accepted.is) ∙ c.check.ensures) in it)) in
+    let few = ((let it : (c.in-Accepted.steps < 2 ^ 22) × (c.in-Accepted.moves < 2 ^ 30) = checked_small _
+    (λ i. (c.type_inv.timetable i).fits) _ _ _ (ap answer_of_check (sym c.in-Accepted.is) ∙ c.check.ensures) in
+    it)) in
     let w = c.requires.within.moves in
     search rules
 
 pub returns-in-Accepted : goal.returns-in-Accepted
 returns-in-Accepted c =
-    let few = ((let it : (c.in-Accepted.steps < 2 ^ 22) × (c.in-Accepted.moves < 2 ^ 30) = checked_small _ (λ i. (c.type_inv.timetable i).fits) _ _ _ (ap answer_of_check (sym c.in-Accepted.is) ∙ c.check.ensures) in it)) in
+    let few = ((let it : (c.in-Accepted.steps < 2 ^ 22) × (c.in-Accepted.moves < 2 ^ 30) = checked_small _
+    (λ i. (c.type_inv.timetable i).fits) _ _ _ (ap answer_of_check (sym c.in-Accepted.is) ∙ c.check.ensures) in
+    it)) in
     record {
       value = count_accepted c.args.totals (ap answer_of_check (sym c.in-Accepted.is) ∙ c.check.ensures);
       within_2 = within_accepted c.args.pairs c.args.totals c.requires.within _ _ few.0 few.1;

@@ -20,13 +20,16 @@ slice_bounds-record_length-start c =
 
 pub returns-then-length-eq0 : goal.returns-then-length-eq0
 returns-then-length-eq0 c =
-    no_timetable _ c.record_length-order.result c.record_length-length.result c.record_length-order.ensures c.record_length-length.ensures (search rules)
+    no_timetable _ c.record_length-order.result c.record_length-length.result c.record_length-order.ensures
+    c.record_length-length.ensures (search rules)
 
 pub overflow_add-result : goal.overflow_add-result
 overflow_add-result c =
-    let inside = within _ c.record_length-order.result c.record_length-length.result c.record_length-order.ensures c.record_length-length.ensures in
+    let inside = within _ c.record_length-order.result c.record_length-length.result c.record_length-order.ensures
+    c.record_length-length.ensures in
     search rules
 
 pub returns : goal.returns
 returns c =
-    pair_found _ c.record_length-order.result c.record_length-length.result c.record_length-order.ensures c.record_length-length.ensures (search rules) (search rules)
+    pair_found _ c.record_length-order.result c.record_length-length.result c.record_length-order.ensures
+    c.record_length-length.ensures (search rules) (search rules)

@@ -25,7 +25,8 @@ small (Thousandths n) vs is = let told = owed the_type the_laws (Thousandths n) 
 
 pub put_report-requires : goal.put_report-requires
 put_report-requires c =
-    report_fits _ (omega arith) c.in-Report.totals.accepted c.in-Report.totals.refused c.in-Report.totals.steps c.in-Report.totals.moves (told_by c.in-Report.parallelism) (omega arith) (omega arith) (omega arith)
+    report_fits _ (omega arith) c.in-Report.totals.accepted c.in-Report.totals.refused c.in-Report.totals.steps
+    c.in-Report.totals.moves (told_by c.in-Report.parallelism) (omega arith) (omega arith) (omega arith)
     (omega arith) (small c.in-Report.parallelism _ c.in-Report.known_told-1-own.given.1.0)
 
 pub put_refusal-requires : goal.put_refusal-requires

@@ -19,47 +19,64 @@ returns-in_default c =
 
 pub returns-then-buffer-plan : goal.returns-then-buffer-plan
 returns-then-buffer-plan c =
-    let all = shortener_short c.args.order.now c.args.plan.now c.args.buffer.now c.in-Accepted.k (ap plan_answer_of (sym c.in-Accepted.is) ∙ c.check-below.ensures) c.if-buffer-plan.true in
+    let all = shortener_short c.args.order.now c.args.plan.now c.args.buffer.now c.in-Accepted.k
+    (ap plan_answer_of (sym c.in-Accepted.is) ∙ c.check-below.ensures) c.if-buffer-plan.true in
     record {
       result_value = all.0;
       buffer_after = all.1;
     }
 
 pub names_racks-named-requires : goal.names_racks-named-requires
-names_racks-named-requires c = head_there c.args.order.now c.args.plan.now c.in-Accepted.k (ap plan_answer_of (sym c.in-Accepted.is) ∙ c.check-below.ensures)
+names_racks-named-requires c = head_there c.args.order.now c.args.plan.now c.in-Accepted.k
+    (ap plan_answer_of (sym c.in-Accepted.is) ∙ c.check-below.ensures)
 
 pub slice_bounds-shorten_moves-count : goal.slice_bounds-shorten_moves-count
-slice_bounds-shorten_moves-count c = head_there c.args.order.now c.args.plan.now c.in-Accepted.k (ap plan_answer_of (sym c.in-Accepted.is) ∙ c.check-below.ensures)
+slice_bounds-shorten_moves-count c = head_there c.args.order.now c.args.plan.now c.in-Accepted.k
+    (ap plan_answer_of (sym c.in-Accepted.is) ∙ c.check-below.ensures)
 
 pub slice_bounds-shorten_moves-start : goal.slice_bounds-shorten_moves-start
-slice_bounds-shorten_moves-start c = head_there c.args.order.now c.args.plan.now c.in-Accepted.k (ap plan_answer_of (sym c.in-Accepted.is) ∙ c.check-below.ensures)
+slice_bounds-shorten_moves-start c = head_there c.args.order.now c.args.plan.now c.in-Accepted.k
+    (ap plan_answer_of (sym c.in-Accepted.is) ∙ c.check-below.ensures)
 
 pub slice_bounds-shorten_moves-count-2 : goal.slice_bounds-shorten_moves-count-2
 slice_bounds-shorten_moves-count-2 c =
-    part_head c.args.order.now c.args.plan.now c.args.buffer.now c.in-Accepted.k (ap plan_answer_of (sym c.in-Accepted.is) ∙ c.check-below.ensures) c.if-buffer-plan.false
+    part_head c.args.order.now c.args.plan.now c.args.buffer.now c.in-Accepted.k
+    (ap plan_answer_of (sym c.in-Accepted.is) ∙ c.check-below.ensures) c.if-buffer-plan.false
 
 pub slice_bounds-shorten_moves-start-2 : goal.slice_bounds-shorten_moves-start-2
 slice_bounds-shorten_moves-start-2 c =
-    part_head c.args.order.now c.args.plan.now c.args.buffer.now c.in-Accepted.k (ap plan_answer_of (sym c.in-Accepted.is) ∙ c.check-below.ensures) c.if-buffer-plan.false
+    part_head c.args.order.now c.args.plan.now c.args.buffer.now c.in-Accepted.k
+    (ap plan_answer_of (sym c.in-Accepted.is) ∙ c.check-below.ensures) c.if-buffer-plan.false
 
 pub shorten_moves-count-requires : goal.shorten_moves-count-requires
 shorten_moves-count-requires c = record {
   k_bound = (
     count_below c.args.order.now c.args.plan.now c.in-Accepted.k (ap plan_answer_of (sym c.in-Accepted.is) ∙ c.check-below.ensures),
-    tail_fits c.args.order.now c.args.plan.now c.in-Accepted.k (ap plan_answer_of (sym c.in-Accepted.is) ∙ c.check-below.ensures) c.names_racks-named.result c.names_racks-named.ensures,
+    tail_fits c.args.order.now c.args.plan.now c.in-Accepted.k (ap plan_answer_of (sym c.in-Accepted.is) ∙
+        c.check-below.ensures) c.names_racks-named.result c.names_racks-named.ensures,
   );
-  k_in_bounds = part_room c.args.order.now c.args.plan.now c.args.buffer.now c.in-Accepted.k (ap plan_answer_of (sym c.in-Accepted.is) ∙ c.check-below.ensures) c.if-buffer-plan.false c.names_racks-named.result c.names_racks-named.ensures;
+  k_in_bounds = part_room c.args.order.now c.args.plan.now c.args.buffer.now c.in-Accepted.k
+      (ap plan_answer_of (sym c.in-Accepted.is) ∙ c.check-below.ensures) c.if-buffer-plan.false
+      c.names_racks-named.result c.names_racks-named.ensures;
 }
 
 pub put_head-requires : goal.put_head-requires
 put_head-requires c =
-    let few = few_kept c.args.order.now c.args.plan.now c.args.buffer.now c.in-Accepted.k (ap plan_answer_of (sym c.in-Accepted.is) ∙ c.check-below.ensures) c.if-buffer-plan.false c.names_racks-named.result
-    c.names_racks-named.ensures c.shorten_moves-count.result c.shorten_moves-count.new.room c.shorten_moves-count.ensures in
-    (part_back c.args.order.now c.args.plan.now c.args.buffer.now c.in-Accepted.k (ap plan_answer_of (sym c.in-Accepted.is) ∙ c.check-below.ensures) c.if-buffer-plan.false _, few, c.spare_bits.ensures.1)
+    let few = few_kept c.args.order.now c.args.plan.now c.args.buffer.now c.in-Accepted.k
+    (ap plan_answer_of (sym c.in-Accepted.is) ∙ c.check-below.ensures) c.if-buffer-plan.false
+    c.names_racks-named.result
+    c.names_racks-named.ensures c.shorten_moves-count.result c.shorten_moves-count.new.room c.shorten_moves-count.ensures in (
+      part_back c.args.order.now c.args.plan.now c.args.buffer.now c.in-Accepted.k
+          (ap plan_answer_of (sym c.in-Accepted.is) ∙ c.check-below.ensures) c.if-buffer-plan.false _,
+      few,
+      c.spare_bits.ensures.1,
+    )
 
 pub returns : goal.returns
 returns c =
-    let all = shortener_made c.args.order.now c.args.plan.now c.args.buffer.now c.in-Accepted.k (ap plan_answer_of (sym c.in-Accepted.is) ∙ c.check-below.ensures) c.if-buffer-plan.false c.names_racks-named.result
+    let all = shortener_made c.args.order.now c.args.plan.now c.args.buffer.now c.in-Accepted.k
+    (ap plan_answer_of (sym c.in-Accepted.is) ∙ c.check-below.ensures) c.if-buffer-plan.false
+    c.names_racks-named.result
     c.names_racks-named.ensures c.shorten_moves-count.result c.shorten_moves-count.new.room c.shorten_moves-count.ensures
     c.spare_bits.result c.spare_bits.ensures.0 c.put_head.new.s c.put_head.ensures in
     record {

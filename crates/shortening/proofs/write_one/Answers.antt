@@ -12,8 +12,14 @@ returns-then-not-has c =
 
 pub put_listed-requires : goal.put_listed-requires
 put_listed-requires c = record {
-  a_bound = (c.listed_at-listed.ensures.left_below, c.listed_at-listed.ensures.entered_below, rack_fits _ _ _ _ _ _ c.listed_at-listed.ensures);
-  j_in_bounds = bytes_fewer c.args.named (c.args.count + 1) (c.args.i + 1) _ (omega (arith, c.requires.count_le_i.0)) c.requires.count_le_i.1;
+  a_bound = (
+    c.listed_at-listed.ensures.left_below,
+    c.listed_at-listed.ensures.entered_below,
+    rack_fits _ _ _ _ _ _
+        c.listed_at-listed.ensures,
+  );
+  j_in_bounds = bytes_fewer c.args.named (c.args.count + 1) (c.args.i + 1) _ (omega (arith, c.requires.count_le_i.0))
+      c.requires.count_le_i.1;
 }
 
 pub returns : goal.returns
@@ -21,5 +27,6 @@ returns c =
     let is = listed_is c.args.named c.args.tail.now c.args.i _ _ _ c.listed_at-listed.ensures in
     λ B same p. write_kept c.args.named c.args.tail.now c.args.marks.now c.args.i B c.args.count c.args.room.now p
     (c.has.ensures.0 c.if-not-has.false) _ is
-    (bytes_fewer c.args.named (c.args.count + 1) (c.args.i + 1) _ (omega (arith, c.requires.count_le_i.0)) (rw same at c.requires.count_le_i.1))
+    (bytes_fewer c.args.named (c.args.count + 1) (c.args.i + 1) _ (omega (arith, c.requires.count_le_i.0))
+    (rw same at c.requires.count_le_i.1))
     c.put_listed.new.s c.put_listed.ensures

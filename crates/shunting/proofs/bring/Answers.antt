@@ -86,8 +86,10 @@ clear_within-state-requires c = record {
 
 pub make_move-state-requires : goal.make_move-state-requires
 make_move-state-requires c = record {
-  movable = bring_movable c.loop-k.invariant.0 _ c.loop-k-test.true c.loop-k.invariant.1 c.without-free.ensures c.clear_within-state.ensures.cleared;
-  fits = fits_less 1 (omega arith) (bring_fits c.loop-k.invariant.0 _ c.loop-k-test.true c.loop-k.invariant.1 c.without-free.ensures c.loop-k.invariant.2 c.clear_within-state.ensures);
+  movable = bring_movable c.loop-k.invariant.0 _ c.loop-k-test.true c.loop-k.invariant.1 c.without-free.ensures
+      c.clear_within-state.ensures.cleared;
+  fits = fits_less 1 (omega arith) (bring_fits c.loop-k.invariant.0 _ c.loop-k-test.true c.loop-k.invariant.1
+      c.without-free.ensures c.loop-k.invariant.2 c.clear_within-state.ensures);
 }
 
 pub overflow_add-k : goal.overflow_add-k
@@ -105,8 +107,11 @@ loop-k-smaller c =
 pub loop-k-preserved : goal.loop-k-preserved
 loop-k-preserved c = (
   c.loop-k.invariant.0,
-  bringing_step c.loop-k.invariant.0 _ c.loop-k-test.true c.loop-k.invariant.1 c.without-free.ensures c.clear_within-state.ensures.cleared c.make_move-state.ensures.passed,
-  bringing_on c.loop-k.invariant.0 _ c.loop-k-test.true c.loop-k.invariant.1 c.without-free.ensures c.loop-k.invariant.2 c.clear_within-state.ensures c.make_move-state.ensures.passed c.make_move-state.ensures.journey_on c.make_move-state.ensures.logged_value,
+  bringing_step c.loop-k.invariant.0 _ c.loop-k-test.true c.loop-k.invariant.1 c.without-free.ensures
+      c.clear_within-state.ensures.cleared c.make_move-state.ensures.passed,
+  bringing_on c.loop-k.invariant.0 _ c.loop-k-test.true c.loop-k.invariant.1 c.without-free.ensures c.loop-k.invariant.2
+      c.clear_within-state.ensures c.make_move-state.ensures.passed c.make_move-state.ensures.journey_on
+      c.make_move-state.ensures.logged_value,
 )
 
 pub shape_of-tail : goal.shape_of-tail

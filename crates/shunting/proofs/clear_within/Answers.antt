@@ -12,9 +12,13 @@ clear-clearing-requires c =
     record {
       rows = c.requires.rows;
       p_bound = omega arith;
-      room_to_clear = room_same (λ q. ((free_within _ _ _ _ c.requires.inside c.below.ensures c.minus-held.ensures) q).0) (λ q. ((free_within _ _ _ _ c.requires.inside c.below.ensures c.minus-held.ensures) q).1) c.requires.room_to_clear;
+      room_to_clear = room_same (λ q. ((free_within _ _ _ _ c.requires.inside c.below.ensures c.minus-held.ensures)
+          q).0) (λ q. ((free_within _ _ _ _ c.requires.inside c.below.ensures c.minus-held.ensures) q).1)
+          c.requires.room_to_clear;
     }
 
 pub returns : goal.returns
 returns c =
-    within_clears (λ q. ((free_within _ _ _ _ c.requires.inside c.below.ensures c.minus-held.ensures) q).0) (λ q. ((free_within _ _ _ _ c.requires.inside c.below.ensures c.minus-held.ensures) q).1) c.requires.reaches c.clear-clearing.ensures
+    within_clears (λ q. ((free_within _ _ _ _ c.requires.inside c.below.ensures c.minus-held.ensures) q).0)
+    (λ q. ((free_within _ _ _ _ c.requires.inside c.below.ensures c.minus-held.ensures) q).1) c.requires.reaches
+    c.clear-clearing.ensures

@@ -15,8 +15,14 @@ overflow_sub-i c =
     omega arith
 
 pub loop-i-init : goal.loop-i-init
-loop-i-init c =
-    (refl, shifting_begin _ _ c.requires.simple _ c.requires.shiftable, shifts_begin _ _ _ _ _ c.requires.shiftable.some, c.requires.fits, refl)
+loop-i-init c = (
+  refl,
+  shifting_begin _ _ c.requires.simple _ c.requires.shiftable,
+  shifts_begin _ _ _ _ _
+      c.requires.shiftable.some,
+  c.requires.fits,
+  refl,
+)
 
 pub bounds-at-i : goal.bounds-at-i
 bounds-at-i c =
@@ -61,8 +67,10 @@ loop-i-preserved c =
     let noted = c.step-tally.ensures.logged_value in (
       c.step-tally.auto.tail ∙ c.loop-i.invariant.0,
       shifting_step _ _ c.requires.simple _ _ _ c.loop-i.i (c.loop-i.i - 1) up c.loop-i.invariant.1 c.step-tally.ensures.passed,
-      shifts_step _ _ _ _ _ c.loop-i.i (c.loop-i.i - 1) _ _ _ _ _ _ up c.loop-i.invariant.1.place c.loop-i.invariant.2 can c.step-tally.ensures.passed c.step-tally.ensures.journey_on,
-      fits_move _ _ (c.loop-i.i - 1) can.leaves (fits_less (1 + (c.loop-i.i - 1)) (omega arith) c.loop-i.invariant.3) c.step-tally.ensures.journey_on,
+      shifts_step _ _ _ _ _ c.loop-i.i (c.loop-i.i - 1) _ _ _ _ _ _ up c.loop-i.invariant.1.place c.loop-i.invariant.2
+          can c.step-tally.ensures.passed c.step-tally.ensures.journey_on,
+      fits_move _ _ (c.loop-i.i - 1) can.leaves (fits_less (1 + (c.loop-i.i - 1)) (omega arith) c.loop-i.invariant.3)
+          c.step-tally.ensures.journey_on,
       omega arith,
     )
 

@@ -14,7 +14,8 @@ abbrev pub invariant-loop-i : goal.invariant-loop-i
 invariant-loop-i l =
     (length l.tail ≡ length l.initial.tail)
     × Shifting (row l.at) l.size (row l.initial.racks) (row l.racks) l.i
-    × Shifts (row l.at) l.size (state_of l.initial.racks l.real l.initial.tally) l.initial.log l.initial.tail l.i (state_of l.racks l.real l.tally) l.log l.tail
+    × Shifts (row l.at) l.size (state_of l.initial.racks l.real l.initial.tally) l.initial.log l.initial.tail l.i
+    (state_of l.racks l.real l.tally) l.log l.tail
     × Fits (state_of l.racks l.real l.tally) l.log l.tail l.i
     × (l.tally.logged + l.i ≡ l.initial.tally.logged + (l.size - 1))
 

@@ -27,7 +27,8 @@ settle_handles-handled-requires c =
 
 pub settle_ring-requires : goal.settle_ring-requires
 settle_ring-requires c =
-    let met = ring_met c.args.breakdown c.requires.circle_value c.requires.rows c.requires.breaks_down c.requires.fact c.settle_handles-handled.ensures.table_3 c.settle_handles-handled.ensures.agreed in
+    let met = ring_met c.args.breakdown c.requires.circle_value c.requires.rows c.requires.breaks_down c.requires.fact
+    c.settle_handles-handled.ensures.table_3 c.settle_handles-handled.ensures.agreed in
     record {
       rows = met.rows;
       base_ring = met.ring;

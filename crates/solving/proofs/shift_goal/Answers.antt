@@ -15,7 +15,8 @@ clear_within-cleared-requires c =
     record {
       rows = c.requires.rows;
       inside = λ q h. (c.below-all.ensures q).0 h;
-      reaches = reaches-first c.args.rows.now c.requires.rows.symmetric c.requires.bi_connected c.requires.two_positions _ c.below-all.ensures c.requires.table;
+      reaches = reaches-first c.args.rows.now c.requires.rows.symmetric c.requires.bi_connected c.requires.two_positions
+          _ c.below-all.ensures c.requires.table;
       room_to_clear = clear_room (few_all _ c.below-all.ensures) (fits_anew (c.args.n - 1) (omega arith) (omega arith) c.requires.room);
     }
 
@@ -33,7 +34,8 @@ clear_within-requires c =
     record {
       rows = c.requires.rows;
       inside = λ q h. (c.below-all.ensures q).0 ((c.without.ensures q).0 h).0;
-      reaches = reaches-second c.args.rows.now c.requires.rows.symmetric c.requires.bi_connected c.requires.two_positions _ c.below-all.ensures _ c.without.ensures table;
+      reaches = reaches-second c.args.rows.now c.requires.rows.symmetric c.requires.bi_connected
+          c.requires.two_positions _ c.below-all.ensures _ c.without.ensures table;
       room_to_clear = clear_room (few_rest _ c.below-all.ensures c.requires.two_positions.first _ c.without.ensures)
           (fits_then (fits_anew (shift_moves c.args.n) (omega arith) (omega arith) c.requires.room) m);
     }
@@ -41,8 +43,10 @@ clear_within-requires c =
 pub returns : goal.returns
 returns c =
     let first = (clear_few (few_all _ c.below-all.ensures) c.clear_within-cleared.ensures).journey in
-    let second = (clear_few (few_rest _ c.below-all.ensures c.requires.two_positions.first _ c.without.ensures) c.clear_within.ensures).journey in
-    let all = shifted c.requires.rows c.args.x c.args.next _ _ c.without.ensures c.args.goal.now c.requires.table c.requires.room.log first c.clear_within-cleared.ensures.cleared second c.clear_within.ensures.cleared in
+    let second = (clear_few (few_rest _ c.below-all.ensures c.requires.two_positions.first _ c.without.ensures)
+    c.clear_within.ensures).journey in
+    let all = shifted c.requires.rows c.args.x c.args.next _ _ c.without.ensures c.args.goal.now c.requires.table
+    c.requires.room.log first c.clear_within-cleared.ensures.cleared second c.clear_within.ensures.cleared in
     record {
       shift = all.0;
       tail_unchanged = all.1;

@@ -16,7 +16,8 @@ pub shift_goal-shifted-requires : goal.shift_goal-shifted-requires
 shift_goal-shifted-requires c =
     let two = subst (λ (x : Circle). TwoPositions c.args.n (place x 0) (place x 1)) (sym c.circle_of-circle.ensures)
     (ring-apart c.args.breakdown c.requires.breaks_down) in
-    let room = room_shift c.requires.breaks_down.ring_three c.requires.breaks_down.ring_less c.requires.space _ _ c.requires.goal_len (length-replicate {A = ℕ} 8256 0) in
+    let room = room_shift c.requires.breaks_down.ring_three c.requires.breaks_down.ring_less c.requires.space _ _
+    c.requires.goal_len (length-replicate {A = ℕ} 8256 0) in
     record {
       rows = c.requires.rows;
       bi_connected = breakdown_bi_connected c.requires.rows.symmetric c.requires.breaks_down;
@@ -27,7 +28,8 @@ shift_goal-shifted-requires c =
 
 pub settle-settled-requires : goal.settle-settled-requires
 settle-settled-requires c =
-    let space = space_settle c.requires.breaks_down.ring_three c.requires.breaks_down.ring_less c.requires.space c.shift_goal-shifted.ensures.tail_unchanged in
+    let space = space_settle c.requires.breaks_down.ring_three c.requires.breaks_down.ring_less c.requires.space
+    c.shift_goal-shifted.ensures.tail_unchanged in
     record {
       rows = c.requires.rows;
       breaks_down = c.requires.breaks_down;
@@ -41,7 +43,9 @@ pub undo-requires : goal.undo-requires
 undo-requires c =
     let small = c.requires.rows.small in
     let back = undoing _ c.requires.rows.symmetric c.shift_goal-shifted.ensures.shift c.settle-settled.ensures.same in
-    let space = space_back c.requires.breaks_down.ring_three c.requires.breaks_down.ring_less c.requires.space c.shift_goal-shifted.ensures.tail_unchanged c.settle-settled.ensures.trip _ c.shift_goal-shifted.ensures.shift.few in
+    let space = space_back c.requires.breaks_down.ring_three c.requires.breaks_down.ring_less c.requires.space
+    c.shift_goal-shifted.ensures.tail_unchanged c.settle-settled.ensures.trip _
+    c.shift_goal-shifted.ensures.shift.few in
     record {
       entries = record { ordered = omega arith; within = omega arith };
       undoable = (c.args.rows.now, _, row c.args.goal.now, back);
@@ -50,8 +54,11 @@ undo-requires c =
 
 pub returns : goal.returns
 returns c =
-    let back = c.undo.ensures c.args.rows.now _ (row c.args.goal.now) (undoing _ c.requires.rows.symmetric c.shift_goal-shifted.ensures.shift c.settle-settled.ensures.same) in
+    let back = c.undo.ensures c.args.rows.now _ (row c.args.goal.now) (undoing _ c.requires.rows.symmetric
+    c.shift_goal-shifted.ensures.shift c.settle-settled.ensures.same) in
     record {
-      trip = trip_all c.requires.breaks_down.ring_three c.requires.breaks_down.ring_less c.requires.space c.shift_goal-shifted.ensures.tail_unchanged c.settle-settled.ensures.trip _ c.shift_goal-shifted.ensures.shift.few back.0;
+      trip = trip_all c.requires.breaks_down.ring_three c.requires.breaks_down.ring_less c.requires.space
+          c.shift_goal-shifted.ensures.tail_unchanged c.settle-settled.ensures.trip _
+          c.shift_goal-shifted.ensures.shift.few back.0;
       same = back.1;
     }

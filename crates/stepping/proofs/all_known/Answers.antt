@@ -8,7 +8,8 @@ loop-j-init c = (omega arith, knowing_first c.args.n c.args.step.now c.args.c)
 
 pub returns-then-n-a : goal.returns-then-n-a
 returns-then-n-a c =
-    unknown_left c.args.n c.args.step.now c.args.c c.loop-j.j _ _ c.loop-j.invariant.1 (omega arith) c.first_of-a.ensures c.second_of-b.ensures
+    unknown_left c.args.n c.args.step.now c.args.c c.loop-j.j _ _ c.loop-j.invariant.1 (omega arith)
+    c.first_of-a.ensures c.second_of-b.ensures
     (omega arith)
 
 pub returns-then-n-b : goal.returns-then-n-b

@@ -49,13 +49,17 @@ loop-p-preserved c =
       elim c.if-origin-ne0.branch [
         | then-origin-ne0 t ↦
             rw (t.back-is, t.count-is)
-            (listing_more c.args.origins.now (row_moves c.args.origins.now 0 64) c.loop-p.back c.loop-p.count c.loop-p.p c.loop-p.invariant.1 (omega arith) (c.wide-origin.result - 1)
+            (listing_more c.args.origins.now (row_moves c.args.origins.now 0 64) c.loop-p.back c.loop-p.count c.loop-p.p
+            c.loop-p.invariant.1 (omega arith) (c.wide-origin.result - 1)
             (omega arith)
             (omega arith))
-        | else-origin-ne0 t ↦ rw (t.back-is, t.count-is) (listing_none c.args.origins.now (row_moves c.args.origins.now 0 64) c.loop-p.back c.loop-p.count c.loop-p.p c.loop-p.invariant.1 (omega arith) (omega arith))
+        | else-origin-ne0 t ↦ rw (t.back-is, t.count-is) (listing_none c.args.origins.now
+            (row_moves c.args.origins.now 0 64) c.loop-p.back c.loop-p.count c.loop-p.p c.loop-p.invariant.1
+            (omega arith) (omega arith))
       ],
     )
 
 pub returns : goal.returns
 returns c =
-    listing_last c.args.origins.now (row_moves c.args.origins.now 0 64) c.loop-p.back c.loop-p.count c.loop-p.p c.loop-p.invariant.1 (omega arith)
+    listing_last c.args.origins.now (row_moves c.args.origins.now 0 64) c.loop-p.back c.loop-p.count c.loop-p.p
+    c.loop-p.invariant.1 (omega arith)

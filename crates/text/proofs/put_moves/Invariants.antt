@@ -7,7 +7,8 @@ use Rattle.text.proofs.put_moves.Given as goal
 
 abbrev pub invariant-loop-j : goal.invariant-loop-j
 invariant-loop-j l =
-    (l.j ≤ l.count) × Left l.initial.out l.at (moves_text (pairs l.moves 0 l.count)) l.out l.next (moves_text (pairs l.moves (12 * l.j) (l.count - l.j)))
+    (l.j ≤ l.count) × Left l.initial.out l.at (moves_text (pairs l.moves 0 l.count)) l.out l.next
+    (moves_text (pairs l.moves (12 * l.j) (l.count - l.j)))
 
 abbrev pub decreases-loop-j : goal.decreases-loop-j
 decreases-loop-j l = l.count - l.j

@@ -16,20 +16,47 @@ bounds-timetable-begin c =
     (stands_room c.args.timetable.now c.loop-i.i c.loop-i.begin c.loop-i.invariant.1 (omega arith)).begins
 
 pub overflow_add-end : goal.overflow_add-end
-overflow_add-end c = omega (arith, cut_ends ((let it : Cut c.args.timetable.now c.loop-i.i c.loop-i.begin c.step_length.result = record { stands = c.loop-i.invariant.1; there = omega arith; size = c.step_length.ensures.size_is } in it)))
+overflow_add-end c = omega (
+  arith,
+  cut_ends ((let it : Cut c.args.timetable.now c.loop-i.i c.loop-i.begin
+      c.step_length.result = record {
+        stands = c.loop-i.invariant.1;
+        there = omega arith;
+        size =
+            c.step_length.ensures.size_is;
+      } in it)),
+)
 
 pub slice_bounds-put_step-end : goal.slice_bounds-put_step-end
-slice_bounds-put_step-end c = omega (arith, cut_ends ((let it : Cut c.args.timetable.now c.loop-i.i c.loop-i.begin c.step_length.result = record { stands = c.loop-i.invariant.1; there = omega arith; size = c.step_length.ensures.size_is } in it)))
+slice_bounds-put_step-end c = omega (
+  arith,
+  cut_ends ((let it : Cut c.args.timetable.now c.loop-i.i c.loop-i.begin
+      c.step_length.result = record {
+        stands = c.loop-i.invariant.1;
+        there = omega arith;
+        size =
+            c.step_length.ensures.size_is;
+      } in it)),
+)
 
 pub put_step-next-requires : goal.put_step-next-requires
-put_step-next-requires c =
-    (cut_length ((let it : Cut c.args.timetable.now c.loop-i.i c.loop-i.begin c.step_length.result = record { stands = c.loop-i.invariant.1; there = omega arith; size = c.step_length.ensures.size_is } in it)), next_fits _ _ (lines_next ((let it : Cut c.args.timetable.now c.loop-i.i c.loop-i.begin c.step_length.result = record { stands = c.loop-i.invariant.1; there = omega arith; size = c.step_length.ensures.size_is } in it))) c.requires.2 c.loop-i.invariant.2)
+put_step-next-requires c = (
+  cut_length ((let it : Cut c.args.timetable.now c.loop-i.i c.loop-i.begin c.step_length.result = record
+      { stands = c.loop-i.invariant.1; there = omega arith; size = c.step_length.ensures.size_is } in it)),
+  next_fits
+      _ _ (lines_next ((let it : Cut c.args.timetable.now c.loop-i.i c.loop-i.begin c.step_length.result = record
+      { stands = c.loop-i.invariant.1; there = omega arith; size = c.step_length.ensures.size_is } in it)))
+      c.requires.2 c.loop-i.invariant.2,
+)
 
 pub loop-i-preserved : goal.loop-i-preserved
 loop-i-preserved c = (
   omega arith,
-  stands_after ((let it : Cut c.args.timetable.now c.loop-i.i c.loop-i.begin c.step_length.result = record { stands = c.loop-i.invariant.1; there = omega arith; size = c.step_length.ensures.size_is } in it)),
-  next-left _ _ (lines_next ((let it : Cut c.args.timetable.now c.loop-i.i c.loop-i.begin c.step_length.result = record { stands = c.loop-i.invariant.1; there = omega arith; size = c.step_length.ensures.size_is } in it))) c.requires.2 c.loop-i.invariant.2 c.put_step-next.ensures,
+  stands_after ((let it : Cut c.args.timetable.now c.loop-i.i c.loop-i.begin c.step_length.result = record
+      { stands = c.loop-i.invariant.1; there = omega arith; size = c.step_length.ensures.size_is } in it)),
+  next-left _ _ (lines_next ((let it : Cut c.args.timetable.now c.loop-i.i c.loop-i.begin c.step_length.result = record
+      { stands = c.loop-i.invariant.1; there = omega arith; size = c.step_length.ensures.size_is } in it))) c.requires.2
+      c.loop-i.invariant.2 c.put_step-next.ensures,
 )
 
 pub shape_of-out : goal.shape_of-out

@@ -32,20 +32,20 @@ pad_set-requires c =
 
 pub loop-i-preserved : goal.loop-i-preserved
 loop-i-preserved c =
-  let seen : c.if-pad_set.pad_seen ≡ (c.loop-i.pad_seen || c.pad_set.result) =
-  elim c.if-pad_set.branch [
-    then-pad_set w ↦ remembered _ c.loop-i.pad_seen c.pad_set.result w.pad_seen-is w.if-pad_set.true
-    | else-pad_set w ↦ kept _ c.loop-i.pad_seen c.pad_set.result w.pad_seen-is w.if-pad_set.false
-  ]
-  in (
-  omega arith,
-  omega arith,
-  omega arith,
-  left-next c.args.timetable.now c.args.count c.loop-i.at c.loop-i.moves c.loop-i.pad_seen
-      c.loop-i.i c.loop-i.invariant.3 (omega arith) c.wide-moves.result c.step_length-size.result c.wide-moves.ensures.0
-      (c.step_length-size.ensures.size_is ∙ ap step_length (sym c.wide-moves.ensures.0)) (omega arith) (omega arith)
-      c.if-pad_set.pad_seen (seen ∙ ap (λ (b : Bool). c.loop-i.pad_seen || b) c.pad_set.ensures),
-)
+    let seen : c.if-pad_set.pad_seen ≡ (c.loop-i.pad_seen || c.pad_set.result) =
+    elim c.if-pad_set.branch [
+      | then-pad_set w ↦ remembered _ c.loop-i.pad_seen c.pad_set.result w.pad_seen-is w.if-pad_set.true
+      | else-pad_set w ↦ kept _ c.loop-i.pad_seen c.pad_set.result w.pad_seen-is w.if-pad_set.false
+    ]
+    in (
+      omega arith,
+      omega arith,
+      omega arith,
+      left-next c.args.timetable.now c.args.count c.loop-i.at c.loop-i.moves c.loop-i.pad_seen
+          c.loop-i.i c.loop-i.invariant.3 (omega arith) c.wide-moves.result c.step_length-size.result c.wide-moves.ensures.0
+          (c.step_length-size.ensures.size_is ∙ ap step_length (sym c.wide-moves.ensures.0)) (omega arith) (omega arith)
+          c.if-pad_set.pad_seen (seen ∙ ap (λ (b : Bool). c.loop-i.pad_seen || b) c.pad_set.ensures),
+    )
 
 pub returns-then-at-timetable : goal.returns-then-at-timetable
 returns-then-at-timetable c =

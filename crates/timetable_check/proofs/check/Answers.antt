@@ -16,7 +16,9 @@ returns-in_default c =
 
 pub returns-in_default-reading : goal.returns-in_default-reading
 returns-in_default-reading c =
-    record_refused c.args.order.now (reading_answer c.args.timetable.now) (judgement c.args.order.now c.args.timetable.now) (timetable_answer_is c.args.order.now c.args.timetable.now) (order_accepted c.read-below.ensures c.in-Accepted.is)
+    record_refused c.args.order.now (reading_answer c.args.timetable.now)
+    (judgement c.args.order.now c.args.timetable.now) (timetable_answer_is c.args.order.now c.args.timetable.now)
+    (order_accepted c.read-below.ensures c.in-Accepted.is)
     c.read-reading.ensures (ap answer_of_check c.in_default-reading.is)
 
 pub slice_bounds-judge-count : goal.slice_bounds-judge-count
@@ -28,7 +30,9 @@ slice_bounds-judge-start c = (order_accepted c.read-below.ensures c.in-Accepted.
 pub judge-requires : goal.judge-requires
 judge-requires c =
     let gave = (order_accepted c.read-below.ensures c.in-Accepted.is) in
-    let told = ((let it : ReadingGave c.args.timetable.now c.in-Accepted-reading.steps c.in-Accepted-reading.moves = reading_told c.args.timetable.now c.in-Accepted-reading.steps c.in-Accepted-reading.moves (ap answer_of_check (sym c.in-Accepted-reading.is) ∙ c.read-reading.ensures) in it)) in
+    let told = ((let it : ReadingGave c.args.timetable.now c.in-Accepted-reading.steps c.in-Accepted-reading.moves =
+    reading_told c.args.timetable.now c.in-Accepted-reading.steps c.in-Accepted-reading.moves
+    (ap answer_of_check (sym c.in-Accepted-reading.is) ∙ c.read-reading.ensures) in it)) in
     record {
       e_bound = (gave.few_edges, gave.few_racks, gave.room);
       timetable_value = (told.length_right, told.steps_are, told.few_steps);
@@ -36,4 +40,7 @@ judge-requires c =
 
 pub returns : goal.returns
 returns c =
-    c.judge.ensures ∙ answer_is (order_accepted c.read-below.ensures c.in-Accepted.is) ((let it : ReadingGave c.args.timetable.now c.in-Accepted-reading.steps c.in-Accepted-reading.moves = reading_told c.args.timetable.now c.in-Accepted-reading.steps c.in-Accepted-reading.moves (ap answer_of_check (sym c.in-Accepted-reading.is) ∙ c.read-reading.ensures) in it))
+    c.judge.ensures ∙ answer_is (order_accepted c.read-below.ensures c.in-Accepted.is)
+    ((let it : ReadingGave c.args.timetable.now c.in-Accepted-reading.steps c.in-Accepted-reading.moves =
+    reading_told c.args.timetable.now c.in-Accepted-reading.steps c.in-Accepted-reading.moves
+    (ap answer_of_check (sym c.in-Accepted-reading.is) ∙ c.read-reading.ensures) in it))

@@ -9,18 +9,30 @@ pub loop-i-init : goal.loop-i-init
 loop-i-init c = (omega arith, steps_first _ _ _ c.requires.0)
 
 pub bounds-timetable-at : goal.bounds-timetable-at
-bounds-timetable-at c = ((let it : Room c.args.timetable.now c.loop-i.at = stands_room c.args.timetable.now c.loop-i.i c.loop-i.at c.loop-i.invariant.1.stands (omega arith) in it)).begins
+bounds-timetable-at c = ((let it : Room c.args.timetable.now c.loop-i.at = stands_room c.args.timetable.now c.loop-i.i
+    c.loop-i.at c.loop-i.invariant.1.stands (omega arith) in it)).begins
 
 pub overflow_add-next : goal.overflow_add-next
-overflow_add-next c = omega (arith, ((let it : Room c.args.timetable.now c.loop-i.at = stands_room c.args.timetable.now c.loop-i.i c.loop-i.at c.loop-i.invariant.1.stands (omega arith) in it)).ends, c.step_length.ensures.size_is)
+overflow_add-next c = omega (
+  arith,
+  ((let it : Room c.args.timetable.now c.loop-i.at = stands_room c.args.timetable.now
+      c.loop-i.i c.loop-i.at c.loop-i.invariant.1.stands (omega arith) in it)).ends,
+  c.step_length.ensures.size_is,
+)
 
 pub slice_bounds-run_part-end : goal.slice_bounds-run_part-end
-slice_bounds-run_part-end c = omega (arith, ((let it : Room c.args.timetable.now c.loop-i.at = stands_room c.args.timetable.now c.loop-i.i c.loop-i.at c.loop-i.invariant.1.stands (omega arith) in it)).ends, c.step_length.ensures.size_is)
+slice_bounds-run_part-end c = omega (
+  arith,
+  ((let it : Room c.args.timetable.now c.loop-i.at = stands_room
+      c.args.timetable.now c.loop-i.i c.loop-i.at c.loop-i.invariant.1.stands (omega arith) in it)).ends,
+  c.step_length.ensures.size_is,
+)
 
 pub run_part-requires : goal.run_part-requires
 run_part-requires c =
     cut_length c.args.timetable.now c.loop-i.at c.step_length.result
-    c.step_length.ensures.size_is ((let it : Room c.args.timetable.now c.loop-i.at = stands_room c.args.timetable.now c.loop-i.i c.loop-i.at c.loop-i.invariant.1.stands (omega arith) in it))
+    c.step_length.ensures.size_is ((let it : Room c.args.timetable.now c.loop-i.at = stands_room c.args.timetable.now
+    c.loop-i.i c.loop-i.at c.loop-i.invariant.1.stands (omega arith) in it))
 
 pub returns-then-not-run_part : goal.returns-then-not-run_part
 returns-then-not-run_part c =

@@ -15,7 +15,8 @@ all_led-requires c =
     let ms = entries c.args.step.now 0 c.args.c in
     let yes = c.if-not-note_moves.false in
     let is = sym c.note_moves.ensures.sound ∙ yes in
-    let targets = sound_targets c.args.matrix.now c.args.racks.now ms c.note_moves.new.target (entries_below _ _ _) is (c.note_moves.ensures.all yes) in
+    let targets = sound_targets c.args.matrix.now c.args.racks.now ms c.note_moves.new.target (entries_below _ _ _) is
+    (c.note_moves.ensures.all yes) in
     record {
       c_bound = c.requires;
       targets = targets;

@@ -22,12 +22,14 @@ unfolding put_down
 loop-j-preserved c =
     let all = entries c.args.step.now 0 c.args.c in
     let at = entries_at c.args.step.now c.args.c c.loop-j.j _ _ (omega arith) c.first_of-a.ensures c.second_of-b.ensures in
-    let next = left-next (put_down c.args.before.now) (entries_from c.args.step.now c.args.c) all c.args.racks.now c.loop-j.racks c.loop-j.j _ _
+    let next = left-next (put_down c.args.before.now) (entries_from c.args.step.now c.args.c) all c.args.racks.now
+    c.loop-j.racks c.loop-j.j _ _
     c.loop-j.invariant.1 at _ (λ ms. refl) in
     (omega arith, next)
 
 pub returns : goal.returns
 unfolding put_down
 returns c =
-    left_last (put_down c.args.before.now) (entries_from c.args.step.now c.args.c) (entries c.args.step.now 0 c.args.c) c.args.racks.now c.loop-j.racks
+    left_last (put_down c.args.before.now) (entries_from c.args.step.now c.args.c) (entries c.args.step.now 0 c.args.c)
+    c.args.racks.now c.loop-j.racks
     c.loop-j.j c.loop-j.invariant.1 (entries_last c.args.step.now c.args.c c.loop-j.j (omega arith))

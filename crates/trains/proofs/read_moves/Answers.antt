@@ -19,7 +19,8 @@ loop-j-init c =
 
 pub loop-j-preserved : goal.loop-j-preserved
 loop-j-preserved c =
-    let next = kept_two c.args.moves.now c.loop-j.step c.loop-j.j _ _ (omega arith) c.entry_at.ensures c.entry_at-in-loop-j.ensures c.loop-j.invariant.2 in
+    let next = kept_two c.args.moves.now c.loop-j.step c.loop-j.j _ _ (omega arith) c.entry_at.ensures
+    c.entry_at-in-loop-j.ensures c.loop-j.invariant.2 in
     (omega arith, omega arith, next)
 
 pub returns-then-j-c : goal.returns-then-j-c

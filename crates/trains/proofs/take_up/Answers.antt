@@ -17,12 +17,14 @@ pub loop-j-preserved : goal.loop-j-preserved
 unfolding taken_up
 loop-j-preserved c =
     let at = entries_at c.args.step.now c.args.c c.loop-j.j _ _ (omega arith) c.first_of-a.ensures refl in
-    let next = left-next taken_up (entries_from c.args.step.now c.args.c) (entries c.args.step.now 0 c.args.c) c.args.racks.now c.loop-j.racks c.loop-j.j _ _
+    let next = left-next taken_up (entries_from c.args.step.now c.args.c) (entries c.args.step.now 0 c.args.c)
+    c.args.racks.now c.loop-j.racks c.loop-j.j _ _
     c.loop-j.invariant.1 at _ (λ ms. refl) in
     (omega arith, next)
 
 pub returns : goal.returns
 unfolding taken_up
 returns c =
-    left_last taken_up (entries_from c.args.step.now c.args.c) (entries c.args.step.now 0 c.args.c) c.args.racks.now c.loop-j.racks c.loop-j.j c.loop-j.invariant.1
+    left_last taken_up (entries_from c.args.step.now c.args.c) (entries c.args.step.now 0 c.args.c) c.args.racks.now
+    c.loop-j.racks c.loop-j.j c.loop-j.invariant.1
     (entries_last c.args.step.now c.args.c c.loop-j.j (omega arith))

@@ -8,5 +8,9 @@ use Rattle.turning.proofs.pass_on.Goals as goal
 pub returns-then-racks-a-eq0 : goal.returns-then-racks-a-eq0
 returns-then-racks-a-eq0 c = record {
   journey_on = λ g e. journey_more 1 (omega arith) (journey_none _ _ _);
-  passed = record { left = c.if-racks-a-eq0.true; entered = c.requires.enterable.vacant ∙ sym c.if-racks-a-eq0.true; others = λ p x y. refl };
+  passed = record {
+    left = c.if-racks-a-eq0.true;
+    entered = c.requires.enterable.vacant ∙ sym c.if-racks-a-eq0.true;
+    others = λ p x y. refl;
+  };
 }

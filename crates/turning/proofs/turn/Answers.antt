@@ -70,7 +70,8 @@ pass_on-made-requires c =
 
 pub loop-i-preserved : goal.loop-i-preserved
 loop-i-preserved c =
-    underway_next (vacant-place c.vacancy_on-z.ensures c.requires.turnable) c.requires.simple c.loop-i.i (omega arith) c.pass_on-made.ensures.journey_on c.pass_on-made.ensures.passed c.loop-i.invariant
+    underway_next (vacant-place c.vacancy_on-z.ensures c.requires.turnable) c.requires.simple c.loop-i.i (omega arith)
+    c.pass_on-made.ensures.journey_on c.pass_on-made.ensures.passed c.loop-i.invariant
 
 pub shape_of-tail : goal.shape_of-tail
 shape_of-tail c =

@@ -28,7 +28,8 @@ move_rack-written-requires c =
 pub loop-i-preserved-then-racks-b-ne0 : goal.loop-i-preserved-then-racks-b-ne0
 loop-i-preserved-then-racks-b-ne0 c =
     let space = space_relogged 0 c.requires.space in
-    taking_move c.loop-i.invariant (omega arith) c.first_of-a.ensures c.second_of-b.ensures (λ z. omega arith) c.requires.undoable space (omega arith) (omega arith)
+    taking_move c.loop-i.invariant (omega arith) c.first_of-a.ensures c.second_of-b.ensures (λ z. omega arith)
+    c.requires.undoable space (omega arith) (omega arith)
     c.move_rack-written.ensures
 
 pub loop-i-preserved : goal.loop-i-preserved

@@ -6,7 +6,8 @@ use Rattle.window.proofs.fill.Given as goal
 
 abbrev pub invariant-loop-j : goal.invariant-loop-j
 invariant-loop-j l =
-    (l.j ≤ l.end) × ToPass l.tail l.named l.from l.end l.first l.initial.row l.initial.window l.row l.window l.greatest l.due l.j × KeepsLeft l.initial.window l.initial.leaving l.window l.leaving
+    (l.j ≤ l.end) × ToPass l.tail l.named l.from l.end l.first l.initial.row l.initial.window l.row l.window l.greatest
+    l.due l.j × KeepsLeft l.initial.window l.initial.leaving l.window l.leaving
 
 abbrev pub decreases-loop-j : goal.decreases-loop-j
 decreases-loop-j l =
