@@ -1,3 +1,2 @@
 pub mod AnswerSizes
-pub mod LentFloor
 pub mod LiveCalls

@@ -1,9 +1,9 @@
 -- The five numbers of a season report, from include/wichteab.h: "report[0] to report[4] are the pairs accepted, the pairs refused, the
 -- steps, the moves and the parallelism", and "with no steps WICHTEAB_PARALLELISM_NONE", all ones.
 --
---     or_none p           the parallelism p, a list of one number or of none, as one number
+--     or_none p          the parallelism p, a list of one number or of none, as one number
 --     numbers v          the five numbers of an accepted season's counts v
---     report_after a l    the five numbers that were lent, l, after the answer a: a refusal changes none of them
+--     report_after a l   the five numbers that were lent, l, after the answer a: a refusal changes none of them
 -- Assumes nothing.
 use Rattle.std.specs.Prelude.{ℕ, ◌-◌, ◌^◌, List, [], ◌∷◌, get_or, drop}
 use Rattle.answers.specs.Answer.{Answer, accepted, refused}

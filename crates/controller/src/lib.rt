@@ -9,19 +9,19 @@ ghost use Rattle.answers.specs.Answer.{Answer};
 ghost use Rattle.order.specs.Order.{order_answer};
 ghost use Rattle.order.specs.RecordLength.{whole_order_length};
 ghost use Rattle.floor.specs.FloorAnswer.{floor_answer};
-ghost use Rattle.models.specs.Expansion.{expand_answer, buffer_after as orderBufferAfter};
+ghost use Rattle.models.specs.Expansion.{expand_answer, buffer_after as order_buffer_after};
 ghost use Rattle.parity.specs.OneVacancy.{vacancy_answer};
 ghost use Rattle.plan.specs.Plan.{plan_answer};
-ghost use Rattle.converting.specs.Converter.{converter_answer, buffer_after as convertedBufferAfter};
+ghost use Rattle.converting.specs.Converter.{converter_answer, buffer_after as converted_buffer_after};
 ghost use Rattle.planner.specs.Planner.{PlanMade};
 ghost use Rattle.scheduling.specs.Maker.{maker_answer, buffer_after};
-ghost use Rattle.carry.specs.CarryAnswer.{carry_answer, buffer_after as carryBufferAfter};
+ghost use Rattle.carry.specs.CarryAnswer.{carry_answer, buffer_after as carry_buffer_after};
 ghost use Rattle.season.specs.Season.{season_answer, told_by};
-ghost use Rattle.shortening.specs.Shortener.{shortener_answer, buffer_after as planBufferAfter};
+ghost use Rattle.shortening.specs.Shortener.{shortener_answer, buffer_after as plan_buffer_after};
 ghost use Rattle.timetable.specs.Timetable.{timetable_answer, step_answer};
 ghost use Rattle.timetable.specs.RecordLength.{whole_timetable_length};
 ghost use Rattle.live.specs.Roles.{role_of, opening, reading, running, taking_back};
-ghost use Rattle.live.specs.Calls.{call_answer, by_answer, picture_after, answer_of as liveAnswerOf};
+ghost use Rattle.live.specs.Calls.{call_answer, by_answer, picture_after, answer_of as live_answer_of};
 ghost use Rattle.packing.specs.Packed.{nothing, one_count, steps_and_moves, length_and_offset, start_goal_moves};
 ghost use Rattle.controller.specs.Report.{numbers, or_none, report_after};
 ghost use Rattle.packing.specs.Unpacked.{Tells, uncounted, nothing_of, plan_moves_of, made_steps_of, steps_and_moves_of};
@@ -68,7 +68,7 @@ pub extern "C" fn wichteab_floor_check(order: &[u8]) -> u64
 #[unsafe(no_mangle)]
 pub extern "C" fn wichteab_order_expand(short: &[u8], buffer: &mut [u8]) -> u64
     ensures tells { Tells one_count record_length_of (expand_answer short.now (length buffer.old)) result }
-    ensures buffer_after { buffer.new ≡ orderBufferAfter short.now buffer.old }
+    ensures buffer_after { buffer.new ≡ order_buffer_after short.now buffer.old }
 {
     match models::expand(short, buffer) {
         ExpandVerdict::Accepted(length) => packing::one_count(length),
@@ -119,7 +119,7 @@ pub extern "C" fn wichteab_plan_check(order: &[u8], plan: &[u8]) -> u64
 pub extern "C" fn wichteab_plan_shorten(order: &[u8], plan: &[u8], buffer: &mut [u8]) -> u64
     ensures tells { Tells one_count plan_moves_of
         (shortener_answer order.now plan.now (length buffer.old)) result }
-    ensures buffer_after { buffer.new ≡ planBufferAfter order.now plan.now buffer.old }
+    ensures buffer_after { buffer.new ≡ plan_buffer_after order.now plan.now buffer.old }
 {
     match shortening::shorten(order, plan, buffer) {
         ShortenerVerdict::Accepted(moves) => packing::one_count(moves),
@@ -133,7 +133,7 @@ pub extern "C" fn wichteab_plan_shorten(order: &[u8], plan: &[u8], buffer: &mut 
 pub extern "C" fn wichteab_plan_convert(order: &[u8], plan: &[u8], buffer: &mut [u8]) -> u64
     ensures tells { Tells one_count plan_moves_of
         (converter_answer order.now plan.now (length buffer.old)) result }
-    ensures buffer_after { buffer.new ≡ convertedBufferAfter order.now plan.now buffer.old }
+    ensures buffer_after { buffer.new ≡ converted_buffer_after order.now plan.now buffer.old }
 {
     match converting::convert(order, plan, buffer) {
         ConverterVerdict::Accepted(moves) => packing::one_count(moves),
@@ -146,7 +146,7 @@ pub extern "C" fn wichteab_plan_convert(order: &[u8], plan: &[u8], buffer: &mut 
 #[unsafe(no_mangle)]
 pub extern "C" fn wichteab_dearest_carry(order: &[u8], buffer: &mut [u8]) -> u64
     ensures tells { Tells start_goal_moves start_goal_moves_of (carry_answer order.now (length buffer.old)) result }
-    ensures buffer_after { buffer.new ≡ carryBufferAfter order.now buffer.old }
+    ensures buffer_after { buffer.new ≡ carry_buffer_after order.now buffer.old }
 {
     match carry::make(order, buffer) {
         CarryVerdict::Found(carry) => {
@@ -249,7 +249,7 @@ pub struct Called {
 
 // The verdict of a call on the live floor as one number.
 fn live_number(verdict: LiveVerdict) -> u64
-    ensures { Tells one_count floor_steps_of (liveAnswerOf verdict) result }
+    ensures { Tells one_count floor_steps_of (live_answer_of verdict) result }
 {
     match verdict {
         LiveVerdict::Accepted(steps) => packing::one_count(steps as usize),
@@ -259,7 +259,7 @@ fn live_number(verdict: LiveVerdict) -> u64
 
 // What a call left, with its verdict as one number.
 fn numbered(driven: Driven) -> Called
-    ensures { Tells one_count floor_steps_of (liveAnswerOf driven.verdict) result.number × (result.floor ≡ driven.floor) }
+    ensures { Tells one_count floor_steps_of (live_answer_of driven.verdict) result.number × (result.floor ≡ driven.floor) }
 {
     let floor = driven.floor;
     let verdict = driven.verdict;

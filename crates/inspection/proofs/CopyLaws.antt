@@ -1,6 +1,6 @@
 -- Laws of rows copied into a buffer.
 --
---     up_to_used, up_to-rest        a byte of a row that is used; one behind those
+--     up_to_used, up_to-rest      a byte of a row that is used; one behind those
 --     copied_none, copied_more    no byte copied; one more
 --     copied_all                  all 64
 --     laid_out                    four rows, one after another

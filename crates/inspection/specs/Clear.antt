@@ -5,7 +5,7 @@
 --     unheld?                a position is one of them or not
 --     away o held p          how far p is from the nearest vacancy, or that no vacancy has a way to it
 --     told x                 0 for "no way", else one more than the moves
---     if_accepted a r         the number r behind an acceptance, 0 behind a refusal
+--     if_accepted a r        the number r behind an acceptance, 0 behind a refusal
 --     clear_number o held p b    the answer
 --     ClearLeft o held p old new    the buffer afterwards: as many legal moves as p is away lead from the starts to what it shows, p is
 --                            vacant then, and nothing held moved; where the answer is 0, nothing changed

@@ -1,15 +1,15 @@
 -- What the tests see of a breakdown: four rows of 64 bytes at the front of a lent buffer, as crates/breakdown has them. And of the part
 -- that the step reader gives back: one byte at a time.
 --
---     up_to k row                        the row with its first k bytes, and zeros behind them
+--     up_to k row                       the row with its first k bytes, and zeros behind them
 --     Copied row at k old new           the first k bytes of `row` were copied into a buffer from byte `at` on
 --     LaidOut order start left right old new   the four rows stand at the bytes 0, 64, 128 and 192; every other byte is as it was
 --     Shown n E old new answer          the answer has the ring size in its low 8 bits and the handle count above; the rows of that
 --                                       breakdown were laid out, each with zeros behind what the breakdown has of it
---     Breaks o old                      where a breakdown is shown: a well_formed order on a bi-connected floor that is
+--     Breaks o old                      where a breakdown is shown: a well-formed order on a bi-connected floor that is
 --                                       no ring, and room for it
 --     Inspected o old new answer        a breakdown is shown there, and nowhere else; else the answer is 0, and no byte changes
---     shown_byte part i                  the byte at i of the part; 256, which is no byte, from its end on
+--     shown_byte part i                 the byte at i of the part; 256, which is no byte, from its end on
 -- Assumes nothing.
 use Rattle.std.specs.Prelude.{ℕ, ◌+◌, ◌*◌, ◌≤◌, ◌<◌, cond, ◌≡◌, List, ◌↔◌, ltb, length, get_or}
 use Rattle.order.specs.Order.{floor_of, WellFormed}

@@ -1,8 +1,8 @@
 -- What the tests see of a delivery: one value at a time of what came of the three calls.
 --
 --     chosen v x y z              x, y or z, for v = 0, 1 or any other
---     call_of w a                  the planner's answer, or what came of the maker's or the checker's call, for w = 0, 1 or any other
---     value_of v c                 of an accepted call 0, its first count and its second; of a refused one its number and its place; 255 if
+--     call_of w a                 the planner's answer, or what came of the maker's or the checker's call, for w = 0, 1 or any other
+--     value_of v c                of an accepted call 0, its first count and its second; of a refused one its number and its place; 255 if
 --                                 it was not reached
 --     ValueBy f x v r             r is such a value of the call that f makes of x
 --     Told o P T w v r P' T'      r is such a value of answers that the three calls may give, with the buffers P' and T' that they leave
