@@ -156,7 +156,7 @@ fn without_marks(line: &str) -> &str {
 }
 
 /// Whether a definition's type, on one line, ends in what a decision gives, as in
-/// `biConnected? : (F : Floor) → Dec (BiConnected ..)`.
+/// `bi_connected? : (F : Floor) → Dec (BiConnected ..)`.
 fn decides(line: &str) -> bool {
     let result = line.rsplit("→ ").next().unwrap_or(line);
     line.contains(" : ") && result.starts_with("Dec (") && result.ends_with(')')
