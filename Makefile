@@ -27,13 +27,13 @@ TOOL = $(CARGO_TARGET_DIR)/release/wichteab
 NAMES = order plan timetable season
 VERSION = $(shell sed -n 's/^.define WICHTEAB_VERSION "\(.*\)"$$/\1/p' include/wichteab.h)
 
+build = RT="$(RT)" tools/build
 build_tool = $(CARGO) build --release --locked --offline --manifest-path tests/Cargo.toml --package wichteab
 
 .PHONY: all test install uninstall
 
 all:
-	$(RT) check
-	$(RT) staticlib controller
+	$(build)
 	$(build_tool)
 
 test:
@@ -41,10 +41,10 @@ test:
 
 # Without prerequisites: what is there is not built again.
 $(PROGRAMS)/%_main:
-	$(RT) check
+	$(build)
 
 $(ARCHIVE):
-	$(RT) staticlib controller
+	$(build)
 
 $(TOOL): | $(ARCHIVE)
 	$(build_tool)

@@ -6,7 +6,7 @@
  * one rack at a time; a timetable moves several in a step. All three are byte strings, described under
  * "Records" below.
  *
- * The static library is target/staticlib/libcontroller.a, made by `rt staticlib controller`:
+ * The static library is target/staticlib/libcontroller.a, made by `tools/build`:
  *
  *     cc -I include program.c target/staticlib/libcontroller.a
  *

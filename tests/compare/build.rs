@@ -1,4 +1,4 @@
-//! Links the static libraries that `rt staticlib controller` and `rt staticlib inspection` write. They are
+//! Links the static libraries of the crates controller and inspection, which `tools/build` writes. They are
 //! looked for in target/staticlib at the top of the repository, or in the folder that
 //! WICHTEAB_STATICLIB_DIR names.
 
@@ -13,7 +13,7 @@ fn main() {
     for library in ["controller", "inspection"] {
         let archive = folder.join(format!("lib{library}.a"));
         if !archive.is_file() {
-            panic!("no {}: run `rt staticlib {library}` first", archive.display());
+            panic!("no {}: run `tools/build` first", archive.display());
         }
         println!("cargo:rerun-if-changed={}", archive.display());
         println!("cargo:rustc-link-lib=static={library}");

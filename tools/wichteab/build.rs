@@ -1,5 +1,5 @@
-//! Links the static library that `rt staticlib controller` writes. It is looked for in target/staticlib at the
-//! top of the repository, or in the folder that WICHTEAB_STATICLIB_DIR names.
+//! Links the static library of the crate controller, which `tools/build` writes. It is looked for in
+//! target/staticlib at the top of the repository, or in the folder that WICHTEAB_STATICLIB_DIR names.
 
 use std::env;
 use std::path::PathBuf;
@@ -10,7 +10,7 @@ fn main() {
     let folder = env::var_os("WICHTEAB_STATICLIB_DIR").map_or_else(in_repository, PathBuf::from);
     let archive = folder.join("libcontroller.a");
     if !archive.is_file() {
-        panic!("no {}: run `rt staticlib controller` first", archive.display());
+        panic!("no {}: run `tools/build` first", archive.display());
     }
     println!("cargo:rerun-if-changed={}", archive.display());
     println!("cargo:rustc-link-search=native={}", folder.display());

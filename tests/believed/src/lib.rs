@@ -42,9 +42,9 @@ const FUNCTIONS: &[(&str, &str)] = &[
 /// timetable program's crate and of the season program's it is the program's own contract.
 const CONTRACTS: &[(&str, &str, &[&str])] = &[
     ("document 01", "crates/plan_program/src/lib.rt", &[]),
-    ("document 01", "crates/text/src/lib.rt", &["programText", "Wrote"]),
+    ("document 01", "crates/text/src/lib.rt", &["program_text", "Wrote"]),
     ("(a)", "crates/order_program/src/lib.rt", &[]),
-    ("(l)", "crates/season_program/src/lib.rt", &["seasonText", "Wrote"]),
+    ("(l)", "crates/season_program/src/lib.rt", &["season_text", "Wrote"]),
 ];
 
 /// The records that the main theorems state; of a file without names, all of it.

@@ -25,10 +25,10 @@ pub struct Module {
 }
 
 impl Block {
-    /// Whether the name stands in the block; of an operator such as `_∙_` one of its parts.
+    /// Whether the name stands in the block; of an operator such as `◌∙◌` one of its parts.
     pub fn uses(&self, name: &str) -> bool {
         self.words.contains(name)
-            || name.contains('_') && name.split('_').any(|part| !part.is_empty() && self.words.contains(part))
+            || name.contains('◌') && name.split('◌').any(|part| !part.is_empty() && self.words.contains(part))
     }
 
     fn parse(lines: &[&str]) -> Block {
@@ -124,19 +124,21 @@ pub fn exported(text: &str) -> Vec<(String, Vec<(String, String)>)> {
     let function = |part: &str| {
         let (name, _) = part.split_once('(').expect("a function has parameters");
         let (contract, _) = part.split_once("\n{").expect("a function has a body");
-        let words: BTreeSet<String> = contract.lines().flat_map(words_of).collect();
+        let words: BTreeSet<String> = contract.lines().map(without_clause_name).flat_map(words_of).collect();
         let named = imports.iter().filter(|import| words.contains(&import.called));
         (name.to_string(), named.map(|import| (import.file.clone(), import.name.clone())).collect())
     };
     text.split("pub extern \"C\" fn ").skip(1).map(function).collect()
 }
 
-/// `use Rattle·order.specs.Floor.{Floor, joined as joins}`, with `Rattle·order·specs.specs` for a crate's own.
+/// `use Rattle.order.specs.Floor.{Floor, joined as joins}`. What Rattle's own library defines is not of this repository.
 fn imports_of(line: &str) -> Vec<Import> {
-    let Some(path) = line.strip_prefix("use Rattle·") else { return Vec::new() };
+    let Some(path) = line.strip_prefix("use Rattle.") else { return Vec::new() };
     let Some((path, names)) = path.split_once(".{") else { return Vec::new() };
     let Some((crate_name, module)) = path.split_once(".specs.") else { return Vec::new() };
-    let crate_name = crate_name.trim_end_matches("·specs");
+    if crate_name == "std" {
+        return Vec::new();
+    }
     // The constructors of a data type may be named below it: `Walk.Walk.{alone, step}`.
     let module = module.split('.').next().unwrap_or(module);
     let file = format!("crates/{crate_name}/specs/{module}.antt");
@@ -154,7 +156,7 @@ fn without_marks(line: &str) -> &str {
 }
 
 /// Whether a definition's type, on one line, ends in what a decision gives, as in
-/// `biConnected? : (F : Floor) → Dec (BiConnected ..)`.
+/// `bi_connected? : (F : Floor) → Dec (BiConnected ..)`.
 fn decides(line: &str) -> bool {
     let result = line.rsplit("→ ").next().unwrap_or(line);
     line.contains(" : ") && result.starts_with("Dec (") && result.ends_with(')')
@@ -168,6 +170,12 @@ fn declared(line: &str) -> Option<&str> {
     (plain && rest.starts_with(':')).then_some(name)
 }
 
+/// `ensures tells { .. }` without the name of the clause, which is no definition.
+fn without_clause_name(line: &str) -> &str {
+    let is_clause = ["ensures", "requires"].iter().any(|clause| line.trim_start().starts_with(clause));
+    line.find('{').filter(|_| is_clause).map_or(line, |begin| &line[begin..])
+}
+
 /// The line without its comment.
 fn code_of(line: &str) -> &str {
     let comment = if line.starts_with("--") { Some(0) } else { line.find(" --") };
@@ -175,8 +183,7 @@ fn code_of(line: &str) -> &str {
 }
 
 fn words_of(line: &str) -> impl Iterator<Item = String> + '_ {
-    let ends = |c: char| c.is_whitespace() || "(){}[],;".contains(c);
-    let words =
-        code_of(line).split(ends).map(|word| word.trim_start_matches(['λ', '.']).trim_end_matches('.'));
+    let ends = |c: char| c.is_whitespace() || "(){}[],;.".contains(c);
+    let words = code_of(line).split(ends).map(|word| word.trim_start_matches('λ'));
     words.filter(|word| !word.is_empty()).map(str::to_string)
 }

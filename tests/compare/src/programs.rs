@@ -1,5 +1,5 @@
 //! The programs, as a user runs them: standard input in, standard output out. They are in target/bin at the
-//! top of the repository, where `rt check` writes them.
+//! top of the repository, where `tools/build` writes them.
 
 use std::io::{Read, Write};
 use std::path::PathBuf;
@@ -9,7 +9,7 @@ use std::thread;
 /// Where the program is.
 pub fn path(name: &str) -> PathBuf {
     let program = PathBuf::from(env!("CARGO_MANIFEST_DIR")).join("../../target/bin").join(name);
-    assert!(program.is_file(), "no {}: run `rt check` first", program.display());
+    assert!(program.is_file(), "no {}: run `tools/build` first", program.display());
     program
 }
 
