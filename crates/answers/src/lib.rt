@@ -80,7 +80,7 @@ pub enum Fault {
     SeasonPairs,
     // The floor is not connected.
     FloorNotConnected,
-    // The plan buffer cannot hold an edition_two plan of n - 1 moves.
+    // The plan buffer cannot hold an edition-two plan of n - 1 moves.
     CarryBuffer,
 }
 

@@ -1,7 +1,7 @@
 -- Laws of what specs/Theorems.antt defines.
 --
 --     dearest_plan        the plan of the dearest carry leads from its start to its goal in as many moves as told
---     dearest_carry       of the connected floor of every well_formed order
+--     dearest_carry       of the connected floor of every well-formed order
 --     carry_accepted      of the floor of every order that is accepted
 --     carry_small         the three numbers of an accepted order are below 64
 -- Assumes nothing.

@@ -1,5 +1,5 @@
 -- The answer for a floor's dearest carry and the buffer afterwards, from request (m): "The floor comes as an order that passes 10 to 14;
--- its own racks are set aside." "Turned away: 27 the floor is not connected; 28 the plan buffer cannot hold an edition_two plan of n − 1
+-- its own racks are set aside." "Turned away: 27 the floor is not connected; 28 the plan buffer cannot hold an edition-two plan of n − 1
 -- moves; after 14, in that order."
 --
 --     connected? F         the floor F is connected or not; what is decided is the decision's type (crates/graph, Connected)
@@ -33,7 +33,7 @@ connected? F =
 unfoldable pub not_connected : Floor → Bool
 not_connected F = not (holds (connected? F))
 
--- 28: "the plan buffer cannot hold an edition_two plan of n − 1 moves"
+-- 28: "the plan buffer cannot hold an edition-two plan of n − 1 moves"
 unfoldable pub cannot_hold : Floor → ℕ → Bool
 cannot_hold F b = ltb b (record_length (move_size true * (F.positions - 1)))
 

@@ -1,6 +1,6 @@
 -- Laws of what specs/Tables.antt defines.
 --
---     decoded_rows_lem, decoded_starts_lem, decoded_goals_lem    the tables of a well_formed order are its floor's rows and its racks
+--     decoded_rows_lem, decoded_starts_lem, decoded_goals_lem    the tables of a well-formed order are its floor's rows and its racks
 -- Assumes nothing.
 use Prim.Native.Nat.{ℕ}
 use mathlib.Core.Path.{◌≡◌, ap}

@@ -50,7 +50,7 @@ pub record Delivered (o P : List ℕ) (a : Answer) (P' : List ℕ) : Type 0 wher
   pub accepts : plan_answer o plan ≡ accepted (moves ∷ [])
   pub then : (T : List ℕ) → 3 * moves + 3 ≤ length T → TimetableMade o plan moves T
 
--- "For every well_formed order on a bi-connected floor of n positions, n from 4 to 64, that is not a single ring and has at least two
+-- "For every well-formed order on a bi-connected floor of n positions, n from 4 to 64, that is not a single ring and has at least two
 -- vacant positions, given a plan buffer of at least" 18 × n × n × n + 3 "bytes, whatever it held before". Request (h): "the plan buffer
 -- named in demand 3 is this one". Request (d): "The never-fails result takes in these rings", n from 3 on: `Plannable` is the sum of the
 -- two kinds. Request (j): it "covers floors of at most four neighbours to a position".

@@ -7,9 +7,9 @@
 --     owed_on, owed_off        how many vacancies a ring owes, and any other floor
 --     plannable, plannable_is  accepted is plannable, and plannable is accepted
 --     floor_refusals o          20, 21, 24 and 26
---     told_disordered          24 is answered only of a well_formed order whose order round the ring differs
+--     told_disordered          24 is answered only of a well-formed order whose order round the ring differs
 --     few_never                two racks or fewer never meet 24
---     told_sides               26 is answered only of a well_formed order whose floor has a position of five edges or more
+--     told_sides               26 is answered only of a well-formed order whose floor has a position of five edges or more
 --     on_ring_plannable         a ring passes 26
 --     on_ring_rows              a ring, by its rows, is one
 --     off_ring_rows             another floor, by its rows, is bi-connected and no ring: what crates/breakdown asks of a floor

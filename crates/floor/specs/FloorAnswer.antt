@@ -40,7 +40,7 @@ unfoldable pub bi_connected? : (F : Floor) → Dec (BiConnected F.positions (Joi
 unfolding passes? decide_bi_connected
 bi_connected? F = decide_bi_connected F.positions (Joins F) (λ a b. passes? (joined F a b))
 
--- "A ring is a bi-connected floor with exactly n edges." The edges of a well_formed order ascend strictly, so that none is listed twice.
+-- "A ring is a bi-connected floor with exactly n edges." The edges of a well-formed order ascend strictly, so that none is listed twice.
 unfoldable pub ring? : (F : Floor) → Dec (Ring F.positions (Joins F) (length F.edges))
 unfolding ℕ_discrete alike? both? bi_connected?
 ring? F =

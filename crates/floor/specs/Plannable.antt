@@ -1,4 +1,4 @@
--- What demand 3 supposes of an order: "every well_formed order on a bi-connected floor … that is not a single ring and has at least two
+-- What demand 3 supposes of an order: "every well-formed order on a bi-connected floor … that is not a single ring and has at least two
 -- vacant positions"; and request (d): "A ring with at least one vacant position is planned whenever the racks stand in the same order round
 -- it at start and goal". "The never-fails result takes in these rings." Request (j): "The never-fails result covers floors of at most four
 -- neighbours to a position." On a ring each position has two (proofs/SidesLaws, `ring_sides`).

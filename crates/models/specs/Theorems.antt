@@ -2,7 +2,7 @@
 --
 --     HasModel o k          the order o, whoever wrote it, is well formed and its floor joins the positions that model k joins
 --     NeverTurned o         the planner never answers 21, 22, 24 or 26 for it, wherever
---     WrittenOut s          what the short order s is written out as: a well_formed order on its model's floor, and reading it gives that
+--     WrittenOut s          what the short order s is written out as: a well-formed order on its model's floor, and reading it gives that
 --                           floor, the starts and the goals back
 --     ShortChoice o         what is asked of a short order: a known model, and starts and goals that 14 passes
 -- Assumes nothing.

@@ -1,6 +1,6 @@
 -- Choosing racks. Legality does not look at rack numbers, so an arrangement may be re-indexed by any choice of its racks: the
 -- moves of the chosen racks, without those of the others, lead the chosen racks where they would have gone. With every rack
--- chosen this is renaming; with some left out it is dropping: "Vacancies beyond two are filled with stand_in racks whose moves
+-- chosen this is renaming; with some left out it is dropping: "Vacancies beyond two are filled with stand-in racks whose moves
 -- are dropped." (document 01, "Breakdown and planning")
 --
 --     pick idx A          the racks of A that idx lists by index, in that order

@@ -12,7 +12,7 @@
 --     aside_leads, exchange_conjugated   conjugation: the racks at 1 and 3 exchanged by way of 0
 --     detour_leads, carried_away     conjugation: rack 1 carried to position 2 while rack 2 went to and fro
 --     untouched_kept                 what a move leaves alone
---     plan_dropped                   dropping: with rack 2 a stand_in, two moves are left
+--     plan_dropped                   dropping: with rack 2 a stand-in, two moves are left
 -- Assumes nothing.
 use Prim.Native.Nat.{ℕ}
 use mathlib.Core.List.{List, [], ◌∷◌}

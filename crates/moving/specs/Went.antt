@@ -1,6 +1,6 @@
 -- Moves on a table: for each position the rack that stands there, or 0. A table is a function of the position here, so that two tables are
 -- the same where they agree at every position, and nothing has to be said of lists. Racks above m are stand-ins: document 01, "Breakdown
--- and planning": "Vacancies beyond two are filled with stand_in racks whose moves are dropped."
+-- and planning": "Vacancies beyond two are filled with stand-in racks whose moves are dropped."
 --
 --     Same h k                 the tables h and k agree at every position
 --     Move E h a b k           the rack at a moves along an edge of E to b, which is vacant: that makes k of h

@@ -31,7 +31,7 @@ pub struct Tally {
     pub logged: usize,
 }
 
-// Moves the rack at a to b. The move is written with the rack's number; that of a stand_in is not written. Yields how many moves the plan
+// Moves the rack at a to b. The move is written with the rack's number; that of a stand-in is not written. Yields how many moves the plan
 // has.
 pub fn move_rack(
     a: usize,

@@ -4,7 +4,7 @@
 --     RightHead s, right_head                          what 10 and 11 leave of a head
 --     RightOrder s, right_order, right_well            well formed is what passes each of the five tests
 --     well_formed                                      accepted is well formed, whatever the counts are called
---     formed_head                                      the head of a well_formed order
+--     formed_head                                      the head of a well-formed order
 --     order_past                                       no number above 14 is the order reader's
 -- Assumes nothing.
 use Prim.Native.Nat.{ℕ, ◌≤◌, ◌<◌}

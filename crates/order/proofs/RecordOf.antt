@@ -1,7 +1,7 @@
--- A well_formed order is the record of the order that it describes: nothing in its bytes is left to choice.
+-- A well-formed order is the record of the order that it describes: nothing in its bytes is left to choice.
 --
 --     order_bits_are, length-order_bits    an order's record is made of bits, and how many
---     record_of    a well_formed byte string is the record of what it describes
+--     record_of    a well-formed byte string is the record of what it describes
 -- Assumes nothing.
 use Prim.Native.Nat.{ℕ, ◌+◌, ◌*◌}
 use mathlib.Core.Path.{◌≡◌, refl, sym, ap, ◌∙◌}

@@ -1,4 +1,4 @@
--- Every sound order has a well_formed record, and reading it gives the order back.
+-- Every sound order has a well-formed record, and reading it gives the order back.
 --
 --     SoundOrder o      n from 1 to 64, at most 255 edges, edges, starts and goals as 13 and 14 ask
 --     record_read       reading the record of a sound order gives it back

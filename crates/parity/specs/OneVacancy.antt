@@ -23,7 +23,7 @@ impossible? F S G = decide_impossible F S G
 unfoldable pub judgement : {A : Type 0} → Dec A → ℕ
 judgement d = cond (holds d) 1 0
 
--- A well_formed order "has n − m vacant positions". The place is 0.
+-- A well-formed order "has n − m vacant positions". The place is 0.
 unfoldable pub vacancy_answer : List ℕ → Answer
 vacancy_answer o =
     pass_up (order_answer o)

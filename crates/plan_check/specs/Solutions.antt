@@ -1,5 +1,5 @@
 -- The plan checker accepts exactly the solutions of Surynek's Definition 1, as document 01 reads it (motion's Pebble): demand 2 for plans.
--- Request (h): "In demand 2, an edition_two plan with a wrong rack is no solution."
+-- Request (h): "In demand 2, an edition-two plan with a wrong rack is no solution."
 --
 --     SolutionOf o ξ S     the arrangements S solve the task of the order o in ξ moves
 --     NoPlan o             no list of moves, however long, is legal move by move and leads from the starts to the goals

@@ -1,4 +1,4 @@
--- Of a well_formed order on a ring with a vacancy, 24 applies exactly where no plan exists.
+-- Of a well-formed order on a ring with a vacancy, 24 applies exactly where no plan exists.
 --
 --     ring-planned         where the racks stand in the same order, a list of moves leads from the starts to the goals
 --     ring-turned_down     the theorem

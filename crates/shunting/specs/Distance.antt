@@ -1,6 +1,6 @@
 -- How far a position is from the nearest vacancy, with some positions held fast: request (b), "Clear a position by the nearest vacancy". A
 -- way is a walk along edges; its length is the number of its edges. h is a table of racks, with 0 for a vacancy. "Stand-ins count as racks
--- here": a stand_in has a number, as every rack has.
+-- here": a stand-in has a number, as every rack has.
 --
 --     Unheld n held p         p is a position of a floor of n that is not held
 --     WayFrom E P h p d       a way of d edges leads from a vacancy of the table h to p, and all its positions are in P

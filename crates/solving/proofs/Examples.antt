@@ -3,7 +3,7 @@
 --
 --     alone, alone-placed         one rack, at 0
 --     fill_met                    what `solving::fill` asks for
---     alone_filled, filled_is     with the one stand_in that is missing
+--     alone_filled, filled_is     with the one stand-in that is missing
 --     table-placed                a table with two vacancies has its racks placed
 --     solve_met                   what `solving::solve` asks for
 --     shift_met, settle_met       what `solving::shift_goal` and `solving::settle` ask for

@@ -98,7 +98,7 @@ module _ (F : Floor) {E : ℕ → ℕ → Type 0} (joins : (a b : ℕ) → E a b
   went_led A h (real {a = a} {b = b} x e l w) = led_then A h x (went_led (after_move A (a, b)) (held_move A h x) w)
   went_led A h (stand_in {a = a} {b = b} x l w) = led_then A h x (went_led (after_move A (a, b)) (held_move A h x) w)
 
-  -- where every move is written no rack is a stand_in, and each is the one that replay has at the position left
+  -- where every move is written no rack is a stand-in, and each is the one that replay has at the position left
   pub went_listed : {m : ℕ} {f k : ℕ → ℕ} {ms : List (ℕ × ℕ)} {ws : List (ℕ × ℕ × ℕ)} (A : Arrangement) → HeldBy A f → Went E m f ms ws k
       → length ms ≡ length ws → ws ≡ listed true A ms
   unfolding listed

@@ -1,5 +1,5 @@
 -- A trip from the starts to the goals, both filled with stand-ins, is a plan: its written moves, those of the racks of the order, are legal
--- each at its turn and lead from the starts to the goals. "Vacancies beyond two are filled with stand_in racks whose moves are dropped."
+-- each at its turn and lead from the starts to the goals. "Vacancies beyond two are filled with stand-in racks whose moves are dropped."
 --
 --     kept_filled       without the stand-ins a filled table is the table that was filled
 --     Planned F A G ws  the replay of the written moves ws ends at the goals, and each is written with the rack that replay has there

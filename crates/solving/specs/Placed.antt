@@ -1,5 +1,5 @@
 -- Racks on a floor, and vacancies beyond two filled with stand-ins: document 01, "Breakdown and planning": "Vacancies beyond two are filled
--- with stand_in racks whose moves are dropped."
+-- with stand-in racks whose moves are dropped."
 --
 --     Placed n m h       the racks 1 to m stand each at one of n positions, and nothing else stands anywhere
 --     Filled m h k       the table k is h with stand-ins, racks above m, at some of its vacancies

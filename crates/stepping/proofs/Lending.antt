@@ -1,7 +1,7 @@
 -- What the functions on a lent step have of the order and the timetable.
 --
---     order_head_lem          a well_formed order has a head
---     order_gives         a well_formed order's counts, and room for its edges and racks
+--     order_head_lem          a well-formed order has a head
+--     order_gives         a well-formed order's counts, and room for its edges and racks
 --     matrix_is           the matrix that is filled is the floor's
 --     moves_unknown       a step that names an unknown position is not legal
 --     moves-judged        else the tables decide

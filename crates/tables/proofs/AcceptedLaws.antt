@@ -1,7 +1,7 @@
 -- Laws of what specs/Accepted.antt defines.
 --
 --     places_sound       starts or goals that 14 passes stand at different positions below n
---     WellPlaced o, well_placed   of a well_formed order: few positions, edges and racks of positions below 64, sound starts and goals
+--     WellPlaced o, well_placed   of a well-formed order: few positions, edges and racks of positions below 64, sound starts and goals
 --     OrderGave o n e m, order_gave, order_accepted   what the order reader's acceptance with n, e and m tells
 --     gave_accepted      and that it accepted
 -- Assumes nothing.

@@ -1,6 +1,6 @@
 -- What an order that none of 10 to 14 turns down gives the layers above.
 --
---     WellPlaced o          of a well_formed order: few positions, edges and racks of positions below 64, sound starts and goals
+--     WellPlaced o          of a well-formed order: few positions, edges and racks of positions below 64, sound starts and goals
 --     OrderGave o n e m     what the order reader's acceptance with n, e and m tells
 -- Assumes nothing.
 use Rattle.std.specs.Prelude.{ℕ, ◌+◌, ◌-◌, ◌*◌, ◌≤◌, ◌<◌, ◌≡◌, false, List, length, take, drop}

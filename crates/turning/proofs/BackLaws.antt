@@ -15,7 +15,7 @@
 --     Taken, went_back        the moves that are made where others are taken back
 --     renamed f ws            the written moves ws with racks renamed by f; went_renamed    the same moves with racks renamed
 --     kept m h                the table h without stand-ins
---     kept_real, kept_stand_in, kept_same    where a real rack stands; where a stand_in does; of tables that agree
+--     kept_real, kept_stand_in, kept_same    where a real rack stands; where a stand-in does; of tables that agree
 --     went_kept               stand-ins dropped: the written moves alone lead from table to table
 -- Assumes nothing.
 use Prim.Native.Nat.{ℕ, ◌≤◌, ◌<◌}
@@ -175,7 +175,7 @@ module _ {E : ℕ → ℕ → Type 0} {m : ℕ} where
   went_renamed {h = h} f zero some low high (stand_in {a = a} x l w) =
       stand_in (move-renamed f zero some x) (high (h a) l) (went_renamed f zero some low high w)
 
--- The table without stand-ins. Document 01, "Breakdown and planning": "Vacancies beyond two are filled with stand_in racks whose moves are
+-- The table without stand-ins. Document 01, "Breakdown and planning": "Vacancies beyond two are filled with stand-in racks whose moves are
 -- dropped."
 abbrev pub kept : ℕ → (ℕ → ℕ) → ℕ → ℕ
 kept m h p = cond (leb (h p) m) (h p) 0

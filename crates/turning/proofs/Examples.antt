@@ -14,8 +14,8 @@
 --     carried_away         rack 2 carried to position 3 meanwhile: its own move is skipped
 --     log                  a log with nothing in it
 --     cycle, ring, ring-rows    a floor of five positions in a ring, and its cycle 4, 1, 0, 3, 2
---     standing             racks 1 and 2 and the stand_in 3 on it, with two vacancies, at places 1 and 3
---     turn_moves_lem, turn_written_lem    its turn: from the vacancy at place 1, rack 1, the stand_in, and rack 2 past the other
+--     standing             racks 1 and 2 and the stand-in 3 on it, with two vacancies, at places 1 and 3
+--     turn_moves_lem, turn_written_lem    its turn: from the vacancy at place 1, rack 1, the stand-in, and rack 2 past the other
 --                                         vacancy; written
 --                          are the moves of the racks 1 and 2, with these
 --     turn_met             what `turning::turn` asks for, on that floor

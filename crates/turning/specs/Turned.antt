@@ -62,7 +62,7 @@ turn_by keep at size h = pass_moves keep (round_from at (vacant_place at size h)
 abbrev pub turn_moves : (ℕ → ℕ) → ℕ → (ℕ → ℕ) → List (ℕ × ℕ)
 turn_moves at size h = moves_of (turn_by is_rack at size h)
 
--- Document 01: "Vacancies beyond two are filled with stand_in racks whose moves are dropped."
+-- Document 01: "Vacancies beyond two are filled with stand-in racks whose moves are dropped."
 abbrev pub turn_written : (ℕ → ℕ) → ℕ → State → List (ℕ × ℕ × ℕ)
 turn_written at size s = turn_by (is_real s.real) at size (row s.racks)
 
