@@ -5,7 +5,7 @@
 --     number_short, number_refused, number-told  the answer: in too short a buffer, of a refused order, and else
 --     bytes-written         a row copied to the front of a buffer is written there
 --     table_is              a table that says where the racks stand is the one with the racks put down
---     Decoded, rows_right, room_right    an accepted order as it is decoded, and what clearing asks for
+--     Decoded, as_decoded, rows_right, room_right    an accepted order as it is decoded, and what clearing asks for
 --     off_floor             no vacancy has a way to a position that is not on the floor
 --     number_none, number_is    the answer where there is no way, and where there is one
 --     told_no_way, told-moves, shown    what comes of a clearing: the answer, and the buffer
@@ -26,6 +26,10 @@ use Rattle.field.specs.Writing.{written}
 use Rattle.field.proofs.WritingLaws.{written_front}
 use Rattle.order.specs.Floor.{joined}
 use Rattle.order.specs.Order.{floor_of, starts_of, order_answer}
+use Rattle.order.specs.declared.Counts.{Counts}
+use Rattle.order.specs.declared.OrderVerdict.{OrderVerdict}
+use Rattle.order.specs.declared.OrderVerdict.TheVariants.{Accepted}
+use Rattle.order.specs.Verdict.{answer_of}
 use Rattle.order.specs.Tables.{racks_at, decoded_rows, decoded_starts}
 use Rattle.motion.specs.Arrangement.{Arrangement, rack_at}
 use Rattle.motion.specs.Sound.{Sound}
@@ -143,6 +147,10 @@ pub record Decoded (o : List ℕ) (n e m : ℕ) (g h : List ℕ) : Type 0 where
   pub answer : accepted (n ∷ e ∷ m ∷ []) ≡ order_answer o
   pub filled : g ≡ decoded_rows o
   pub placed : h ≡ decoded_starts o
+
+pub as_decoded : {o g h : List ℕ} {v : OrderVerdict} {c : Counts} → v ≡ Accepted c → answer_of v ≡ order_answer o → g ≡ decoded_rows o
+    → h ≡ decoded_starts o → Decoded o c.positions c.edges c.racks g h
+as_decoded up told filled placed = record { answer = sym (ap answer_of up) ∙ told; filled = filled; placed = placed }
 
 module _ {o : List ℕ} {n e m : ℕ} {g h : List ℕ} (decoded : Decoded o n e m g h) where
   gave : OrderGave o n e m

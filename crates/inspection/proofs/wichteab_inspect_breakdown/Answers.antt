@@ -16,8 +16,8 @@ returns-in_default c =
     order_refused _ _ _ _ (sym (ap answer_of c.in_default.is) ∙ c.decode-below.ensures.result_value)
 
 pub break_down-found-requires : goal.break_down-found-requires
-break_down-found-requires c = filled_rows (order_accepted c.decode-below.ensures.result_value c.in-Accepted.is)
-    c.decode-below.ensures.rows_after
+break_down-found-requires c =
+    filled_rows (order_accepted c.decode-below.ensures.result_value c.in-Accepted.is) c.decode-below.ensures.rows_after
 
 pub returns-then-ring-eq0 : goal.returns-then-ring-eq0
 returns-then-ring-eq0 c =
@@ -26,30 +26,28 @@ returns-then-ring-eq0 c =
 
 pub lay_out-requires : goal.lay_out-requires
 lay_out-requires c =
-    let l = (small (order_accepted c.decode-below.ensures.result_value c.in-Accepted.is)
-    c.decode-below.ensures.rows_after c.break_down-found.ensures ((let it : 0 < c.break_down-found.result.ring =
-    omega arith in it))) in
+    let order = order_accepted c.decode-below.ensures.result_value c.in-Accepted.is in
+    let some : 0 < c.break_down-found.result.ring = omega arith in
+    let fits = small order c.decode-below.ensures.rows_after c.break_down-found.ensures some in
     let long = c.if-buffer-lt256.false in
     (omega arith, omega arith)
 
 pub overflow_mul-result : goal.overflow_mul-result
-overflow_mul-result c = omega (
-  arith,
-  (small (order_accepted c.decode-below.ensures.result_value c.in-Accepted.is)
-      c.decode-below.ensures.rows_after c.break_down-found.ensures ((let it : 0 < c.break_down-found.result.ring = omega
-      arith in it))),
-)
+overflow_mul-result c =
+    let order = order_accepted c.decode-below.ensures.result_value c.in-Accepted.is in
+    let some : 0 < c.break_down-found.result.ring = omega arith in
+    let fits = small order c.decode-below.ensures.rows_after c.break_down-found.ensures some in
+    omega arith
 
 pub overflow_add-result : goal.overflow_add-result
-overflow_add-result c = omega (
-  arith,
-  (small (order_accepted c.decode-below.ensures.result_value c.in-Accepted.is)
-      c.decode-below.ensures.rows_after c.break_down-found.ensures ((let it : 0 < c.break_down-found.result.ring = omega
-      arith in it))),
-)
+overflow_add-result c =
+    let order = order_accepted c.decode-below.ensures.result_value c.in-Accepted.is in
+    let some : 0 < c.break_down-found.result.ring = omega arith in
+    let fits = small order c.decode-below.ensures.rows_after c.break_down-found.ensures some in
+    omega arith
 
 pub returns : goal.returns
 returns c =
-    found (order_accepted c.decode-below.ensures.result_value c.in-Accepted.is) c.decode-below.ensures.rows_after
-    c.break_down-found.ensures ((let it : 0 < c.break_down-found.result.ring = omega arith in it)) _ _
-    c.if-buffer-lt256.false c.lay_out.ensures
+    let order = order_accepted c.decode-below.ensures.result_value c.in-Accepted.is in
+    let some : 0 < c.break_down-found.result.ring = omega arith in
+    found order c.decode-below.ensures.rows_after c.break_down-found.ensures some _ _ c.if-buffer-lt256.false c.lay_out.ensures
