@@ -6,9 +6,4 @@ use Rattle.choosing.proofs.list.Goals as goal
 
 pub put_listed-requires : goal.put_listed-requires
 unfolding move_size
-put_listed-requires c =
-    let all = search rules in
-    record {
-      a_bound = all.0;
-      j_in_bounds = all.1;
-    }
+put_listed-requires c = search rules
