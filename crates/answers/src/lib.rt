@@ -6,7 +6,7 @@ ghost use Rattle.answers.specs.Answer.{number_of, HasNumber};
 ghost use Rattle.answers.specs.Family.{family_word, family_bytes};
 
 // Why an entry point turns its input down. specs/Answer.antt gives each its number.
-#[derive(Drop)]
+#[derive(Clone, Copy)]
 pub enum Fault {
     // The order is under 3 bytes, or its length is not the one its counts give.
     OrderLength,
@@ -137,7 +137,7 @@ fn case_number(fault: Fault) -> u64
 }
 
 // A short word: its bytes are the first `len` of `bytes`, and the others are zero.
-#[derive(Drop)]
+#[derive(Clone, Copy)]
 pub struct Word {
     pub bytes: [u8; 9],
     pub len: usize,

@@ -14,7 +14,7 @@ ghost use Rattle.breakdown.specs.Part.{Places, Part, place_of};
 use graph::Route;
 
 // Two joined positions, and how many positions the way has that leads on from the second. A size of 0 is no pair.
-#[derive(Drop)]
+#[derive(Clone, Copy)]
 struct Pair {
     from: usize,
     to: usize,

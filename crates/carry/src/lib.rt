@@ -29,7 +29,7 @@ fn list_way(at: &[u8; 64], k: usize, room: &mut [u8])
 }
 
 // The verdict: specs/CarryAnswer.antt gives it the number and the values.
-#[derive(Drop)]
+#[derive(Clone, Copy)]
 pub enum CarryVerdict {
     Found(Carry),
     Refused(Fault, u32),

@@ -241,7 +241,7 @@ pub extern "C" fn wichteab_timetable_length(bytes: &[u8]) -> u64
 }
 
 // A live floor after a call, with the call's answer as one number.
-#[derive(Drop)]
+#[derive(Clone, Copy)]
 pub struct Called {
     pub floor: Floor,
     pub number: u64,

@@ -38,7 +38,7 @@ fn list_moves(tail: &[u8], named: bool, k: usize, racks: &mut [u8; 64], room: &m
 }
 
 // The verdict of the converter: specs/Converter.antt gives it the number and the values.
-#[derive(Drop)]
+#[derive(Clone, Copy)]
 pub enum ConverterVerdict {
     Accepted(usize),
     Refused(Fault, u32),

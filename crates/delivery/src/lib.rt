@@ -10,21 +10,21 @@ use scheduling::MakerVerdict;
 use timetable::TimetableVerdict;
 
 // What came of the timetable maker's call: it is not reached where the planner refuses.
-#[derive(Drop)]
+#[derive(Clone, Copy)]
 pub enum MakerCall {
     NotReached,
     Answered(MakerVerdict),
 }
 
 // What came of the timetable checker's call: it is not reached where the planner or the maker refuses.
-#[derive(Drop)]
+#[derive(Clone, Copy)]
 pub enum CheckCall {
     NotReached,
     Answered(TimetableVerdict),
 }
 
 // The answers of the three calls, side by side. A refusal by the maker is no refusal of them all: the plan stays written.
-#[derive(Drop)]
+#[derive(Clone, Copy)]
 pub struct Delivery {
     pub plan: PlannerVerdict,
     pub timetable: MakerCall,

@@ -9,7 +9,7 @@ ghost use Rattle.graph.specs.Rows.{Edge, Rows};
 ghost use Rattle.farthest.specs.Balls.{Alone, Grows, Grown, Missed, Dearest};
 
 // A carry of one rack alone: from where to where, in how many moves.
-#[derive(Drop)]
+#[derive(Clone, Copy)]
 pub struct Carry {
     pub start: usize,
     pub goal: usize,
@@ -60,7 +60,7 @@ fn grown(rows: &[u64; 64], balls: &[u64; 64], n: usize) -> [u64; 64]
 }
 
 // A start and a goal.
-#[derive(Drop)]
+#[derive(Clone, Copy)]
 struct Trip {
     start: usize,
     goal: usize,

@@ -8,7 +8,7 @@ ghost use Rattle.field.specs.Units.{misfits, pad_set, unclean};
 ghost use Rattle.field.specs.Listed.{move_size, ListedAt};
 
 // Two positions that stand one after the other: an edge or a move.
-#[derive(Drop)]
+#[derive(Clone, Copy)]
 pub struct Pair {
     pub first: usize,
     pub second: usize,
@@ -73,7 +73,7 @@ pub fn triple_number(s: &[u8], j: usize) -> usize
 }
 
 // A move as a plan lists it: its two positions as one number, left * 64 + entered, and the rack that it names, 0 where it names none.
-#[derive(Drop)]
+#[derive(Clone, Copy)]
 pub struct Listed {
     pub step: usize,
     pub rack: usize,

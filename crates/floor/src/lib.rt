@@ -15,7 +15,7 @@ use answers::Fault;
 use order::{Counts, OrderVerdict};
 
 // The verdict on a floor: specs/Verdict.antt gives it document 01's number and values.
-#[derive(Drop)]
+#[derive(Clone, Copy)]
 pub enum FloorVerdict {
     Accepted(Counts),
     Refused(Fault, u32),

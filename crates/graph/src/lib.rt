@@ -27,7 +27,7 @@ fn around(rows: &[u64; 64], set: u64) -> u64
 }
 
 // How a search ended: the number of its levels where the last has a position of the goal, and 0 where none has; and what was never reached.
-#[derive(Drop)]
+#[derive(Clone, Copy)]
 struct Reach {
     depth: usize,
     left: u64,

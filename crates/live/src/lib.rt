@@ -25,7 +25,7 @@ pub struct Floor {
 }
 
 // Who calls. `Nobody` stands for a number that names no role.
-#[derive(Drop)]
+#[derive(Clone, Copy)]
 pub enum Role {
     Nobody,
     Viewer,
@@ -34,14 +34,14 @@ pub enum Role {
 }
 
 // The verdict of a call: the steps run and not taken back after it, or why it was refused.
-#[derive(Drop)]
+#[derive(Clone, Copy)]
 pub enum LiveVerdict {
     Accepted(u32),
     Refused(Fault, u32),
 }
 
 // The picture after a call, with its verdict.
-#[derive(Drop)]
+#[derive(Clone, Copy)]
 pub struct Driven {
     pub floor: Floor,
     pub verdict: LiveVerdict,

@@ -19,14 +19,14 @@ const ROWS: [usize; 5] = [2, 3, 4, 4, 8];
 const COLUMNS: [usize; 5] = [3, 4, 4, 5, 8];
 
 // A grid's size.
-#[derive(Drop)]
+#[derive(Clone, Copy)]
 pub struct Size {
     pub rows: usize,
     pub columns: usize,
 }
 
 // The verdict on a short order: the length of the full record, or why there is none. specs/Expansion.antt gives it its number and values.
-#[derive(Drop)]
+#[derive(Clone, Copy)]
 pub enum ExpandVerdict {
     Accepted(usize),
     Refused(Fault, u32),

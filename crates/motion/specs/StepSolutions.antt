@@ -1,7 +1,7 @@
 -- What leads through a sequence of arrangements: the moves or the steps that a record of it lists.
 --
 --     moves_between S     the moves that lead through the arrangements S, one rack at a time: each the move from one to the next
---     stepsBetween S     the steps that lead through the arrangements S: each the step from one to the next
+--     steps_between S     the steps that lead through the arrangements S: each the step from one to the next
 -- Assumes nothing.
 use Rattle.std.specs.Prelude.{ℕ, List, [], ◌∷◌, ◌++◌}
 use Rattle.motion.specs.Arrangement.{Arrangement}

@@ -16,7 +16,7 @@ pub type Log = [u16; LOG];
 
 // The rack at each position, 0 where there is none; how many racks are real, those above are stand-ins; and how many moves the plan has,
 // and the log.
-#[derive(Drop)]
+#[derive(Clone, Copy)]
 pub struct State {
     pub racks: [u8; 64],
     pub real: usize,
@@ -25,7 +25,7 @@ pub struct State {
 }
 
 // The two counts of a state. Where many moves are made one after another, the racks are lent beside them, so that no move copies the table.
-#[derive(Drop)]
+#[derive(Clone, Copy)]
 pub struct Tally {
     pub written: usize,
     pub logged: usize,

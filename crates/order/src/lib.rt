@@ -22,7 +22,7 @@ pub struct Counts {
 }
 
 // The verdict on an order: specs/Verdict.antt gives it document 01's number and values.
-#[derive(Drop)]
+#[derive(Clone, Copy)]
 pub enum OrderVerdict {
     Accepted(Counts),
     Refused(Fault, u32),

@@ -17,7 +17,7 @@ use answers::Fault;
 use order::OrderVerdict;
 
 // The verdict on an order with one vacancy: specs/Verdict.antt gives it its number and values.
-#[derive(Drop)]
+#[derive(Clone, Copy)]
 pub enum VacancyVerdict {
     Impossible,
     NotJudged,
@@ -112,7 +112,7 @@ fn is_contrary(starts: &[u8; 64], goals: &[u8; 64], n: usize, light: u64) -> boo
 }
 
 // Whether two colours will do, and if so the positions that have one of them.
-#[derive(Drop)]
+#[derive(Clone, Copy)]
 pub struct Colours {
     pub two: bool,
     pub light: u64,

@@ -11,7 +11,7 @@ ghost use Rattle.plan.specs.Verdict.{answer_of};
 use answers::Fault;
 
 // The verdict on a plan: specs/Verdict.antt gives it document 01's number and values.
-#[derive(Drop)]
+#[derive(Clone, Copy)]
 pub enum PlanVerdict {
     Accepted(usize),
     Refused(Fault, u32),

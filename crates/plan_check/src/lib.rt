@@ -20,7 +20,7 @@ use plan::PlanVerdict;
 use tables::Replay;
 
 // The verdict on a move at its turn, with the rack that it names: specs/Judging.antt gives it document 01's number, or 0.
-#[derive(Drop)]
+#[derive(Clone, Copy)]
 enum MoveVerdict {
     Legal,
     Illegal(Fault),

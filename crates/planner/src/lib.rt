@@ -11,7 +11,7 @@ use answers::Fault;
 use floor::FloorVerdict;
 
 // The verdict of the planner: specs/Planner.antt gives it document 01's number and values.
-#[derive(Drop)]
+#[derive(Clone, Copy)]
 pub enum PlannerVerdict {
     Planned(usize),
     Refused(Fault, u32),

@@ -80,7 +80,7 @@ fn write_window(
 }
 
 // How far a timetable is written: so many windows, of so many steps in all, and where the next step begins.
-#[derive(Drop)]
+#[derive(Clone, Copy)]
 struct Progress {
     windows: usize,
     steps: usize,
@@ -171,7 +171,7 @@ fn make_steps(tail: &[u8], named: bool, k: usize, buffer: &mut [u8]) -> usize
 }
 
 // The verdict of the timetable maker: specs/Maker.antt gives it document 01's number and values.
-#[derive(Drop)]
+#[derive(Clone, Copy)]
 pub enum MakerVerdict {
     Accepted(usize),
     Refused(Fault, u32),

@@ -23,21 +23,21 @@ pub struct Totals {
 }
 
 // Moves divided by steps, in thousandths rounded down.
-#[derive(Drop)]
+#[derive(Clone, Copy)]
 pub enum Parallelism {
     NoSteps,
     Thousandths(u64),
 }
 
 // The verdict on a season: its report, or why there is none. specs/Season.antt gives it its number and values.
-#[derive(Drop)]
+#[derive(Clone, Copy)]
 pub enum SeasonVerdict {
     Report(Totals, Parallelism),
     Refused(Fault, u32),
 }
 
 // Where the order and the timetable of a pair end.
-#[derive(Drop)]
+#[derive(Clone, Copy)]
 struct Ends {
     order: usize,
     timetable: usize,

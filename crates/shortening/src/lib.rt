@@ -109,7 +109,7 @@ fn shorten_moves(tail: &[u8], named: bool, k: usize, room: &mut [u8]) -> usize
 }
 
 // The verdict of the shortener: specs/Shortener.antt gives it the number and the values.
-#[derive(Drop)]
+#[derive(Clone, Copy)]
 pub enum ShortenerVerdict {
     Accepted(usize),
     Refused(Fault, u32),

@@ -75,7 +75,7 @@ fn shift(at: &[u8; 64], size: usize, state: State, log: &mut Log, tail: &mut [u8
 }
 
 // How clearing a position went: the state afterwards, whether a vacancy has a way to it, and how many moves were made.
-#[derive(Drop)]
+#[derive(Clone, Copy)]
 pub struct Clearing {
     pub state: State,
     pub found: bool,

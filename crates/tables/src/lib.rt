@@ -10,7 +10,7 @@ use answers::Fault;
 
 // How a replay ended: every move or step was legal, or the first that was not, by its fault and its number, counted from 1. What the racks
 // then stand like is left in the table.
-#[derive(Drop)]
+#[derive(Clone, Copy)]
 pub enum Replay {
     Ended,
     Stopped(Fault, u32),

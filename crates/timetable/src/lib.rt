@@ -14,14 +14,14 @@ ghost use Rattle.timetable.specs.RecordLength.{whole_timetable_length};
 use answers::Fault;
 
 // The verdict on a timetable, on its structure alone or for an order, with the counts of an accepted one.
-#[derive(Drop)]
+#[derive(Clone, Copy)]
 pub enum TimetableVerdict {
     Accepted { steps: usize, moves: usize },
     Refused(Fault, u32),
 }
 
 // Where a step stands in the lent timetable, or why it is not handed out.
-#[derive(Drop)]
+#[derive(Clone, Copy)]
 pub enum StepVerdict {
     Found { offset: usize, len: usize },
     Refused(Fault, u32),

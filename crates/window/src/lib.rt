@@ -84,7 +84,7 @@ fn wide(x: u32) -> usize
 }
 
 // What a pass over a stretch finds: the greatest step, and the first one behind the window.
-#[derive(Drop)]
+#[derive(Clone, Copy)]
 pub struct Found {
     pub greatest: usize,
     pub due: usize,
