@@ -36,32 +36,8 @@
 --     Shortened named s k B n b    the n moves that the pass over k moves keeps, each with the rack that it names, written at the front of
 --                            B, make b of it
 -- Assumes nothing.
-use Rattle.std.specs.Prelude.{
-  ℕ,
-  zero,
-  suc,
-  ◌+◌,
-  ◌-◌,
-  ◌*◌,
-  ◌/◌,
-  ◌%◌,
-  ◌≤◌,
-  ◌<◌,
-  Bool,
-  true,
-  cond,
-  List,
-  [],
-  ◌∷◌,
-  ◌↔◌,
-  ◌⊎◌,
-  ◌≢◌,
-  ◌≡◌,
-  ltb,
-  eqb,
-  length,
-  get_or,
-}
+use Rattle.std.specs.Prelude.{ℕ, zero, suc, ◌+◌, ◌-◌, ◌*◌, ◌/◌, ◌%◌, ◌≤◌, ◌<◌, Bool, true, cond, List, [], ◌∷◌, ◌↔◌}
+use Rattle.std.specs.Prelude.{◌⊎◌, ◌≢◌, ◌≡◌, ltb, eqb, length, get_or}
 use Rattle.field.specs.Bits.{field}
 use Rattle.field.specs.Listed.{move_size, rack_field, all_units}
 use Rattle.field.specs.Packing.{pack_positions}

@@ -19,19 +19,8 @@ use Rattle.answers.proofs.AnswerLaws.{refuse_not, refuse_else, pass_up-low, pass
 use Rattle.field.proofs.BitLaws.{field_lt}
 use Rattle.field.proofs.UnitLaws.{or_left}
 use Rattle.order.specs.Floor.{Floor, some, joined}
-use Rattle.order.specs.Order.{
-  Order,
-  order_record,
-  order_of,
-  edge_count,
-  floor_of,
-  starts_of,
-  goals_of,
-  rack_count,
-  bad_edge,
-  ascending,
-  wrong_edges,
-}
+use Rattle.order.specs.Order.{Order, order_record, order_of, edge_count, floor_of, starts_of, goals_of, rack_count}
+use Rattle.order.specs.Order.{bad_edge, ascending, wrong_edges}
 use Rattle.order.specs.Order.{repeats, wrong_places, order_answer, WellFormed}
 use Rattle.order.proofs.OrderLaws.{right_order, formed_head, well_formed}
 use Rattle.order.proofs.Written.{SoundOrder, edges_below, record_read, record_sound}

@@ -21,17 +21,8 @@ use Rattle.field.proofs.BitLaws.{field_lt}
 use Rattle.field.proofs.RecordLaws.{length-positions}
 use Rattle.field.proofs.UnitLaws.{or_right}
 use Rattle.order.specs.Floor.{Floor}
-use Rattle.order.specs.Order.{
-  position_count,
-  edge_count,
-  rack_count,
-  floor_of,
-  starts_of,
-  goals_of,
-  order_of,
-  wrong_length,
-  wrong_positions,
-}
+use Rattle.order.specs.Order.{position_count, edge_count, rack_count, floor_of, starts_of, goals_of, order_of}
+use Rattle.order.specs.Order.{wrong_length, wrong_positions}
 use Rattle.order.specs.Order.{padding_set, wrong_edges, wrong_racks, order_answer}
 use Rattle.motion.specs.Arrangement.{Arrangement}
 use Rattle.motion.specs.Move.{listed_fault, after, after_listed}
@@ -54,15 +45,8 @@ use Rattle.plan.specs.Plan.{move_count, plan_listed, wrong_plan_length, plan_pad
 use Rattle.plan.proofs.PlanRecord.{listed-counted}
 use Rattle.planner.specs.Planner.{refusals, PlanMade, turned_down, made}
 use Rattle.planner.proofs.PlannerLaws.{moves_few}
-use Rattle.timetable.specs.Timetable.{
-  step_count,
-  parts_of,
-  steps_of,
-  step_moves,
-  wrong_timetable_length,
-  timetable_padding_set,
-  timetable_answer,
-}
+use Rattle.timetable.specs.Timetable.{step_count, parts_of, steps_of, step_moves, wrong_timetable_length}
+use Rattle.timetable.specs.Timetable.{timetable_padding_set, timetable_answer}
 use Rattle.timetable.specs.Timetable.{step_answer}
 use Rattle.timetable.proofs.StepLaws.{length_parts}
 use Rattle.timetable_check.specs.ByteString.{ByteString}

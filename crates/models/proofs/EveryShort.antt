@@ -22,18 +22,8 @@ use Rattle.field.proofs.RecordLaws.{positions-at, length-positions, length-posit
 use Rattle.field.proofs.RecordLaws.{bits_of-to_bytes, length-to_bytes, padded-by}
 use Rattle.field.proofs.WholeBytes.{pad-after-whole}
 use Rattle.order.specs.Floor.{some}
-use Rattle.order.specs.Order.{
-  Order,
-  position_count,
-  rack_count,
-  repeats,
-  wrong_places,
-  wrong_racks,
-  starts_of,
-  order_of,
-  edge_count,
-  floor_of,
-}
+use Rattle.order.specs.Order.{Order, position_count, rack_count, repeats, wrong_places, wrong_racks, starts_of}
+use Rattle.order.specs.Order.{order_of, edge_count, floor_of}
 use Rattle.order.proofs.PlaceLaws.{places_below, below_more, few_places}
 use Rattle.models.specs.Grid.{unknown_model, model_floor}
 use Rattle.models.specs.ShortOrder.{ShortOrder, short_bits, short_record, model_code}

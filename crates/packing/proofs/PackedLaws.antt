@@ -19,38 +19,12 @@ use native.Mathlib.Omega.{arith}
 use borrow.Author.Tests.{ne_eqb}
 use Rattle.answers.specs.Answer.{Answer, accepted, refused}
 use Rattle.packing.specs.Packed.{packed, nothing, one_count, steps_and_moves, length_and_offset, start_goal_moves}
-use Rattle.packing.specs.Unpacked.{
-  number_in,
-  place_in,
-  nothing_of,
-  record_length_of,
-  plan_moves_of,
-  made_steps_of,
-  floor_steps_of,
-  steps_and_moves_of,
-  offset_and_length_of,
-  start_goal_moves_of,
-  taken_apart,
-  uncounted,
-  Tells,
-}
-use Rattle.packing.proofs.Sized.{
-  Sized,
-  accepts,
-  refuses,
-  NoCounts,
-  no_counts,
-  OneCount,
-  one_count_lem,
-  WordCount,
-  word_count,
-  StepsMoves,
-  steps_moves,
-  OffsetLength,
-  offset_length,
-  StartGoalMoves,
-  start_goal_moves_lem,
-}
+use Rattle.packing.specs.Unpacked.{number_in, place_in, nothing_of, record_length_of, plan_moves_of, made_steps_of}
+use Rattle.packing.specs.Unpacked.{floor_steps_of, steps_and_moves_of, offset_and_length_of, start_goal_moves_of}
+use Rattle.packing.specs.Unpacked.{taken_apart, uncounted, Tells}
+use Rattle.packing.proofs.Sized.{Sized, accepts, refuses, NoCounts, no_counts, OneCount, one_count_lem, WordCount}
+use Rattle.packing.proofs.Sized.{word_count, StepsMoves, steps_moves, OffsetLength, offset_length, StartGoalMoves}
+use Rattle.packing.proofs.Sized.{start_goal_moves_lem}
 
 pub record Packs (rest : List ℕ → ℕ) (values : ℕ → List ℕ) (Fits : List ℕ → Type 0) : Type 0 where
   pub room : (v : List ℕ) → Fits v → rest v < 2 ^ 56

@@ -3,8 +3,7 @@
 --
 --     number_in r, place_in r        wichteab_number, wichteab_place
 --     nothing_of r, record_length_of r, judgement_of r, plan_moves_of r, made_steps_of r, floor_steps_of r, steps_and_moves_of r,
---     offset_and_length_of r,
---     start_goal_moves_of r
+--     offset_and_length_of r, start_goal_moves_of r
 --                                  what a caller reads of an accepted answer
 --     taken_apart values r          the answer that a caller makes of the number r: its number, and then its place or what `values` reads
 --     uncounted a                  the answer a, without the counts of an accepted input

@@ -26,18 +26,8 @@ use Rattle.answers.proofs.AnswerLaws.{pass_up_accepted, holds-yes, holds-true}
 use Rattle.field.specs.Bits.{bits_of, bits, number, field, pairs, positions, pad}
 use Rattle.field.specs.Units.{record_length, misfits, pad_set, unclean}
 use Rattle.order.specs.Floor.{Floor, some, is_pair, joined}
-use Rattle.order.specs.Order.{
-  Order,
-  position_count,
-  edge_count,
-  rack_count,
-  unit_count,
-  floor_of,
-  starts_of,
-  goals_of,
-  order_of,
-  order_record,
-}
+use Rattle.order.specs.Order.{Order, position_count, edge_count, rack_count, unit_count, floor_of, starts_of}
+use Rattle.order.specs.Order.{goals_of, order_of, order_record}
 use Rattle.order.specs.Order.{wrong_length, wrong_positions, padding_set, bad_edge, precedes, ascending, wrong_edges, repeats, wrong_places}
 use Rattle.order.specs.Order.{wrong_racks, counts, order_answer, WellFormed}
 use Rattle.order.proofs.Written.{SoundOrder, record_read, record_sound}

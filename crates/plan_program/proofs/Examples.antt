@@ -26,18 +26,8 @@ use Rattle.field.specs.Units.{record_length, misfits, pad_set, unclean}
 use Rattle.field.specs.Listed.{units, all_units}
 use Rattle.field.specs.Writing.{written}
 use Rattle.order.specs.Floor.{some, is_pair, joined}
-use Rattle.order.specs.Order.{
-  order_bits,
-  order_record,
-  position_count,
-  edge_count,
-  rack_count,
-  unit_count,
-  floor_of,
-  starts_of,
-  goals_of,
-  order_of,
-}
+use Rattle.order.specs.Order.{order_bits, order_record, position_count, edge_count, rack_count, unit_count}
+use Rattle.order.specs.Order.{floor_of, starts_of, goals_of, order_of}
 use Rattle.order.specs.Order.{wrong_length, wrong_positions, padding_set, bad_edge, precedes, ascending, wrong_edges, repeats}
 use Rattle.order.specs.Order.{wrong_places, wrong_racks, counts, order_answer}
 use Rattle.order.specs.EdgeSets.{edges_listed, is_edge, floor_from}

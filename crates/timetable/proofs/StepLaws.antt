@@ -31,15 +31,8 @@ use Rattle.field.specs.Bits.{pairs}
 use Rattle.field.proofs.RecordLaws.{rest_is, length_pairs, pairs-drop}
 use Rattle.field.proofs.UnitLaws.{or_left}
 use Rattle.timetable.specs.Reading.{wrong_steps}
-use Rattle.timetable.specs.Timetable.{
-  step_length,
-  steps_length,
-  timetable_length,
-  step_parts,
-  step_moves,
-  step_count,
-  wrong_timetable_length,
-}
+use Rattle.timetable.specs.Timetable.{step_length, steps_length, timetable_length, step_parts, step_moves}
+use Rattle.timetable.specs.Timetable.{step_count, wrong_timetable_length}
 
 abbrev pub part_at : List ℕ → ℕ → List ℕ
 part_at s at = take (step_length (get_or s at 0)) (drop at s)

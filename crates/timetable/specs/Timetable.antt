@@ -21,30 +21,8 @@
 --     step_part s i            the part of s that is step i
 --     step_answer s i          the step reader's answer for step i of s
 -- Assumes nothing.
-use Rattle.std.specs.Prelude.{
-  ℕ,
-  zero,
-  suc,
-  ◌+◌,
-  ◌-◌,
-  ◌*◌,
-  ◌/◌,
-  Bool,
-  true,
-  not,
-  ◌||◌,
-  List,
-  [],
-  ◌∷◌,
-  ◌++◌,
-  map,
-  length,
-  get_or,
-  take,
-  drop,
-  ltb,
-  eqb,
-}
+use Rattle.std.specs.Prelude.{ℕ, zero, suc, ◌+◌, ◌-◌, ◌*◌, ◌/◌, Bool, true, not, ◌||◌, List, [], ◌∷◌, ◌++◌, map}
+use Rattle.std.specs.Prelude.{length, get_or, take, drop, ltb, eqb}
 use Rattle.answers.specs.Answer.{Answer, accepted, refuse, pass_up}
 use Rattle.field.specs.Bits.{bits, field, pairs, pair_bits, pad, padded, to_bytes}
 use Rattle.order.specs.Floor.{some}
@@ -117,8 +95,7 @@ move_total (ms ∷ l) = length ms + move_total l
 -- at its goal". Accepted, the counts are s and the sum of the bytes c.
 unfoldable pub timetable_answer : List ℕ → List ℕ → Answer
 timetable_answer o s =
-    pass_up (order_answer o)
-    (refuse (wrong_timetable_length s) 40 0
+    pass_up (order_answer o) (refuse (wrong_timetable_length s) 40 0
     (refuse (timetable_padding_set s) 41 0
     (judged 43 (goals_of o) (step_count s ∷ move_total (steps_of s) ∷ [])
     (replay_steps (legal_step? (floor_of o)) (starts_of o) (steps_of s)))))

@@ -52,15 +52,8 @@ use Rattle.motion.specs.Judgement.{misplaced, judged}
 use Rattle.motion.specs.StepOf.{moved, insert, sort, step_of}
 use Rattle.motion.specs.StepSolutions.{steps_between}
 use Rattle.timetable.specs.Timetable.{step_bits, all_step_bits, timetable_bits, timetable_record, step_length, step_count, move_total}
-use Rattle.timetable.specs.Timetable.{
-  step_parts,
-  parts_of,
-  wrong_timetable_length,
-  step_pad_set,
-  timetable_padding_set,
-  step_moves,
-  steps_of,
-}
+use Rattle.timetable.specs.Timetable.{step_parts, parts_of, wrong_timetable_length, step_pad_set}
+use Rattle.timetable.specs.Timetable.{timetable_padding_set, step_moves, steps_of}
 use Rattle.timetable.specs.Timetable.{timetable_answer, steps_length, offset, step_part, step_answer, timetable_length}
 use Rattle.timetable.specs.Reading.{reading_answer, WellPacked, part_given, place_given, total}
 use Rattle.timetable.proofs.ReadingLaws.{Stands, stands_at}

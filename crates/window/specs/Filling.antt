@@ -19,28 +19,8 @@
 --     window_of ms first        the window of the steps after step `first` that a pass over the moves ms fills
 --     latest ms                the greatest step that it finds
 -- Assumes nothing.
-use Rattle.std.specs.Prelude.{
-  ℕ,
-  ◌+◌,
-  ◌-◌,
-  ◌*◌,
-  ◌/◌,
-  ◌≤◌,
-  ◌<◌,
-  max,
-  ◌≡◌,
-  cond,
-  List,
-  [],
-  ◌∷◌,
-  length,
-  get_or,
-  set,
-  take,
-  drop,
-  replicate,
-  ltb,
-}
+use Rattle.std.specs.Prelude.{ℕ, ◌+◌, ◌-◌, ◌*◌, ◌/◌, ◌≤◌, ◌<◌, max, ◌≡◌, cond, List, [], ◌∷◌, length, get_or, set}
+use Rattle.std.specs.Prelude.{take, drop, replicate, ltb}
 use Rattle.motion.specs.LegalStep.{longest_train}
 
 pub record Pass : Type 0 where
