@@ -2,8 +2,6 @@
 --
 --     number_of-some, number_of_le    a number is not 0, and fits the 8 bits that the C interface has for it
 --     number_of_injective   two faults have two numbers
---     number_is            what an arm of a match tells, as an equation
---     passed_up            the same of a lower verdict that is passed up
 --     not_both             no answer is a refusal and accepted
 --     holds-yes, holds_no        a decision says yes of what holds, and no of what does not
 --     holds-true, holds-false    and what it says is so
@@ -12,8 +10,12 @@
 --     pass_up-low, pass_up-high    an answer that is accepted was accepted below, and is what comes after it
 --     pass_up-past          so was one that is a refusal, where it is not the refusal below
 --     pass_up_refused, pass_up_accepted    a refusal below is the answer above; where it is accepted below, what comes after is
+--     handed_on, handed_up    a refusal that `?` hands up is the answer above
+--     err_not              what `?` hands up is not accepted
+--     refused_there        an error is a refusal
+--     found_some, some_found, none_found    a number above 0 is found, and no other
 -- Assumes nothing.
-use Prim.Native.Nat.{ℕ, ◌≤◌}
+use Prim.Native.Nat.{ℕ, zero, suc, ◌≤◌}
 use mathlib.Core.List.{List}
 use native.Mathlib.Omega.{arith}
 use mathlib.Core.Logic.{◌≢◌}
@@ -21,8 +23,11 @@ use mathlib.Core.Path.{◌≡◌, refl, sym, ap, ◌∙◌}
 use mathlib.Core.Bool.{Bool, true, false, not, ◌||◌, false≢true}
 use borrow.Author.Tests.{eq-eqb}
 use lib.Dec.{T, eqb, leb, leb→le}
-use Rattle.answers.specs.Answer.{Answer, accepted, refused, holds, refuse, pass_up, number_of, HasNumber, PassedUp}
+use Rattle.answers.specs.Answer.{Answer, accepted, refused, holds, refuse, pass_up, number_of, refused_by, answer_by}
+use Rattle.std.specs.Prelude.{Result, Ok, Err, IsErr, IsErrAnd, Some, None}
+use Rattle.answers.specs.Found.{found}
 use Rattle.answers.specs.declared.Fault.{Fault}
+use Rattle.answers.specs.declared.Refusal.{Refusal}
 use Rattle.answers.proofs.Faults.{every_fault, each_fault, same, same_fault}
 
 -- 0 stands for acceptance
@@ -43,12 +48,6 @@ apart f =
 
 pub number_of_injective : (f g : Fault) → number_of f ≡ number_of g → f ≡ g
 number_of_injective f g e = same_fault f g (rw (eq-eqb (number_of f) (number_of g) e) at (apart f g))
-
-pub number_is : (f : Fault) (r : ℕ) → HasNumber f r → r ≡ number_of f
-number_is f r h = h.number ∙ ap number_of (sym h.is)
-
-pub passed_up : {X : Type 0} {answer_of : X → Answer} {v : X} {a r : Answer} → PassedUp answer_of v a r → r ≡ pass_up (answer_of v) a
-passed_up {answer_of = answer_of} {a = a} h = h.passes ∙ ap (λ x. pass_up (answer_of x) a) (sym h.is)
 
 pub not_both : (n p : ℕ) (v : List ℕ) → refused n p ≡ accepted v → ⊥
 not_both n p v e = let z : ◌≡◌ {A = ℕ} 0 1 = cc in omega arith
@@ -102,3 +101,35 @@ pass_up_refused (refused m q) a n p e = refl
 
 pub pass_up_accepted : (b a : Answer) (v : List ℕ) → b ≡ accepted v → pass_up b a ≡ a
 pass_up_accepted b a v e = ap (λ (x : Answer). pass_up x a) e
+
+-- r is what `?` makes of a lower reader's refusal e
+module _ {X : Type 0} (values : X → List ℕ) where
+  pub handed_on : (r : Result X Refusal) (e : Refusal) {a : Answer} → IsErrAnd r (λ x. x ≡ e) → refused_by e.0 e.1 ≡ a
+      → answer_by values r ≡ a
+  handed_on (Ok x) e is told = absurd is
+  handed_on (Err x) e is told = ap (λ (y : Refusal). refused_by y.0 y.1) is ∙ told
+
+  pub handed_up : (r : Result X Refusal) (e : Refusal) {below : Answer} → IsErrAnd r (λ x. x ≡ e) → refused_by e.0 e.1 ≡ below
+      → (above : Answer) → answer_by values r ≡ pass_up below above
+  handed_up r e {below} is told above = handed_on r e is (told ∙ pass_up_refused below above _ _ (sym told))
+
+pub err_not : {X : Type 0} (values : X → List ℕ) (r : Result X Refusal) → IsErr r → (v : List ℕ) → answer_by values r ≡ accepted v → ⊥
+err_not values (Ok x) is v e = absurd (false≢true is)
+err_not values (Err x) is v e = not_both _ _ v e
+
+pub refused_there : {X : Type 0} (values : X → List ℕ) (r : Result X Refusal) → IsErr r → {a : Answer} → answer_by values r ≡ a
+    → (n : ℕ) × (p : ℕ) × (refused n p ≡ a)
+refused_there values (Ok x) is e = absurd (false≢true is)
+refused_there values (Err x) is e = (_, _, e)
+
+pub found_some : (n : ℕ) → 1 ≤ n → Some n ≡ found n
+found_some zero h = absurd (omega arith)
+found_some (suc n) h = refl
+
+pub some_found : (q n : ℕ) → Some q ≡ found n → (q ≡ n) × (1 ≤ n)
+some_found q zero e = absurd (cc e)
+some_found q (suc n) e = (cc e, omega arith)
+
+pub none_found : (n : ℕ) → None ≡ found n → n ≡ 0
+none_found zero e = refl
+none_found (suc n) e = absurd (cc e)

@@ -2,15 +2,15 @@
 --
 --     within-yes, within-under, within_over     the test's value from where the number lies
 --     word_order, word_floor, word-plan, word-timetable    the word of a number in a family
---     word-under, word_over                     the word of one below and above all families
+--     word-under, word_over, word_other         the word of one below all families, above all, and of either
 -- Assumes nothing.
 use Prim.Native.Nat.{ℕ, ◌≤◌, ◌<◌}
-use mathlib.Core.Path.{◌≡◌, refl, sym, ap}
-use mathlib.Core.Bool.{true, false, cond, ◌&&◌, and-false}
-use mathlib.Core.List.{List}
+use mathlib.Core.Path.{◌≡◌}
+use mathlib.Core.Bool.{true, false, and-false}
 use native.Mathlib.Omega.{arith}
 use borrow.Author.Tests.{le-leb, lt-leb}
-use lib.Dec.{leb}
+use mathlib.Core.Logic.{inl, inr}
+use Rattle.std.proofs.lemmas.Bool.{cases_lt}
 use Rattle.answers.specs.Ascii.{ascii}
 use Rattle.answers.specs.Family.{within, family_word}
 
@@ -48,7 +48,7 @@ module _ (n : ℕ) where
     within-yes 40 49 n h (omega arith),
   )
 
-  pub word-under : n < 10 → ascii "other" ≡ family_word n
+  word-under : n < 10 → ascii "other" ≡ family_word n
   unfolding family_word
   word-under h = rw (
     within-under 10 19 n (omega arith),
@@ -57,7 +57,7 @@ module _ (n : ℕ) where
     within-under 40 49 n (omega arith),
   )
 
-  pub word_over : 50 ≤ n → ascii "other" ≡ family_word n
+  word_over : 50 ≤ n → ascii "other" ≡ family_word n
   unfolding family_word
   word_over h = rw (
     within_over 10 19 n (omega arith),
@@ -65,3 +65,6 @@ module _ (n : ℕ) where
     within_over 30 39 n (omega arith),
     within_over 40 49 n (omega arith),
   )
+
+  pub word_other : (10 ≤ n → 50 ≤ n) → ascii "other" ≡ family_word n
+  word_other h = elim (cases_lt n 10) [ inl l ↦ word-under l | inr k ↦ word_over (h k) ]

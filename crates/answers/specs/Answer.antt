@@ -2,15 +2,16 @@
 --
 --     Answer         accepted, with the counts that document 01 names, or refused, with a number and a place
 --     number_of f     document 01's number for each case of the fault enum
---     HasNumber f r  r is the number of the fault f
 --     refused_by f p  the refusal by the fault f at the place p
 --     holds d        the decision d says yes: what is decided, as a test
 --     refuse t k p a the answer a, unless the test t holds: then the refusal k at the place p
 --     pass_up b a     the answer a of a reader whose lower reader answered b, unless that was a refusal
---     PassedUp answer_of v a r    r is what passing the lower verdict v up gives: its refusal, else the answer a
+--     the_count n       the counts of a reader that yields the one number n
+--     answer_by values v    the answer that a reader's result v stands for, with the counts of what it yields
 -- Assumes nothing.
-use Rattle.std.specs.Prelude.{ℕ, Bool, true, false, List, ◌≡◌}
+use Rattle.std.specs.Prelude.{ℕ, Bool, true, false, List, [], ◌∷◌, Result, Ok, Err}
 use Rattle.answers.specs.declared.Fault.{Fault}
+use Rattle.answers.specs.declared.Refusal.{Refusal}
 
 -- "either accepted, with counts, or refused, with a place and one of the faults"
 pub data Answer : Type 0 where
@@ -57,12 +58,6 @@ number_of Fault.SeasonPairs = 47
 number_of Fault.FloorNotConnected = 27
 number_of Fault.CarryBuffer = 28
 
--- as an arm of a match on f tells it: f is some case, and r is that case's number
-pub record HasNumber (f : Fault) (r : ℕ) : Type 0 where
-  pub case : Fault
-  pub is : f ≡ case
-  pub number : r ≡ number_of case
-
 abbrev pub refused_by : Fault → ℕ → Answer
 refused_by f place = refused (number_of f) place
 
@@ -81,8 +76,9 @@ abbrev pub pass_up : Answer → Answer → Answer
 pass_up (accepted counts) otherwise = otherwise
 pass_up (refused number place) otherwise = refused number place
 
--- as an arm of a match on the lower reader's verdict v tells it: v is some case, and r is that case's refusal or the answer a
-pub record PassedUp {X : Type 0} (answer_of : X → Answer) (v : X) (a r : Answer) : Type 0 where
-  pub case : X
-  pub is : v ≡ case
-  pub passes : r ≡ pass_up (answer_of case) a
+abbrev pub the_count : ℕ → List ℕ
+the_count n = n ∷ []
+
+abbrev pub answer_by : {X : Type 0} → (X → List ℕ) → Result X Refusal → Answer
+answer_by values (Ok x) = accepted (values x)
+answer_by values (Err r) = refused_by r.0 r.1

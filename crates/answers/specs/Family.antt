@@ -2,10 +2,8 @@
 --
 --     within a b n    n is from a to b, both included
 --     family_word n    the family word of the refusal number n; a number of no family has the word `other`
---     padded w        the word w in the nine bytes of the longest, with zeros behind it
---     family_bytes n   the family word of n, so padded
 -- Assumes nothing.
-use Rattle.std.specs.Prelude.{ℕ, ◌-◌, Bool, cond, ◌&&◌, List, ◌++◌, leb, length, replicate}
+use Rattle.std.specs.Prelude.{ℕ, Bool, cond, ◌&&◌, List, leb}
 use Rattle.answers.specs.Ascii.{ascii}
 
 unfoldable pub within : ℕ → ℕ → ℕ → Bool
@@ -17,9 +15,3 @@ family_word n =
     (cond (within 20 29 n) (ascii "floor")
     (cond (within 30 39 n) (ascii "plan")
     (cond (within 40 49 n) (ascii "timetable") (ascii "other"))))
-
-abbrev pub padded : List ℕ → List ℕ
-padded w = w ++ replicate (9 - length w) 0
-
-abbrev pub family_bytes : ℕ → List ℕ
-family_bytes n = padded (family_word n)

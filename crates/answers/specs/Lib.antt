@@ -1,3 +1,4 @@
 pub mod Answer
 pub mod Ascii
 pub mod Family
+pub mod Found

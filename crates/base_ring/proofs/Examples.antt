@@ -23,7 +23,7 @@ use Rattle.moving.specs.Journey.{Space}
 use Rattle.moving.specs.Table.{Table}
 use Rattle.moving.specs.declared.State.{State}
 use Rattle.base_ring.specs.declared.Circle.{Circle}
-use Rattle.base_ring.specs.Circle.{place, BaseRing, OnRing, Open, RestSettled, Ringing}
+use Rattle.base_ring.specs.Circle.{BaseRing, OnRing, Open, RestSettled, Ringing}
 use Rattle.base_ring.specs.Moves.{exchange_moves, ring_moves}
 
 unfoldable pub square : List ℕ

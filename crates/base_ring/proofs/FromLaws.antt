@@ -1,27 +1,27 @@
 -- Laws of the base ring in its order from a place on.
 --
---     length-round, round-next, round-at    how many positions; one more of them; the one at place i
---     laid_none, laid_next      the row of 64 with nothing laid, and with one position more
+--     length-round, round-at    how many positions; the one at place i
+--     round_turned          a row moved round until place z is the first
 --     circle-right          the breakdown's ring from the left end of its first handle on is a base ring
 --     circle-same           with the same positions
 -- Assumes nothing.
 use Prim.Native.Nat.{ℕ, zero, suc, ◌+◌, ◌-◌, ◌%◌, ◌≤◌, ◌<◌}
 use mathlib.Core.Path.{◌≡◌, refl, sym, ap, subst, ◌∙◌}
-use mathlib.Core.List.{List, [], ◌∷◌, ◌++◌}
+use mathlib.Core.List.{List, [], ◌++◌}
 use mathlib.Core.Logic.{◌↔◌, ◌≢◌, by_cases}
 use native.Mathlib.Decide.{ℕ_discrete, dec_lt}
 use native.Mathlib.Nat.{mod-lt, mod-eq_of_lt, mod-eq-sub-mod}
-use native.Mathlib.Numerals.{add-one}
 use native.Mathlib.Omega.{arith}
-use lib.ListN.{length, set, replicate}
-use lib.Seq.{set_at, append_snoc}
+use lib.ListN.{length, replicate}
+use Rattle.std.specs.List.{RotatedLeft}
+use Rattle.std.proofs.lemmas.Grind.{same_number_lists}
+use Rattle.std.proofs.lemmas.List.{get_or_append_left}
 use Rattle.breakdown.specs.Breakdown.{Among, Between, Breakdown}
 use Rattle.breakdown.specs.Part.{place_of}
 use Rattle.breakdown.proofs.PlaceLaws.{place_of_in, place_of_is}
 use Rattle.breakdown.specs.Answer.{BreaksDown}
 use Rattle.breakdown.specs.declared.Breakdown.{Breakdown as Parts}
 use Rattle.graph.specs.Rows.{row}
-use Rattle.base_ring.specs.declared.Circle.{Circle}
 use Rattle.base_ring.specs.Circle.{place, On, BaseRing}
 use Rattle.base_ring.specs.From.{round, circle_of}
 
@@ -31,14 +31,6 @@ module _ (at : ℕ → ℕ) (size : ℕ) where
   length-round zero z = refl
   length-round (suc k) z = ap suc (length-round k (z + 1))
 
-  pub round-next : (k z : ℕ) → round at size z (suc k) ≡ round at size z k ++ (at ((z + k) % size) ∷ [])
-  unfolding round
-  round-next zero z = let e : z ≡ z + 0 = omega arith in ap (λ (i : ℕ). at (i % size) ∷ []) e
-  round-next (suc k) z =
-      let e : z + 1 + k ≡ z + suc k = omega arith in
-      ap (λ (l : List ℕ). at (z % size) ∷ l)
-      (round-next k (z + 1) ∙ ap (λ (i : ℕ). round at size (z + 1) k ++ (at (i % size) ∷ [])) e)
-
   pub round-at : (k z i : ℕ) (rest : List ℕ) → i < k → row (round at size z k ++ rest) i ≡ at ((z + i) % size)
   unfolding round
   round-at zero z i rest l = absurd (omega arith)
@@ -47,29 +39,32 @@ module _ (at : ℕ → ℕ) (size : ℕ) where
       let e : z + 1 + i ≡ z + suc i = omega arith in
       round-at k (z + 1) i rest (omega arith) ∙ ap (λ (j : ℕ). at (j % size)) e
 
-  pub laid_none : (z : ℕ) → replicate 64 0 ≡ round at size z 0 ++ replicate (64 - 0) 0
-  unfolding round
-  laid_none z = refl
-
-  pub laid_next : (z j : ℕ) (l : List ℕ) → j < 64 → l ≡ round at size z j ++ replicate (64 - j) 0
-      → set l j (at ((z + j) % size)) ≡ round at size z (j + 1) ++ replicate (64 - (j + 1)) 0
-  laid_next z j l few is =
-      let v = at ((z + j) % size) in
-      let rest : List ℕ = replicate (64 - (j + 1)) 0 in
-      let more : 64 - j ≡ suc (64 - (j + 1)) = omega arith in
-      let split : l ≡ round at size z j ++ 0 ∷ rest = is ∙ ap (λ (k : ℕ). round at size z j ++ replicate k 0) more in
-      ap (λ (y : List ℕ). set y j v) split
-      ∙ set_at (round at size z j) 0 rest v j (length-round j z)
-      ∙ sym (append_snoc (round at size z j) v rest)
-      ∙ ap (λ (y : List ℕ). y ++ rest) (sym (round-next j z))
-      ∙ ap (λ (k : ℕ). round at size z k ++ rest) (sym (add-one j))
-
 -- (z + i) % size before and after the ring's last place is passed
 near : (x size : ℕ) → x < size → x % size ≡ x
 near x size h = mod-eq_of_lt h
 
 far : (x size : ℕ) → size ≤ x → x < size + size → x % size ≡ x - size
 far x size l h = mod-eq-sub-mod l ∙ mod-eq_of_lt (omega arith)
+
+-- The places of a row moved round, so that place z is the first.
+pub round_turned : (order xs ys : List ℕ) (size z : ℕ) → z < size → length xs ≡ size → length ys ≡ size
+    → ((i : ℕ) → i < size → row xs i ≡ row order i) → RotatedLeft xs ys size z → ys ≡ round (row order) size z size
+round_turned order xs ys size z hz long same-long same turned =
+    let whole = length-round (row order) size size z in
+    same_number_lists ys (round (row order) size z size) (same-long ∙ sym whole)
+    (λ i l. at-place i (omega arith) ∙ sym (round-at (row order) size size z i [] (omega arith))
+    ∙ get_or_append_left (round (row order) size z size) [] 0 i (omega arith))
+  where
+    at-place : (i : ℕ) → i < size → row ys i ≡ row order ((z + i) % size)
+    at-place i l =
+        by_cases (dec_lt (i + z) size)
+        (λ h.
+        let e : i + z ≡ z + i = omega arith in
+        turned.0 i 0 h ∙ same (i + z) h ∙ ap (row order) (e ∙ sym (near (z + i) size (omega arith))))
+        (λ h.
+        let e : i + z - size ≡ z + i - size = omega arith in
+        turned.1 i 0 (omega arith) l ∙ same (i + z - size) (omega arith)
+        ∙ ap (row order) (e ∙ sym (far (z + i) size (omega arith) (omega arith))))
 
 module _ (z size : ℕ) (hz : z < size) where
   place_in : (i : ℕ) → (z + i) % size < size

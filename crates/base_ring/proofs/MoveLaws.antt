@@ -6,7 +6,7 @@
 --     fits_by               room after a rack moved to x and from there on, whatever the rows are
 -- Assumes nothing.
 use Prim.Native.Nat.{ℕ, ◌+◌, ◌-◌, ◌^◌, ◌<◌}
-use mathlib.Core.Path.{◌≡◌, sym, ap, subst, ◌∙◌}
+use mathlib.Core.Path.{sym, ap, subst, ◌∙◌}
 use mathlib.Core.List.{List}
 use mathlib.Core.Logic.{◌≢◌, by_cases}
 use native.Mathlib.Decide.{ℕ_discrete}

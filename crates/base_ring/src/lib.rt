@@ -77,14 +77,12 @@ fn bring_aside(
         result log.new tail.new }
     ensures aside { Aside circle rack (row state.racks) (row result.racks) }
 {
-    let at = circle.at;
     let n = circle.positions;
-    let x = at[0] as usize;
+    let x = circle.at[0] as usize;
     let y = circle.beside;
-    let ring = breakdown::part(&at, 0, circle.size);
+    let ring = breakdown::part(&circle.at, 0, circle.size);
     let stepped = moving::make_move(y, x, state, log, tail);
-    let racks = stepped.racks;
-    let stands = moving::where_is(&racks, n, rack);
+    let stands = moving::where_is(&stepped.racks, n, rack);
     let brought = shunting::bring(rows, n, ring, stands, x, stepped, log, tail);
     moving::make_move(x, y, brought, log, tail)
 }
@@ -108,15 +106,12 @@ fn bring_next(
         result log.new tail.new }
     ensures ready { Ready circle rack (row state.racks) (row result.racks) }
 {
-    let at = circle.at;
     let n = circle.positions;
-    let size = circle.size;
-    let x = at[0] as usize;
-    let next = at[1] as usize;
-    let last = at[size - 1] as usize;
-    let ring = breakdown::part(&at, 0, size);
-    let racks = state.racks;
-    let stands = moving::where_is(&racks, n, rack);
+    let x = circle.at[0] as usize;
+    let next = circle.at[1] as usize;
+    let last = circle.at[circle.size - 1] as usize;
+    let ring = breakdown::part(&circle.at, 0, circle.size);
+    let stands = moving::where_is(&state.racks, n, rack);
     let brought = shunting::bring(rows, n, ring, stands, next, state, log, tail);
     let free = sets::without(ring, next);
     let cleared = shunting::clear_within(rows, n, free, x, brought, log, tail);
@@ -143,14 +138,11 @@ fn exchange(
     ensures exchanged { Exchanged a b (row state.racks) (row result.racks) }
     ensures log_len_unchanged { length log.new ≡ length log.old }
 {
-    let at = circle.at;
-    let size = circle.size;
-    let x = at[0] as usize;
-    let next = at[1] as usize;
-    let last = at[size - 1] as usize;
+    let x = circle.at[0] as usize;
+    let next = circle.at[1] as usize;
+    let last = circle.at[circle.size - 1] as usize;
     let y = circle.beside;
-    let mut begun = state;
-    begun.logged = 0;
+    let begun = State { logged: 0, ..state };
     let aside = bring_aside(rows, circle, a, begun, log, tail);
     let ready = bring_next(rows, circle, b, aside, log, tail);
     let logged = ready.logged;
@@ -177,8 +169,7 @@ fn settle_place(
     ensures ringing_2 { Ringing circle (row goal.now) (i + 1) (row result.racks) }
     ensures log_len_unchanged { length log.new ≡ length log.old }
 {
-    let at = circle.at;
-    let p = at[i] as usize;
+    let p = circle.at[i] as usize;
     let a = goal[p];
     let b = state.racks[p];
     if a == b {
@@ -204,13 +195,11 @@ fn open_ring(
     ensures ringing { Ringing circle (row goal.now) 2 (row result.racks) }
     ensures log_len_unchanged { length log.new ≡ length log.old }
 {
-    let at = circle.at;
     let n = circle.positions;
-    let x = at[0] as usize;
-    let next = at[1] as usize;
-    let ring = breakdown::part(&at, 0, circle.size);
-    let mut begun = state;
-    begun.logged = 0;
+    let x = circle.at[0] as usize;
+    let next = circle.at[1] as usize;
+    let ring = breakdown::part(&circle.at, 0, circle.size);
+    let begun = State { logged: 0, ..state };
     let cleared = shunting::clear_within(rows, n, ring, x, begun, log, tail);
     shunting::clear_within(rows, n, sets::without(ring, x), next, cleared, log, tail)
 }
@@ -233,11 +222,8 @@ pub fn settle_ring(
 {
     let mut log = [0u16; moving::LOG];
     let mut state = open_ring(rows, circle, goal, state, &mut log, tail);
-    let size = circle.size;
-    let mut i: usize = 2;
-    while i < size {
+    for i in 2..circle.size {
         state = settle_place(rows, circle, i, goal, state, &mut log, tail);
-        i += 1;
     }
     state
 }
@@ -249,11 +235,8 @@ fn ring_from(order: &[u8; 64], size: usize, x: usize) -> [u8; 64]
 {
     let z = breakdown::place_of(order, 0, size, x);
     let mut circle = [0u8; 64];
-    let mut j: usize = 0;
-    while j < size {
-        circle[j] = order[(z + j) % size];
-        j += 1;
-    }
+    circle[..size].copy_from_slice(&order[..size]);
+    circle[..size].rotate_left(z);
     circle
 }
 
@@ -263,14 +246,12 @@ pub fn circle_of(breakdown: Breakdown, n: usize) -> Circle
     requires { (0 < breakdown.ring) × (breakdown.ring < 64) }
     ensures { result ≡ circle_of n breakdown }
 {
-    let order = breakdown.order;
-    let left = breakdown.left;
     let size = breakdown.ring;
-    let at = ring_from(&order, size, left[0] as usize);
+    let first = breakdown.left[0] as usize;
     Circle {
-        at,
+        at: ring_from(&breakdown.order, size, first),
         positions: n,
         size,
-        beside: order[size] as usize,
+        beside: breakdown.order[size] as usize,
     }
 }

@@ -5,6 +5,7 @@
 --     settled_room        where a position is not settled the row is not full
 --     settled_push        one position more, settled and in the row
 --     extended_none, extended_push    the row extended by none, and by one more
+--     fresh_front, extended_front    the first k of a list, as a list of their own: they can be put into the row, and are in it
 --     handle_same         a handle in a row stays one in a row that agrees with it
 --     building_ring       a base ring in the row
 --     building_full       the row has at most 64 positions
@@ -20,8 +21,9 @@ use mathlib.Core.Logic.{◌↔◌, ◌≢◌, ◌⊎◌, inl, inr, ⊎_elim, by_
 use native.Mathlib.Decide.{ℕ_discrete, dec_lt}
 use native.Mathlib.Nat.{add-zero}
 use native.Mathlib.Omega.{arith}
-use lib.ListN.{set, length, length-set}
+use lib.ListN.{set, length, length-set, take}
 use lib.Seq.{get_or-set_same, get_or-set_other}
+use Rattle.std.proofs.lemmas.List.{get_or-take, length-take-le}
 use Rattle.sets.specs.Sets.{Has}
 use Rattle.sets.proofs.SetLaws.{has_none}
 use Rattle.sets.proofs.CountLaws.{ones_push, ones_most, ones-all}
@@ -31,7 +33,7 @@ use Rattle.graph.specs.Nearest.{Nearest}
 use Rattle.breakdown.specs.Breakdown.{Among, Handle, Breakdown}
 use Rattle.breakdown.specs.Choice.{Beside, Leaves}
 use Rattle.graph.specs.Rows.{row}
-use Rattle.breakdown.specs.Building.{Settled, Extended, Building}
+use Rattle.breakdown.specs.Building.{Settled, Fresh, Extended, Building}
 
 pub settled_none : (o : List ℕ) (s : ℕ) → length o ≡ 64 → s ≡ 0 → Settled 0 o s
 settled_none o s long empty =
@@ -122,6 +124,29 @@ extended_push f i m o o' s s' small new with_it x =
           ∙ ap (row f) (sym e))
           (λ e. get_or-set_other o' (m + i) (m + j) (row f i) 0 (omega arith) ∙ x.new j (omega arith));
     }
+
+module _ (f : List ℕ) (k : ℕ) (within : k ≤ length f) where
+  long_front : length (take k f) ≡ k
+  long_front = length-take-le k f within
+
+  pub fresh_front : (s : ℕ) → Fresh f k s → Fresh (take k f) (length (take k f)) s
+  fresh_front s fresh =
+      let long = long_front in
+      record {
+        small = λ i l. subst (λ (x : ℕ). x < 64) (sym (get_or-take k f i 0 (omega arith))) (fresh.small i (omega arith));
+        new = λ i l h. fresh.new i (omega arith) (subst (Has s) (get_or-take k f i 0 (omega arith)) h);
+        distinct = λ i j l h e.
+            fresh.distinct i j l (omega arith)
+            (sym (get_or-take k f i 0 (omega arith)) ∙ e ∙ get_or-take k f j 0 (omega arith));
+      }
+
+  pub extended_front : (m : ℕ) (o o' : List ℕ) (s' : ℕ) → Extended (take k f) (length (take k f)) m o o' s' → Extended f k m o o' s'
+  extended_front m o o' s' x =
+      record {
+        settled = subst (λ (j : ℕ). Settled (m + j) o' s') long_front x.settled;
+        kept = x.kept;
+        new = λ i l. let long = long_front in x.new i (omega arith) ∙ get_or-take k f i 0 l;
+      }
 
 pub among_same : {at at' : ℕ → ℕ} {m p : ℕ} → ((i : ℕ) → i < m → at' i ≡ at i) → Among at m p → Among at' m p
 among_same same a = record { place = a.place; before = a.before; is = same a.place a.before ∙ a.is }

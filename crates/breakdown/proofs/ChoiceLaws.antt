@@ -1,5 +1,7 @@
 -- Laws of choosing the pair with the shortest way on.
 --
+--     better_none, better_first    where no other pair has a way, the one so far stays; the first is better than none
+--     chosen_same, chosen_better    from what is said of pairs to what is said of the chosen one, if there is one
 --     choice_none       nothing is chosen where no pair that is done is allowed
 --     choice_less       the choice stands where no allowed pair is new
 --     choice_stop       a choice as short as any can be stands, whatever pairs are done
@@ -10,6 +12,8 @@
 --     handle_none, handle_enter, handle_turn, handle_leave, handle_done, handle_skip, handle_stop
 --                       and at that of a handle; a position that is not settled is skipped, and one inner position with an end is as short
 --                       as any handle can be
+--     ring_entered, ring_no_way, ring_one_way, ring_left, ring_all, handle_entered, handle_no_way, handle_one_way, handle_left, handle_all,
+--     handle_skipped, handle_stopped    the same of the pair that the code has, if one is chosen
 --     rest_less         a set without one of its positions has fewer
 -- Assumes nothing.
 use Prim.Native.Nat.{ℕ, ◌+◌, ◌≤◌, ◌<◌}
@@ -20,6 +24,7 @@ use native.Mathlib.Decide.{ℕ_discrete, dec_lt}
 use native.Mathlib.Omega.{arith}
 use lib.Count.{ones}
 use lib.ListN.{get_or}
+use Rattle.std.proofs.Common.{Option, Some, None, MatchOption}
 use Rattle.sets.specs.Sets.{Has}
 use Rattle.sets.proofs.SetLaws.{has_none}
 use Rattle.sets.proofs.CountLaws.{ones_less}
@@ -28,12 +33,40 @@ use Rattle.graph.proofs.WalkLaws.{path_walk, walk_some, walk_alone}
 use Rattle.graph.specs.Connected.{Except, Below}
 use Rattle.graph.specs.Rows.{Edge, Rows}
 use Rattle.graph.specs.Levels.{Near, Within}
+use Rattle.graph.specs.Nearest.{NearestRoute}
+use Rattle.graph.specs.declared.Route.{Route}
 use Rattle.graph.proofs.NearestLaws.{nearest_found}
-use Rattle.breakdown.specs.Choice.{Beside, Leaves, Before, Better, Choice, RingChoice, HandleChoice, Size}
+use Rattle.breakdown.specs.Choice.{Beside, Leaves, Before, Better, Choice, RingChoice, HandleChoice, Size, BetterOf, Chosen, RingWay}
+use Rattle.breakdown.specs.declared.Pair.{Pair}
 use Rattle.breakdown.proofs.ChoiceFacts.{Upto}
 
 none : {x : ℕ} → x < 0 → ⊥
 none h = omega arith
+
+pub better_none : (f t k u w : ℕ) → Better f t k u w 0 f t k
+better_none f t k u w =
+    record { none = λ e. (e, refl); old = λ h. omega arith; now = λ h. absurd (none h); one = inl (refl, refl, refl) }
+
+better_first : (u w j : ℕ) → Better 0 0 0 u w j u w j
+better_first u w j =
+    record { none = λ e. (refl, e); old = λ h. absurd (none h); now = λ h. omega arith; one = inr (refl, refl, refl) }
+
+module _ {R S : ℕ → ℕ → ℕ → Type 0} where
+  pub chosen_same : ((x y k : ℕ) → R x y k → S x y k) → (o : Option Pair) → Chosen R o → Chosen S o
+  chosen_same f None r = f 0 0 0 r
+  chosen_same f (Some p) r = (r.0, f p.from p.to p.size r.1)
+
+  pub chosen_better : (o : Option Pair) (p q : Pair) → 0 < p.size → BetterOf o p q
+      → ((f t k x y z : ℕ) → Better f t k p.from p.to p.size x y z → R f t k → S x y z) → Chosen R o → Chosen S (Some q)
+  chosen_better None p q some is turn r =
+      subst (λ (v : Pair). (0 < v.size) × S v.from v.to v.size) (sym is)
+      (some, turn 0 0 0 p.from p.to p.size (better_first p.from p.to p.size) r)
+  chosen_better (Some o) p q some is turn r =
+      let b = is r.0 some in
+      let old = r.0 in (
+        by_cases (ℕ_discrete q.size 0) (λ e. let zero = (b.none e).0 in omega arith) (λ e. omega arith),
+        turn o.from o.to o.size q.from q.to q.size b r.1,
+      )
 
 module _ {n : ℕ} {E : ℕ → ℕ → Type 0} (C : ℕ → ℕ → Type 0) (T : ℕ → ℕ → ℕ → Type 0) where
   pub choice_none : (D : ℕ → ℕ → Type 0) (u w : ℕ) → ((x y : ℕ) → D x y → C x y → ⊥) → Choice n E C T D u w 0
@@ -168,6 +201,68 @@ module _ {n : ℕ} (g : List ℕ) where
     pub handle_done : Rows n g → (a u w k : ℕ) → n ≤ a → HandleChoice n g s (Before a) u w k → HandleChoice n g s (Edge g) u w k
     handle_done rows a u w k all =
         choice_less (Leaves (Edge g) s) (λ a b. Has s) (Before a) (Edge g) u w k (λ x y e c. let l = (rows.inside x y e).0 in omega arith)
+
+-- the same of the pair that the code has, if one is chosen
+module _ (n : ℕ) (g : List ℕ) where
+  pub ring_entered : (a : ℕ) (o : Option Pair) → Chosen (RingChoice n g (Before a)) o → Chosen (RingChoice n g (Upto a (get_or g a 0))) o
+  ring_entered a = chosen_same (ring-enter {n = n} g a)
+
+  module _ (a b rest rest' : ℕ) (o : Option Pair) (without : (p : ℕ) → Has rest' p ↔ (Has rest p × (p ≢ b))) (edge : Edge g a b) where
+    pub ring_no_way : RingWay n (Edge g) a b None → Chosen (RingChoice n g (Upto a rest)) o → Chosen (RingChoice n g (Upto a rest')) o
+    ring_no_way w =
+        chosen_same (λ f t k. ring_turn {n = n} g a b rest rest' f t k 0 f t k without edge (record { at = _; nearest = w })
+        (better_none f t k a b)) o
+
+    pub ring_one_way : (way : Route) (q : Pair) → RingWay n (Edge g) a b (Some way)
+        → BetterOf o (record { from = a; to = b; size = way.size }) q → Chosen (RingChoice n g (Upto a rest)) o
+        → Chosen (RingChoice n g (Upto a rest')) (Some q)
+    ring_one_way way q w is =
+        chosen_better o (record { from = a; to = b; size = way.size }) q w.0 is (λ f t k x y z.
+        ring_turn {n = n} g a b rest rest' f t k way.size x y z without edge (record { at = _; nearest = w.1 }))
+
+  pub ring_left : (a rest : ℕ) (o : Option Pair) → rest ≡ 0 → Chosen (RingChoice n g (Upto a rest)) o
+      → Chosen (RingChoice n g (Before (a + 1))) o
+  ring_left a rest o empty = chosen_same (λ x y k. ring_leave {n = n} g a rest x y k empty) o
+
+  pub ring_all : Rows n g → (a : ℕ) (o : Option Pair) → n ≤ a → Chosen (RingChoice n g (Before a)) o → Chosen (RingChoice n g (Edge g)) o
+  ring_all rows a o all = chosen_same (λ x y k. ring-done {n = n} g rows a x y k all) o
+
+  module _ (s : ℕ) where
+    pub handle_skipped : (a : ℕ) (o : Option Pair) → (Has s a → ⊥) → Chosen (HandleChoice n g s (Before a)) o
+        → Chosen (HandleChoice n g s (Before (a + 1))) o
+    handle_skipped a o new = chosen_same (λ x y k. handle_skip {n = n} g s a x y k new) o
+
+    pub handle_entered : (a rest : ℕ) (o : Option Pair) → ((p : ℕ) → Has rest p ↔ (Edge g a p × (Has s p → ⊥)))
+        → Chosen (HandleChoice n g s (Before a)) o → Chosen (HandleChoice n g s (Upto a rest)) o
+    handle_entered a rest o minus = chosen_same (λ x y k. handle_enter {n = n} g s a rest x y k minus) o
+
+    pub handle_stopped : (D D' : ℕ → ℕ → Type 0) (o : Option Pair) → MatchOption o ⊥ (λ p. p.size ≡ 2) → Chosen (HandleChoice n g s D) o
+        → Chosen (HandleChoice n g s D') o
+    handle_stopped D D' None two r = absurd two
+    handle_stopped D D' (Some p) two r = (r.0, handle_stop {n = n} g s D D' p.from p.to p.size two r.1)
+
+    module _ (a b rest rest' : ℕ) (o : Option Pair) (without : (p : ℕ) → Has rest' p ↔ (Has rest p × (p ≢ b)))
+        (leaves : Leaves (Edge g) s a b) where
+      pub handle_no_way : NearestRoute (Edge g) (Except (Below n) a) (Has s) b None → Chosen (HandleChoice n g s (Upto a rest)) o
+          → Chosen (HandleChoice n g s (Upto a rest')) o
+      handle_no_way w =
+          chosen_same (λ f t k. handle_turn {n = n} g s a b rest rest' f t k 0 f t k without leaves (record { at = _; nearest = w })
+          (better_none f t k a b)) o
+
+      pub handle_one_way : (way : Route) (q : Pair) → NearestRoute (Edge g) (Except (Below n) a) (Has s) b (Some way)
+          → BetterOf o (record { from = a; to = b; size = way.size }) q → Chosen (HandleChoice n g s (Upto a rest)) o
+          → Chosen (HandleChoice n g s (Upto a rest')) (Some q)
+      handle_one_way way q w is =
+          chosen_better o (record { from = a; to = b; size = way.size }) q w.0 is (λ f t k x y z.
+          handle_turn {n = n} g s a b rest rest' f t k way.size x y z without leaves (record { at = _; nearest = w.1 }))
+
+    pub handle_left : (a rest : ℕ) (o : Option Pair) → rest ≡ 0 → Chosen (HandleChoice n g s (Upto a rest)) o
+        → Chosen (HandleChoice n g s (Before (a + 1))) o
+    handle_left a rest o empty = chosen_same (λ x y k. handle_leave {n = n} g s a rest x y k empty) o
+
+    pub handle_all : Rows n g → (a : ℕ) (o : Option Pair) → n ≤ a → Chosen (HandleChoice n g s (Before a)) o
+        → Chosen (HandleChoice n g s (Edge g)) o
+    handle_all rows a o all = chosen_same (λ x y k. handle_done {n = n} g s rows a x y k all) o
 
 pub rest_less : (b rest rest' : ℕ) → Has rest b → ((p : ℕ) → Has rest' p ↔ (Has rest p × (p ≢ b))) → ones rest' < ones rest
 rest_less b rest rest' there without = ones_less b rest' rest (λ p h. ((without p).0 h).0) there (λ h. ((without b).0 h).1 refl)

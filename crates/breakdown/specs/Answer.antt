@@ -5,9 +5,10 @@
 --     Answer n g r c o start left right     a breakdown exactly where the floor is bi-connected and no ring; else none, a ring of 0.
 --                                           Document 01, "Breakdown and planning": "Such a breakdown is found for every floor that passes
 --                                           20 to 22."
---     BreaksDown, HandledOf, AnswerOf       a breakdown, and these two, of the parts as the code has them
+--     BreaksDown, HandledOf, AnswerOf       a breakdown, and these two, of the parts as the code has them; where there are none, of a ring
+--                                           of 0
 -- Assumes nothing.
-use Rattle.std.specs.Prelude.{ℕ, ◌<◌, ◌≡◌, List, ◌↔◌}
+use Rattle.std.specs.Prelude.{ℕ, ◌<◌, ◌≡◌, List, [], Option, Some, None, ◌↔◌}
 use Rattle.graph.specs.Connected.{BiConnected, Ring}
 use Rattle.graph.specs.Rows.{row, Edge}
 use Rattle.graph.specs.EdgeCount.{edge_count}
@@ -25,8 +26,10 @@ pub record Answer (n : ℕ) (g : List ℕ) (r c : ℕ) (o start left right : Lis
   pub found : 0 < r → Breakdown n (Edge g) r c (row o) (row start) (row left) (row right)
   pub exactly : (0 < r) ↔ (BiConnected n (Edge g) × (Ring n (Edge g) (edge_count g n) → ⊥))
 
-abbrev pub HandledOf : ℕ → (ℕ → ℕ → Type 0) → Parts → Type 0
-HandledOf n E b = Handled n E b.ring b.handles b.order b.start b.left b.right
+abbrev pub HandledOf : ℕ → (ℕ → ℕ → Type 0) → Option Parts → Type 0
+HandledOf n E None = Handled n E 0 0 [] [] [] []
+HandledOf n E (Some b) = (0 < b.ring) × Handled n E b.ring b.handles b.order b.start b.left b.right
 
-abbrev pub AnswerOf : ℕ → List ℕ → Parts → Type 0
-AnswerOf n g b = Answer n g b.ring b.handles b.order b.start b.left b.right
+abbrev pub AnswerOf : ℕ → List ℕ → Option Parts → Type 0
+AnswerOf n g None = Answer n g 0 0 [] [] [] []
+AnswerOf n g (Some b) = (0 < b.ring) × Answer n g b.ring b.handles b.order b.start b.left b.right

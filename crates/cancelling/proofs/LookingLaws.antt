@@ -12,19 +12,17 @@
 --     move_is, listed_is         a move as it is read
 --     rack_fits                  a rack that is read fits its field
 --     room_fewer, bytes_fewer, few_moves    room for some moves is room for fewer, and they are at most as many as the bits
---     touching_not, touching_first, touching_second    whether a kept move touches a position of the set
---     undone_first, undone_other, undone_is            whether a move goes from b to a
+--     touching_is                whether a kept move touches a position of the set
 -- Assumes nothing.
 use Prim.Native.Nat.{ℕ, ◌+◌, ◌-◌, ◌*◌, ◌/◌, ◌%◌, ◌≤◌, ◌<◌}
 use mathlib.Core.Bool.{Bool, true, false, not}
 use mathlib.Core.List.{List}
 use mathlib.Core.Logic.{◌↔◌, ◌⊎◌, inl, inr, ⊎_elim, ◌≢◌}
-use mathlib.Core.Path.{◌≡◌, refl, sym, ap, ap₂, ◌∙◌}
+use mathlib.Core.Path.{◌≡◌, refl, sym, ap, ap₂, ◌∙◌, subst}
 use native.Mathlib.Nat.{div-add-mod'}
 use native.Mathlib.Omega.{arith}
 use lib.Bits.{bit_and}
-use borrow.Author.Tests.{not-true, not-false, eqb-true, eq-eqb}
-use lib.Dec.{eqb, ltb, ltb→lt, lt→ltb}
+use lib.Dec.{ltb, ltb→lt, lt→ltb}
 use lib.ListN.{length, get_or, set}
 use lib.Seq.{get_or-set_same, get_or-set_other}
 use Rattle.field.specs.Bits.{PairAt}
@@ -70,48 +68,18 @@ unfolding move_size
 few_moves false k n h = omega arith
 few_moves true k n h = omega arith
 
-module _ (f : ℕ → ℕ × ℕ × ℕ) (marks : List ℕ) (e i : ℕ) where
-  pub touching_not : (k : Bool) → (k ≡ true) ↔ Kept marks i → not k ≡ true → (false ≡ true) ↔ Touching f marks e i
-  touching_not k is n = (λ z. never false refl z, λ t. never k (not-true k n) (is.1 t.kept))
-
-  module _ (k : Bool) (is : (k ≡ true) ↔ Kept marks i) (y : not k ≡ false) (a b : ℕ) (m : move_of (f i) ≡ (a, b)) where
-    pub touching_first : Has e a → (true ≡ true) ↔ Touching f marks e i
-    touching_first h = (
-      λ _. record { kept = is.0 (not-false k y); place = a; touches = inl (ap (λ (x : ℕ × ℕ). x.0) m); has = h },
-      λ _. refl,
-    )
-
-    pub touching_second : (q r : Bool) → (q ≡ true) ↔ Has e a → q ≡ false → (r ≡ true) ↔ Has e b → (r ≡ true) ↔ Touching f marks e i
-    touching_second q r of_a n of_b = (
-      λ z. record { kept = is.0 (not-false k y); place = b; touches = inr (ap (λ (x : ℕ × ℕ). x.1) m); has = of_b.0 z },
-      λ t.
+pub touching_is : (f : ℕ → ℕ × ℕ × ℕ) (marks : List ℕ) (e i a b : ℕ) → move_of (f i) ≡ (a, b)
+    → Touching f marks e i ↔ (Kept marks i × (Has e a ⊎ Has e b))
+touching_is f marks e i a b m =
+    let of_a : (move_of (f i)).0 ≡ a = ap (λ (x : ℕ × ℕ). x.0) m in
+    let of_b : (move_of (f i)).1 ≡ b = ap (λ (x : ℕ × ℕ). x.1) m in (
+      λ t. (t.kept, ⊎_elim (λ u. inl (subst (Has e) (sym u ∙ of_a) t.has)) (λ u. inr (subst (Has e) (sym u ∙ of_b) t.has)) t.touches),
+      λ k.
           ⊎_elim
-          (λ (u : (move_of (f i)).0 ≡ t.place).
-          let same : t.place ≡ a = sym u ∙ ap (λ (x : ℕ × ℕ). x.0) m in never q n (of_a.1 (rw same at t.has)))
-          (λ (u : (move_of (f i)).1 ≡ t.place).
-          let same : t.place ≡ b = sym u ∙ ap (λ (x : ℕ × ℕ). x.1) m in of_b.1 (rw same at t.has))
-          t.touches,
+          (λ h. record { kept = k.0; place = a; touches = inl of_a; has = h })
+          (λ h. record { kept = k.0; place = b; touches = inr of_b; has = h })
+          k.1,
     )
-
-module _ (f : ℕ → ℕ × ℕ × ℕ) (at a b : ℕ) where
-  -- the move before the index `at` goes from b to a
-  abbrev pub Back : Type 0
-  Back = (0 < at) × (move_of (f (at - 1)) ≡ (b, a))
-
-  pub undone_first : at ≡ 0 → (false ≡ true) ↔ Back
-  undone_first z = (λ q. never false refl q, λ t. absurd (omega (arith, z, t.0)))
-
-  module _ (some : at ≢ 0) (x y : ℕ) (p : move_of (f (at - 1)) ≡ (x, y)) where
-    pub undone_other : x ≢ b → (false ≡ true) ↔ Back
-    undone_other n =
-        (λ z. never false refl z, λ t. absurd (n (ap (λ (m : ℕ × ℕ). m.0) (sym p ∙ t.1))))
-
-    pub undone_is : x ≡ b → (eqb y a ≡ true) ↔ Back
-    undone_is e =
-        let pair : ℕ → ℕ → ℕ × ℕ = λ x y. (x, y) in (
-          λ z. (omega arith, p ∙ ap₂ pair e (eqb-true y a z)),
-          λ t. eq-eqb y a (ap (λ (m : ℕ × ℕ). m.1) (sym p ∙ t.1)),
-        )
 
 -- marks
 

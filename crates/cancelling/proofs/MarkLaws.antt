@@ -12,7 +12,7 @@
 --     room_for           tables of zeros have room
 --     room_less          tables with room for some moves have room for fewer
 --     both               a table with two entries set
---     ends_are, from_clear, from_low    the positions of a move, and where the search for them begins
+--     ends_are, from_low    the positions of a move, and where the search for them begins
 --     going_looked, going_at    the sets of blocks and groups may be others that cover what is kept; another name of the index
 --     going_off          a move that cancels
 --     going_on           a move that is kept
@@ -36,7 +36,7 @@ use Rattle.tables.proofs.TableLaws.{zeros_at}
 use Rattle.cancelling.proofs.LookingLaws.{below?}
 use Rattle.cancelling.specs.Stack.{move_of, Apart, Partner, top, under, Taken, off_top, from_under, cancelled, kept, begun}
 use Rattle.cancelling.specs.Stack.{next}
-use Rattle.cancelling.specs.Looking.{Kept, Touches, stack_of, Covers, ClearFrom, Found, Looked, NoneKept, Room}
+use Rattle.cancelling.specs.Looking.{Kept, Touches, stack_of, Covers, Found, Looked, NoneKept, Room}
 use Rattle.cancelling.specs.Looking.{Marks, Unmarks, TakesIn, Since, Bounded, Ends, link_of, Going}
 
 -- stacks
@@ -309,16 +309,6 @@ module _ (a b e : ℕ) (ends : Ends a b e) where
     kept-before : (h : ℕ) → Kept marks h → h < j
     kept-before h k = let n : (j ≤ h → ⊥) = λ l. g.later h l k in omega arith
 
-    pub from_clear : (r : ℕ) → r ≡ max (get_or bounds a 0) (get_or bounds b 0) → ClearFrom f marks e r
-    from_clear r is =
-        record {
-          none =
-              λ h p l k t has.
-              let below = kept-before h k in
-              ⊎_elim (λ (q : p ≡ a). (g.since a).none h (omega (arith, is)) below k (rw (← q) t))
-              (λ (q : p ≡ b). (g.since b).none h (omega (arith, is)) below k (rw (← q) t)) ((ends.has p).0 has);
-        }
-
     pub from_low : (r : ℕ) → r ≡ max (get_or bounds a 0) (get_or bounds b 0) → r ≤ j
     from_low r is = omega (arith, is, (g.since a).low, (g.since b).low)
 
@@ -341,12 +331,12 @@ module _ (a b e : ℕ) (ends : Ends a b e) where
               (λ (n : Has e p → ⊥). rw (both_other small bounds g.places.0 x y p n) (others p n)) (in? p);
         }
 
-    module _ (some : 0 < at) (turned : move_of (f (at - 1)) ≡ (b, a)) (marks' : List ℕ) (less : Unmarks marks (at - 1) marks') where
-      gone : Kept marks (at - 1)
-      gone = (found.touching some).kept
+    module _ (off : ℕ) (there : at ≡ off + 1) (turned : move_of (f off) ≡ (b, a)) (marks' : List ℕ) (less : Unmarks marks off marks') where
+      gone : Kept marks off
+      gone = let same : at - 1 ≡ off = omega arith in rw same at (found.touching (omega arith)).kept
 
       -- below the move that is taken off, its own links count
-      passed : (p i : ℕ) → Has e p → Since f marks p i (at - 1) → Since f marks' p i (j + 1)
+      passed : (p i : ℕ) → Has e p → Since f marks p i off → Since f marks' p i (j + 1)
       passed p i has known =
           record {
             low = omega (arith, known.low, found.below);
@@ -354,24 +344,24 @@ module _ (a b e : ℕ) (ends : Ends a b e) where
                 λ h u v k t.
                 let w = (less h).0 k in
                 ⊎_elim (λ (q : at ≤ h). found.clear.none h p q w.0 t has)
-                (λ (q : h < at). known.none h u (omega (arith, w.1)) w.0 t) (below? at h);
+                (λ (q : h < at). known.none h u (omega (arith, w.1, there)) w.0 t) (below? at h);
           }
 
-      first : Since f marks' a (link_of enters j (at - 1)) (j + 1)
-      first = passed a _ ((ends.has a).1 (inl refl)) (rw turned at (g.entered (at - 1) gone))
+      first : Since f marks' a (link_of enters j off) (j + 1)
+      first = passed a _ ((ends.has a).1 (inl refl)) (rw turned at (g.entered off gone))
 
-      second : Since f marks' b (link_of lefts j (at - 1)) (j + 1)
-      second = passed b _ ((ends.has b).1 (inr refl)) (rw turned at (g.left (at - 1) gone))
+      second : Since f marks' b (link_of lefts j off) (j + 1)
+      second = passed b _ ((ends.has b).1 (inr refl)) (rw turned at (g.left off gone))
 
       abbrev bounds' : List ℕ
-      bounds' = both small bounds g.places.0 (link_of enters j (at - 1)) (link_of lefts j (at - 1))
+      bounds' = both small bounds g.places.0 (link_of enters j off) (link_of lefts j off)
 
       pub going_off : Going f (j + 1) marks' blocks groups bounds' lefts enters
       going_off =
-          let l : at - 1 < j = omega (arith, found.below) in
+          let l : off < j = omega (arith, found.below) in
           let none_here : (Kept marks' j → ⊥) = λ k. g.bounded.later j (le_refl j) ((less j).0 k).0 in
           let taken : Taken (stack_of f marks j) (move_of (f j)) (stack_of f marks' j) =
-          rw moves (taken_off f marks marks' (a, b) (at - 1) gone turned less j l (λ h u v k. above h (omega arith) k)) in
+          rw moves (taken_off f marks marks' (a, b) off gone turned less j l (λ h u v k. above h (omega arith) k)) in
           let fewer : (h : ℕ) → Kept marks' h → Kept marks h = λ h k. ((less h).0 k).0 in
           let before : (h : ℕ) → Kept marks' h → h < j = λ h k. kept-before f j marks bounds g.bounded h (fewer h k) in
           record {
@@ -390,7 +380,7 @@ module _ (a b e : ℕ) (ends : Ends a b e) where
             passes = rw (add-one j, stack_skipped f marks' j none_here) (next g.passes (cancelled taken));
           }
 
-    module _ (not : (0 < at) × (move_of (f (at - 1)) ≡ (b, a)) → ⊥) (marks' blocks' groups' : List ℕ) (more : Marks marks j marks') where
+    module _ (not : (h : ℕ) → at ≡ h + 1 → move_of (f h) ≡ (b, a) → ⊥) (marks' blocks' groups' : List ℕ) (more : Marks marks j marks') where
       -- of the marks only that of the next move is new
       old : (h : ℕ) → Kept marks' h → h ≢ j → Kept marks h
       old h k n = ⊎_elim (λ x. x) (λ q. absurd (n q)) ((more h).0 k)
@@ -401,7 +391,7 @@ module _ (a b e : ℕ) (ends : Ends a b e) where
           (no_partner f marks (a, b) at j (omega (arith, found.below)) (λ h u v k. above h u k)
           (λ some.
           let t = found.touching some in
-          (t.kept, (λ d. not_apart (move_of (f (at - 1))) t.place t.touches t.has d), (λ q. not (some, q)))))
+          (t.kept, (λ d. not_apart (move_of (f (at - 1))) t.place t.touches t.has d), not (at - 1) (omega arith))))
 
       before : (h : ℕ) → h < j → Kept marks' h → Kept marks h
       before h l k = old h k (λ q. omega arith)

@@ -6,6 +6,7 @@
 --
 --     listed_of named s i     the move of index i as the plan's tail s lists it, in the edition whose moves name their racks
 --                             or in the other
+--     listing m              the same, of the moves m as `field::Moves` holds them
 --     Kept marks i           the move of index i is kept
 --     Touches m p            the move m leaves or enters the position p
 --     stack_of f marks j      the kept ones of the first j moves, the latest on top
@@ -25,7 +26,8 @@
 --     Bounded f j marks bounds     after j moves: none to come is kept, and no kept move from a position's bound on touches it
 --     Ends a b e             the set e has the positions a and b
 --     Within j a b r c, Met f marks j a b r c    the move of index j goes from a to b; r is one more than the index of the latest kept
---                            move that touches one of them, or 0; and c says whether the two cancel. Within: these are in range
+--                            move that touches one of them, or 0; and c is that kept move, if the two cancel. Within: these are in range
+--     Undone f r a b c        c is the move before the index r, if there is one and it goes from b to a
 --     link_of links j h       after j moves, the link of the move of index h; of one before the latest 512 it is h itself
 --     Going f j marks blocks groups bounds lefts enters    after j moves: the bounds, and the links for the position that a move leaves
 --                            and for the one that it enters
@@ -36,11 +38,12 @@
 --     Shortened named s k B n b    the n moves that the pass over k moves keeps, each with the rack that it names, written at the front of
 --                            B, make b of it
 -- Assumes nothing.
-use Rattle.std.specs.Prelude.{ℕ, zero, suc, ◌+◌, ◌-◌, ◌*◌, ◌/◌, ◌%◌, ◌≤◌, ◌<◌, Bool, true, cond, List, [], ◌∷◌, ◌↔◌}
+use Rattle.std.specs.Prelude.{ℕ, zero, suc, ◌+◌, ◌-◌, ◌*◌, ◌/◌, ◌%◌, ◌≤◌, ◌<◌, Bool, cond, List, [], ◌∷◌, ◌↔◌, Option, Some, None}
 use Rattle.std.specs.Prelude.{◌⊎◌, ◌≢◌, ◌≡◌, ltb, eqb, length, get_or}
 use Rattle.field.specs.Bits.{field}
 use Rattle.field.specs.Listed.{move_size, rack_field, all_units}
 use Rattle.field.specs.Packing.{pack_positions}
+use Rattle.field.specs.declared.Moves.{Moves}
 use Rattle.field.specs.Writing.{written}
 use Rattle.sets.specs.Sets.{bit, Has}
 use Rattle.cancelling.specs.Stack.{move_of, Passes, laid}
@@ -49,6 +52,9 @@ unfoldable pub listed_of : Bool → List ℕ → ℕ → ℕ × ℕ × ℕ
 listed_of named s i =
     let at = 6 * (move_size named * i) in
     (field s at 6, field s (at + 6) 6, rack_field named s (at + 12))
+
+abbrev pub listing : Moves → ℕ → ℕ × ℕ × ℕ
+listing m = listed_of m.named m.tail.now
 
 abbrev pub Kept : List ℕ → ℕ → Type 0
 Kept marks i = Has (get_or marks (i / 64) 0) (i % 64)
@@ -124,18 +130,23 @@ pub record Bounded (f : ℕ → ℕ × ℕ × ℕ) (j : ℕ) (marks bounds : Lis
 pub record Ends (a b e : ℕ) : Type 0 where
   pub has : (p : ℕ) → Has e p ↔ ((p ≡ a) ⊎ (p ≡ b))
 
-pub record Within (j a b r : ℕ) (cancels : Bool) : Type 0 where
+pub record Within (j a b r : ℕ) (cancels : Option ℕ) : Type 0 where
   pub first_below : a < 64
   pub second_below : b < 64
   pub before : r ≤ j
-  pub some : cancels ≡ true → 0 < r
+  pub some : (h : ℕ) → cancels ≡ Some h → h < j
 
-pub record Met (f : ℕ → ℕ × ℕ × ℕ) (marks : List ℕ) (j a b r : ℕ) (cancels : Bool) : Type 0 where
+-- the move before the index r, where it goes from b to a
+abbrev pub Undone : (ℕ → ℕ × ℕ × ℕ) → ℕ → ℕ → ℕ → Option ℕ → Type 0
+Undone f r a b (Some h) = (r ≡ h + 1) × (move_of (f h) ≡ (b, a))
+Undone f r a b None = (h : ℕ) → r ≡ h + 1 → move_of (f h) ≡ (b, a) → ⊥
+
+pub record Met (f : ℕ → ℕ × ℕ × ℕ) (marks : List ℕ) (j a b r : ℕ) (cancels : Option ℕ) : Type 0 where
   pub is : move_of (f j) ≡ (a, b)
   pub ends : ℕ
   pub both : Ends a b ends
   pub found : Found f marks ends j r
-  pub undone : (cancels ≡ true) ↔ ((0 < r) × (move_of (f (r - 1)) ≡ (b, a)))
+  pub undone : Undone f r a b cancels
 
 unfoldable pub link_of : List ℕ → ℕ → ℕ → ℕ
 link_of links j h = cond (ltb 512 (j - h)) h (get_or links (h % 512) 0)

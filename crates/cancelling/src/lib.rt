@@ -4,13 +4,14 @@
 // entry point.
 #![tactic(auto)]
 
-ghost use Rattle.std.specs.Prelude.{◌≡◌, true, ◌↔◌, ℕ, ◌+◌, ◌-◌, ◌*◌, ◌/◌, ◌%◌, ◌^◌, ◌≤◌, ◌<◌, max, min, length, get_or, set};
-ghost use Rattle.field.specs.Listed.{move_size};
+ghost use Rattle.std.specs.Prelude.{◌≡◌, true, ◌↔◌, ℕ, ◌+◌, ◌*◌, ◌/◌, ◌%◌, ◌^◌, ◌≤◌, ◌<◌, min, length, get_or, set};
 ghost use Rattle.sets.specs.Sets.{Has};
-ghost use Rattle.cancelling.specs.Stack.{move_of, Passes};
-ghost use Rattle.cancelling.specs.Looking.{listed_of, stack_of, ClearFrom, Touching, GoesBack, Forgets, Found, NoneKept};
+ghost use Rattle.cancelling.specs.Stack.{Passes};
+ghost use Rattle.cancelling.specs.Looking.{listing, stack_of, ClearFrom, Touching, GoesBack, Forgets, Found, NoneKept};
 ghost use Rattle.cancelling.specs.Looking.{Room, Looked, Marks, Unmarks, TakesIn, link_of};
-ghost use Rattle.cancelling.specs.Looking.{Bounded, Within, Met, Going};
+ghost use Rattle.cancelling.specs.Looking.{Bounded, Undone, Within, Met, Going};
+
+use field::Moves;
 
 // Have two sets no position in common?
 fn disjoint(s: u64, t: u64) -> bool
@@ -20,18 +21,15 @@ fn disjoint(s: u64, t: u64) -> bool
 }
 
 // Is the move of index i kept, and does it touch a position of `ends`?
-fn touching(tail: &[u8], named: bool, marks: &[u64], i: usize, ends: u64) -> bool
-    requires { (6 * (move_size named * (i + 1)) ≤ 8 * length tail.now) × (i < 64 * length marks.now) }
-    ensures { (result ≡ true) ↔ Touching (listed_of named tail.now) marks.now ends i }
+fn touching(moves: &Moves, marks: &[u64], i: usize, ends: u64) -> bool
+    requires { (i < moves.now.count) × (i < 64 * length marks.now) }
+    ensures { (result ≡ true) ↔ Touching (listing moves.now) marks.now ends i }
 {
     if !sets::has(marks[i / 64], i % 64) {
         return false;
     }
-    let step = field::move_at(tail, named, i);
-    if sets::has(ends, step.first) {
-        return true;
-    }
-    sets::has(ends, step.second)
+    let step = moves.at(i);
+    sets::has(ends, step.first) || sets::has(ends, step.second)
 }
 
 // From an index from which on no kept move touches a position of `ends`, down to a lower one of which the same is known, or to itself.
@@ -66,24 +64,24 @@ fn forget(list: &mut [u64], size: usize, at: usize, ends: u64)
 }
 
 // The latest kept move that touches a position of `ends`, below the index `from`, where the search begins: its index plus 1, or 0.
+// Kept as a number, not an Option: it is also a bound, and the lower of two bounds is their minimum.
 fn look_back(
-    tail: &[u8],
-    named: bool,
+    moves: &Moves,
     marks: &[u64],
     blocks: &mut [u64],
     groups: &mut [u64],
     from: usize,
     ends: u64,
 ) -> usize
-    requires from_bound { (6 * (move_size named * from) ≤ 8 * length tail.now) × Room from marks.now blocks.old groups.old }
-    requires looked { Looked (listed_of named tail.now) marks.now blocks.old groups.old
-        × ClearFrom (listed_of named tail.now) marks.now ends from }
-    ensures found { Found (listed_of named tail.now) marks.now ends from result }
-    ensures looked_2 { Looked (listed_of named tail.now) marks.now blocks.new groups.new }
+    requires from_bound { (from ≤ moves.now.count) × Room from marks.now blocks.old groups.old }
+    requires looked { Looked (listing moves.now) marks.now blocks.old groups.old
+        × ClearFrom (listing moves.now) marks.now ends from }
+    ensures found { Found (listing moves.now) marks.now ends from result }
+    ensures looked_2 { Looked (listing moves.now) marks.now blocks.new groups.new }
 {
     let mut at = from;
     while at > 0 {
-        if touching(tail, named, marks, at - 1, ends) {
+        if touching(moves, marks, at - 1, ends) {
             return at;
         }
         at = back(marks, blocks, groups, at - 1, ends);
@@ -93,39 +91,19 @@ fn look_back(
     0
 }
 
-// The greater of two indices.
-fn later(x: usize, y: usize) -> usize
-    ensures { result ≡ max x y }
-{
-    if x < y {
-        return y;
-    }
-    x
-}
-
-// The lower of two indices.
-pub fn sooner(x: usize, y: usize) -> usize
-    ensures { result ≡ min x y }
-{
-    if y < x {
-        return y;
-    }
-    x
-}
-
-// Is there a move before the index `at`, and does it go from b to a?
-fn undone(tail: &[u8], named: bool, at: usize, a: usize, b: usize) -> bool
-    requires { 6 * (move_size named * at) ≤ 8 * length tail.now }
-    ensures { (result ≡ true) ↔ ((0 < at) × (move_of (listed_of named tail.now (at - 1)) ≡ (b, a))) }
+// The move before the index `at`, if there is one and it goes from b to a.
+fn undone(moves: &Moves, at: usize, a: usize, b: usize) -> Option<usize>
+    requires { at ≤ moves.now.count }
+    ensures { Undone (listing moves.now) at a b result }
 {
     if at == 0 {
-        return false;
+        return None;
     }
-    let step = field::move_at(tail, named, at - 1);
-    if step.first != b {
-        return false;
+    let step = moves.at(at - 1);
+    if step.first == b && step.second == a {
+        return Some(at - 1);
     }
-    step.second == a
+    None
 }
 
 // Marks the move of index i as kept.
@@ -181,65 +159,63 @@ fn set_two(list: &mut [usize; 64], a: usize, b: usize, x: usize, y: usize)
 }
 
 // The move that the pass has come to: its index, the positions that it leaves and enters, one more than the index of the latest kept move
-// that touches one of them, or 0, and whether the two cancel.
+// that touches one of them, or 0, and that kept move, if the two cancel.
 #[derive(Clone, Copy)]
 struct Next {
     index: usize,
     first: usize,
     second: usize,
     found: usize,
-    cancels: bool,
+    cancels: Option<usize>,
 }
 
 // Reads the move of index j and looks for the latest kept move that touches one of its positions.
 fn meet(
-    tail: &[u8],
-    named: bool,
+    moves: &Moves,
     j: usize,
     marks: &[u64],
     blocks: &mut [u64],
     groups: &mut [u64],
     bounds: &[usize; 64],
 ) -> Next
-    requires j_bound { (6 * (move_size named * (j + 1)) ≤ 8 * length tail.now) × Room (j + 1) marks.now blocks.old groups.old }
-    requires looked { Looked (listed_of named tail.now) marks.now blocks.old groups.old
-        × Bounded (listed_of named tail.now) j marks.now bounds.now }
+    requires j_bound { (j < moves.now.count) × Room (j + 1) marks.now blocks.old groups.old }
+    requires looked { Looked (listing moves.now) marks.now blocks.old groups.old
+        × Bounded (listing moves.now) j marks.now bounds.now }
     ensures index_value { (result.index ≡ j) × Within result.index result.first result.second result.found result.cancels }
-    ensures met { Met (listed_of named tail.now) marks.now result.index result.first result.second result.found
+    ensures met { Met (listing moves.now) marks.now result.index result.first result.second result.found
         result.cancels }
-    ensures looked_2 { Looked (listed_of named tail.now) marks.now blocks.new groups.new }
+    ensures looked_2 { Looked (listing moves.now) marks.now blocks.new groups.new }
 {
-    let step = field::move_at(tail, named, j);
+    let step = moves.at(j);
     let a = step.first;
     let b = step.second;
     let ends = sets::with(sets::only(a), b);
-    let from = later(bounds[a], bounds[b]);
-    let at = look_back(tail, named, marks, blocks, groups, from, ends);
+    let from = bounds[a].max(bounds[b]);
+    let at = look_back(moves, marks, blocks, groups, from, ends);
     Next {
         index: j,
         first: a,
         second: b,
         found: at,
-        cancels: undone(tail, named, at, a, b),
+        cancels: undone(moves, at, a, b),
     }
 }
 
-// Takes the kept move off that the next one cancels with: its links are the bounds of the two positions again.
+// Takes the kept move off that the next one cancels with, of index `gone`: its links are the bounds of the two positions again.
 fn take_off(
     next: Next,
+    gone: usize,
     marks: &mut [u64],
     bounds: &mut [usize; 64],
     lefts: &[usize; 512],
     enters: &[usize; 512],
 )
-    requires { Within next.index next.first next.second next.found next.cancels × (next.cancels ≡ true)
+    requires { Within next.index next.first next.second next.found next.cancels × (gone < next.index)
         × (next.index ≤ 64 * length marks.old) }
-    ensures unmarks { Unmarks marks.old (next.found - 1) marks.new }
+    ensures unmarks { Unmarks marks.old gone marks.new }
     ensures bounds_after { bounds.new ≡
-        set (set bounds.old next.first (link_of enters.now next.index (next.found - 1))) next.second
-        (link_of lefts.now next.index (next.found - 1)) }
+        set (set bounds.old next.first (link_of enters.now next.index gone)) next.second (link_of lefts.now next.index gone) }
 {
-    let gone = next.found - 1;
     clear_mark(marks, gone);
     set_two(
         bounds,
@@ -280,8 +256,8 @@ fn put_links(
 {
     let a = next.first;
     let b = next.second;
-    set_link(lefts, next.index, sooner(bounds[a], next.found));
-    set_link(enters, next.index, sooner(bounds[b], next.found));
+    set_link(lefts, next.index, bounds[a].min(next.found));
+    set_link(enters, next.index, bounds[b].min(next.found));
     set_two(bounds, a, b, next.index + 1, next.index + 1);
 }
 
@@ -304,33 +280,26 @@ fn take_move(
         → Going f (next.index + 1) marks.new blocks.new groups.new bounds.new
         lefts.new enters.new }
 {
-    if next.cancels {
-        take_off(next, marks, bounds, lefts, enters);
-        return;
+    match next.cancels {
+        Some(gone) => take_off(next, gone, marks, bounds, lefts, enters),
+        None => {
+            put_on(next, marks, blocks, groups);
+            put_links(next, bounds, lefts, enters);
+        }
     }
-    put_on(next, marks, blocks, groups);
-    put_links(next, bounds, lefts, enters);
 }
 
-// Marks the moves that are kept of the k moves of a plan's tail.
-pub fn mark_kept(
-    tail: &[u8],
-    named: bool,
-    k: usize,
-    marks: &mut [u64],
-    blocks: &mut [u64],
-    groups: &mut [u64],
-)
-    requires k_bound { (k < 2 ^ 22) × (6 * (move_size named * k) ≤ 8 * length tail.now) }
-    requires room { Room k marks.old blocks.old groups.old × NoneKept marks.old }
-    ensures { Passes (listed_of named tail.now) k (stack_of (listed_of named tail.now) marks.new k) }
+// Marks the moves that are kept of a plan's moves.
+pub fn mark_kept(moves: &Moves, marks: &mut [u64], blocks: &mut [u64], groups: &mut [u64])
+    requires room { Room moves.now.count marks.old blocks.old groups.old × NoneKept marks.old }
+    ensures { Passes (listing moves.now) moves.now.count
+        (stack_of (listing moves.now) marks.new moves.now.count) }
 {
     let mut bounds = [0usize; 64];
     let mut lefts = [0usize; 512];
     let mut enters = [0usize; 512];
-    let mut j = 0;
-    while j < k {
-        let next = meet(tail, named, j, marks, blocks, groups, &bounds);
+    for j in 0..moves.count {
+        let next = meet(moves, j, marks, blocks, groups, &bounds);
         take_move(
             next,
             marks,
@@ -340,6 +309,5 @@ pub fn mark_kept(
             &mut lefts,
             &mut enters,
         );
-        j += 1;
     }
 }

@@ -15,8 +15,7 @@
 use Prim.Native.Nat.{ℕ}
 use mathlib.Core.Path.{◌≡◌, refl}
 use mathlib.Core.List.{List, [], ◌∷◌}
-use native.Mathlib.Decide.{ℕ_discrete, dec_lt}
-use Rattle.answers.specs.Answer.{Answer, accepted, refused}
+use Rattle.answers.specs.Answer.{accepted, refused}
 use Rattle.field.specs.Bits.{position_bits, padded, bytes, to_bytes}
 use Rattle.field.specs.Listed.{units, all_units}
 use Rattle.field.specs.Writing.{written}

@@ -10,7 +10,7 @@
 -- Assumes nothing.
 use Prim.Native.Nat.{ℕ, ◌+◌, ◌-◌, ◌*◌, ◌/◌, ◌^◌, ◌≤◌, ◌<◌}
 use mathlib.Core.Path.{◌≡◌, refl, sym, ap, subst, ◌∙◌}
-use mathlib.Core.Bool.{Bool, true, false, not, cond}
+use mathlib.Core.Bool.{true, false}
 use mathlib.Core.List.{List, [], ◌∷◌, ◌++◌}
 use mathlib.Core.Logic.{◌↔◌}
 use native.Mathlib.Omega.{arith}
@@ -18,8 +18,10 @@ use borrow.Author.Tests.{lt-ltb, le-ltb}
 use lib.Dec.{ltb}
 use lib.ListN.{length, take, drop, get_or, length-append, length-drop}
 use lib.Seq.{length-take-le}
-use Rattle.answers.specs.Answer.{Answer, accepted, refused, refuse, pass_up, holds}
-use Rattle.answers.proofs.AnswerLaws.{pass_up_accepted, holds-yes, holds_no}
+use Rattle.std.specs.Prelude.{Result, IsErrAnd}
+use Rattle.answers.specs.Answer.{Answer, accepted, refused, refused_by, refuse, pass_up, holds}
+use Rattle.answers.specs.declared.Refusal.{Refusal}
+use Rattle.answers.proofs.AnswerLaws.{pass_up_accepted, holds-yes, holds_no, handed_up}
 use Rattle.recording.specs.Head.{head_bytes}
 use Rattle.recording.proofs.HeadLaws.{length-head_bytes, record_written}
 use Rattle.field.proofs.RecordLaws.{rest_is}
@@ -31,13 +33,13 @@ use Rattle.field.specs.Units.{record_length}
 use Rattle.field.specs.Writing.{written, left_by}
 use Rattle.sets.specs.Sets.{Has}
 use Rattle.order.specs.Floor.{Floor}
-use Rattle.order.specs.Order.{position_count, floor_of, order_answer}
-use Rattle.order.specs.Tables.{rows_of, decoded_rows}
+use Rattle.order.specs.Order.{floor_of, order_answer}
+use Rattle.order.specs.Tables.{decoded_rows}
 use Rattle.order.proofs.OrderLaws.{formed_head}
 use Rattle.motion.specs.Replay.{listed}
 use Rattle.tables.specs.Accepted.{OrderGave}
 use Rattle.tables.proofs.AcceptedLaws.{gave_accepted}
-use Rattle.plan.specs.Plan.{spare_bits, plan_bytes, plan_record}
+use Rattle.plan.specs.Plan.{spare_bits, plan_record}
 use Rattle.plan.proofs.Listing.{length_listing, listing_fits}
 use Rattle.plan.proofs.PlanRecord.{record_parts}
 use Rattle.graph.specs.Connected.{Below, Connected}
@@ -46,8 +48,9 @@ use Rattle.graph.specs.Nearest.{Nearest}
 use Rattle.graph.proofs.NearestLaws.{nearest_same, nearest_targets, nearest_short}
 use Rattle.floor.specs.FloorAnswer.{Joins}
 use Rattle.floor.proofs.FloorRows.{filled_rows, filled_joins, joins_filled}
-use Rattle.carry.specs.Carry.{way_from, moves_along, longest, dearest_start, dearest_goal, dearest_moves, carry_record}
-use Rattle.carry.specs.CarryAnswer.{connected?, not_connected, cannot_hold, carry_answer, buffer_after}
+use Rattle.carry.specs.Carry.{longest, dearest_start, dearest_goal, dearest_moves, carry_record}
+use Rattle.carry.specs.CarryAnswer.{connected?, not_connected, cannot_hold, carry_answer, buffer_after, told, answer_of}
+use Rattle.farthest.specs.declared.Carry.{Carry}
 use Rattle.farthest.specs.Balls.{Dearest}
 use Rattle.carry.specs.Listing.{taken}
 use Rattle.carry.proofs.ReachLaws.{dearest_one, dearest_along, whole-along}
@@ -74,13 +77,13 @@ module _ (o B : List ℕ) where
   unfolding buffer_after
   after_refusal n q e = sym (ap (λ (a : Answer). left_by a (carry_record F) B) e)
 
-  pub carry_refused : (a r : Answer) (n q : ℕ) → a ≡ order_answer o → a ≡ refused n q → r ≡ pass_up a (accepted (0 ∷ 0 ∷ 0 ∷ []))
-      → (r ≡ carry_answer o (length B)) × (B ≡ buffer_after o B)
-  carry_refused a r n q ea en er =
-      let below : order_answer o ≡ refused n q = sym ea ∙ en in
-      let up : carry_answer o (length B) ≡ refused n q = answer_is ∙ ap (λ (x : Answer). pass_up x (tests (length B))) below in
-      let down : r ≡ refused n q = er ∙ ap (λ (x : Answer). pass_up x (accepted (0 ∷ 0 ∷ 0 ∷ []))) en in
-      (down ∙ sym up, after_refusal n q up)
+  -- r is what `?` makes of the order reader's refusal e
+  pub carry_refused : (r : Result Carry Refusal) (e : Refusal) → IsErrAnd r (λ x. x ≡ e) → refused_by e.0 e.1 ≡ order_answer o
+      → (answer_of r ≡ carry_answer o (length B)) × (B ≡ buffer_after o B)
+  carry_refused r e is down =
+      let up : carry_answer o (length B) ≡ refused_by e.0 e.1 =
+      answer_is ∙ ap (λ (x : Answer). pass_up x (tests (length B))) (sym down) in
+      (handed_up told r e is down (tests (length B)) ∙ sym answer_is, after_refusal _ _ up)
 
   -- above an accepted order, with its rows
   module _ {n e m : ℕ} (gave : OrderGave o n e m) {g : List ℕ} (filled : g ≡ decoded_rows o) where

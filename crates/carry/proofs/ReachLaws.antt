@@ -9,14 +9,14 @@
 --     dearest_one                   there is one such pair only
 --     dearest_along, whole-along    and it is the same by the same edges, as is what hangs together
 -- Assumes nothing.
-use Prim.Native.Nat.{ℕ, zero, suc, ◌+◌, ◌-◌, ◌≤◌, ◌<◌, max}
+use Prim.Native.Nat.{ℕ, zero, suc, ◌-◌, ◌≤◌, ◌<◌}
 use mathlib.Core.Path.{◌≡◌, refl, sym, subst, ap, ◌∙◌}
 use mathlib.Core.Bool.{Bool, ◌&&◌}
-use mathlib.Core.Logic.{◌≢◌, ◌⊎◌, inl, inr, ⊎_elim, by_cases}
+use mathlib.Core.Logic.{◌≢◌, inl, inr, by_cases}
 use native.Mathlib.Decide.{ℕ_discrete, dec_le, dec_lt}
 use native.Mathlib.Nat.{le-max_left, le-max_right, max-eq_left, max-eq_right}
 use native.Mathlib.Omega.{arith}
-use lib.Dec.{T, ltb, eqb, ltb→lt, lt→ltb, eqb→eq, eqb_refl}
+use lib.Dec.{T, eqb, ltb→lt, lt→ltb, eqb→eq, eqb_refl}
 use Rattle.sets.specs.First.{first_from}
 use Rattle.sets.proofs.FirstLaws.{first_passes, first_least}
 use Rattle.order.specs.Floor.{Floor, joined}
@@ -30,7 +30,7 @@ use Rattle.floor.specs.FloorAnswer.{Joins}
 use Rattle.floor.proofs.FloorRows.{walk_along}
 use Rattle.carry.specs.Carry.{next_of, reaches, distance, greatest_below, farthest, longest, dearest_start, dearest_goal}
 use Rattle.farthest.specs.Balls.{Earlier}
-use Rattle.farthest.specs.Balls.{Reached, Dearest}
+use Rattle.farthest.specs.Balls.{Dearest}
 
 -- the first that passes is at most any that passes
 first-low : (f : ℕ → Bool) (n i : ℕ) → T (f i) → first_from f 0 n ≤ i

@@ -7,14 +7,14 @@
 -- Assumes nothing.
 use Prim.Native.Nat.{ℕ, suc, ◌^◌, ◌≤◌, ◌<◌}
 use mathlib.Core.Path.{◌≡◌, refl, sym, subst, ap, ◌∙◌}
-use mathlib.Core.Bool.{true, false, not, ◌||◌}
+use mathlib.Core.Bool.{true, false, not}
 use mathlib.Core.List.{List, [], ◌∷◌}
 use mathlib.Core.Logic.{◌⊎◌, ⊎_elim}
 use native.Mathlib.Omega.{arith}
 use borrow.Author.Tests.{lt-leb, not-false}
 use lib.Dec.{T}
 use lib.ListN.{length}
-use Rattle.answers.specs.Answer.{accepted, refuse, holds}
+use Rattle.answers.specs.Answer.{accepted, holds}
 use Rattle.answers.proofs.AnswerLaws.{refuse_not, refuse_else, pass_up-low, pass_up-high, holds-true}
 use Rattle.field.proofs.BitLaws.{field_lt}
 use Rattle.field.proofs.UnitLaws.{or_left}
@@ -33,8 +33,7 @@ use Rattle.plan.specs.Plan.{plan_record, plan_answer, move_count, plan_moves}
 use Rattle.plan_check.proofs.Accepted.{plan_gave}
 use Rattle.plan.proofs.PlanRecord.{moves-counted}
 use Rattle.plan_check.proofs.Replayed.{the_moves, accepted_record}
-use Rattle.graph.specs.Walk.{Walk}
-use Rattle.graph.specs.Connected.{Below, Connected}
+use Rattle.graph.specs.Connected.{Connected}
 use Rattle.floor.specs.FloorAnswer.{Joins}
 use Rattle.floor.proofs.FloorRows.{joined_other}
 use Rattle.floor.proofs.Layers.{edges_length}

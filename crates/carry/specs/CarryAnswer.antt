@@ -9,9 +9,9 @@
 --     buffer_after o B      the buffer B afterwards
 --     answer_of v           the verdict v as an answer
 -- Assumes nothing.
-use Rattle.std.specs.Prelude.{ℕ, ◌-◌, ◌*◌, Bool, true, not, List, [], ◌∷◌, length, ltb}
+use Rattle.std.specs.Prelude.{ℕ, ◌-◌, ◌*◌, Bool, true, not, List, [], ◌∷◌, length, ltb, Result}
 use Rattle.std.proofs.Math.Decide.{dec_lt}
-use Rattle.answers.specs.Answer.{Answer, accepted, refused_by, refuse, pass_up, holds}
+use Rattle.answers.specs.Answer.{Answer, accepted, refuse, pass_up, holds, answer_by}
 use Rattle.field.specs.Listed.{move_size}
 use Rattle.field.specs.Units.{record_length}
 use Rattle.field.specs.Writing.{left_by}
@@ -21,8 +21,8 @@ use Rattle.graph.specs.Connected.{Below, Connected}
 use Rattle.floor.specs.FloorAnswer.{Joins, passes?}
 use Rattle.graph.proofs.WayDecision.{whole?}
 use Rattle.carry.specs.Carry.{longest, dearest_start, dearest_goal, carry_record}
-use Rattle.carry.specs.declared.CarryVerdict.{CarryVerdict}
-use Rattle.carry.specs.declared.CarryVerdict.TheVariants.{Found, Refused}
+use Rattle.answers.specs.declared.Refusal.{Refusal}
+use Rattle.farthest.specs.declared.Carry.{Carry}
 
 unfoldable pub connected? : (F : Floor) → Dec (Connected F.positions (Joins F))
 unfolding dec_lt passes? whole?
@@ -49,6 +49,8 @@ carry_answer o b =
 unfoldable pub buffer_after : List ℕ → List ℕ → List ℕ
 buffer_after o B = left_by (carry_answer o (length B)) (carry_record (floor_of o)) B
 
-abbrev pub answer_of : CarryVerdict → Answer
-answer_of (Found c) = accepted (c.start ∷ c.goal ∷ c.moves ∷ [])
-answer_of (Refused f place) = refused_by f place
+abbrev pub told : Carry → List ℕ
+told c = c.start ∷ c.goal ∷ c.moves ∷ []
+
+abbrev pub answer_of : Result Carry Refusal → Answer
+answer_of = answer_by told

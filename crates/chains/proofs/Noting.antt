@@ -10,7 +10,7 @@
 --     MoveTold, move-told          a move that is not sound decides: the answer is no; one that is sound leaves the rest
 --     noting_first, noting_last    before the first move; after the last the answer is yes
 -- Assumes nothing.
-use Prim.Native.Nat.{ℕ, ◌+◌, ◌-◌, ◌*◌, ◌≤◌, ◌<◌}
+use Prim.Native.Nat.{ℕ, ◌+◌, ◌*◌, ◌≤◌, ◌<◌}
 use mathlib.Core.Path.{◌≡◌, refl, sym, subst, ◌∙◌}
 use mathlib.Core.Bool.{Bool, true, false, not, ◌&&◌, ◌||◌, and_assoc, and-false, false≢true}
 use mathlib.Core.List.{List, [], ◌∷◌}
@@ -28,10 +28,10 @@ use Rattle.motion.specs.Step.{every, ascends, enters, entered_once}
 use Rattle.motion.proofs.Test.{equal?}
 use Rattle.tables.specs.Tables.{edge_at, held_at}
 use Rattle.tables.proofs.TableLaws.{zeros_at}
-use Rattle.chains.specs.StepOn.{entries, sound_moves}
+use Rattle.chains.specs.StepOn.{moves_of, sound_moves}
 use Rattle.chains.specs.Chains.{noted}
 use Rattle.chains.proofs.Moves.{Left, left-first, left_at, left-next, left_last}
-use Rattle.chains.proofs.Moves.{entries_from, entries-first, entries_below, entries_last}
+use Rattle.chains.proofs.Moves.{moves_from, moves_below, moves_none}
 
 unfoldable pub sound_after : List ℕ → List ℕ → ℕ → List ℕ → List (ℕ × ℕ) → Bool
 sound_after g h lowest v [] = true
@@ -133,18 +133,18 @@ too_many g h {ms} b many = rw (not_yes (ascends ms) none) refl
     not_yes true f = absurd (f tt)
     not_yes false f = refl
 
--- the loop over the c moves that the table d has, from the targets t₀ on
-module _ (g h d : List ℕ) (c : ℕ) (t₀ : List ℕ) where
+-- the loop over the moves of the step d, from the targets t₀ on
+module _ (g h d t₀ : List ℕ) where
   unfoldable pub judge : ℕ × List ℕ → List (ℕ × ℕ) → Bool
   judge x ms = sound_after g h x.0 x.1 ms
 
   abbrev pub Judged : List ℕ → Bool → Type 0
-  Judged t r = (r ≡ sound_moves g h (entries d 0 c)) × (r ≡ true → t ≡ noted t₀ (entries d 0 c))
+  Judged t r = (r ≡ sound_moves g h (moves_of d)) × (r ≡ true → t ≡ noted t₀ (moves_of d))
 
   -- at move j, where positions from `lowest` on may be left and those flagged in v have been entered; t has the targets so far
   pub record Noting (lowest : ℕ) (v t : List ℕ) (j : ℕ) : Type 0 where
-    pub judging : Left judge (entries_from d c) (entries d 0 c) (0, replicate 64 0) (lowest, v) j
-    pub noting : Left noted (entries_from d c) (entries d 0 c) t₀ t j
+    pub judging : Left judge (moves_from d) (moves_of d) (0, replicate 64 0) (lowest, v) j
+    pub noting : Left noted (moves_from d) (moves_of d) t₀ t j
 
   -- what the loop's tests tell of move j, from a to b
   pub record MoveTold (lowest : ℕ) (v t : List ℕ) (j a b : ℕ) : Type 0 where
@@ -158,25 +158,25 @@ module _ (g h d : List ℕ) (c : ℕ) (t₀ : List ℕ) where
   pub noting_first : Noting 0 (replicate 64 0) t₀ 0
   noting_first =
       record {
-        judging = left-first judge (entries_from d c) (entries d 0 c) (0, replicate 64 0) (entries-first d c);
-        noting = left-first noted (entries_from d c) (entries d 0 c) t₀ (entries-first d c);
+        judging = left-first judge (moves_from d) (moves_of d) (0, replicate 64 0) refl;
+        noting = left-first noted (moves_from d) (moves_of d) t₀ refl;
       }
 
-  all_is : judge (0, replicate 64 0) (entries d 0 c) ≡ sound_moves g h (entries d 0 c)
+  all_is : judge (0, replicate 64 0) (moves_of d) ≡ sound_moves g h (moves_of d)
   unfolding judge
-  all_is = sound_after_is g h (entries_below d 0 c)
+  all_is = sound_after_is g h (moves_below d)
 
   module _ (lowest : ℕ) (v t : List ℕ) (j a b : ℕ) (left : Noting lowest v t j)
-      (at : entries_from d c j ≡ ((a, b) ∷ entries_from d c (j + 1))) where
+      (at : moves_from d j ≡ ((a, b) ∷ moves_from d (j + 1))) where
     next : (leb lowest a
         && edge_at g (a, b)
         && held_at h a
         && not (held_at v b)
-        && sound_after g h (a + 1) (set v b 1) (entries_from d c (j + 1))) ≡ sound_moves g h (entries d 0 c)
+        && sound_after g h (a + 1) (set v b 1) (moves_from d (j + 1))) ≡ sound_moves g h (moves_of d)
     unfolding judge sound_after
-    next = left_at judge (entries_from d c) (entries d 0 c) (0, replicate 64 0) (lowest, v) j a b left.judging at ∙ all_is
+    next = left_at judge (moves_from d) (moves_of d) (0, replicate 64 0) (lowest, v) j a b left.judging at ∙ all_is
 
-    wrong : false ≡ sound_moves g h (entries d 0 c) → Judged t false
+    wrong : false ≡ sound_moves g h (moves_of d) → Judged t false
     wrong e = (e, λ r. absurd (false≢true r))
 
     pub move-told : MoveTold lowest v t j a b
@@ -190,7 +190,7 @@ module _ (g h d : List ℕ) (c : ℕ) (t₀ : List ℕ) where
           sound = λ l e r f.
               record {
                 judging =
-                    left-next judge (entries_from d c) (entries d 0 c) (0, replicate 64 0) (lowest, v) j a b left.judging at
+                    left-next judge (moves_from d) (moves_of d) (0, replicate 64 0) (lowest, v) j a b left.judging at
                     (a + 1, set v b 1)
                     (λ ms.
                     rw (
@@ -200,13 +200,13 @@ module _ (g h d : List ℕ) (c : ℕ) (t₀ : List ℕ) where
                       eq-eqb
                           (get_or v b 0) 0 f,
                     ) refl);
-                noting = left-next noted (entries_from d c) (entries d 0 c) t₀ t j a b left.noting at (set t a (b + 1)) (λ ms. refl);
+                noting = left-next noted (moves_from d) (moves_of d) t₀ t j a b left.noting at (set t a (b + 1)) (λ ms. refl);
               };
         }
 
-  pub noting_last : (lowest : ℕ) (v t : List ℕ) (j : ℕ) → Noting lowest v t j → c ≤ j → Judged t true
+  pub noting_last : (lowest : ℕ) (v t : List ℕ) (j : ℕ) → Noting lowest v t j → length d ≤ j → Judged t true
   unfolding judge sound_after noted
   noting_last lowest v t j left k = (
-    left_last judge (entries_from d c) (entries d 0 c) (0, replicate 64 0) (lowest, v) j left.judging (entries_last d c j k) ∙ all_is,
-    λ r. left_last noted (entries_from d c) (entries d 0 c) t₀ t j left.noting (entries_last d c j k),
+    left_last judge (moves_from d) (moves_of d) (0, replicate 64 0) (lowest, v) j left.judging (moves_none d j k) ∙ all_is,
+    λ r. left_last noted (moves_from d) (moves_of d) t₀ t j left.noting (moves_none d j k),
   )

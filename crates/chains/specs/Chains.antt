@@ -12,9 +12,11 @@
 --     LeadersMarked h v j  the first j marks of v are so
 --     NonePassed v         no chain is being followed
 --     Chain t h v p        the marks v where a chain is being followed that has come to p
---     Followed t h v w p r the length r and the marks w, where the chain was followed on from p with the marks v
+--     Train t h v w p n    the chain that was followed on from p with the marks v ends at a leader, in a train of n moves, and w are the
+--                          marks left
+--     Followed t h v w p r what following it found: the length of such a train, or nothing where there is no leader
 -- Assumes nothing.
-use Rattle.std.specs.Prelude.{ℕ, suc, ◌+◌, ◌-◌, ◌*◌, ◌≤◌, ◌<◌, ◌≡◌, cond, List, [], ◌∷◌, eqb, length, get_or, set}
+use Rattle.std.specs.Prelude.{ℕ, suc, ◌+◌, ◌-◌, ◌*◌, ◌≤◌, ◌<◌, ◌≡◌, cond, List, [], ◌∷◌, Option, None, Some, eqb, length, get_or, set}
 use Rattle.field.specs.Bits.{field}
 use Rattle.motion.specs.Move.{goes_to}
 use Rattle.motion.specs.Step.{leaves}
@@ -61,9 +63,11 @@ pub record Chain (t h v : List ℕ) (p : ℕ) : Type 0 where
   -- a train has at most the 64 moves that leave a position, and the one that enters its first
   pub short : (n q : ℕ) → Led t h n q → n ≤ 65
 
--- 0 where there is no leader
-pub record Followed (t h v w : List ℕ) (p r : ℕ) : Type 0 where
-  pub led : (r ≡ 0 → ⊥) → Led t h r p
-  pub unled : r ≡ 0 → (n : ℕ) → Led t h n p → ⊥
-  pub marks : (r ≡ 0 → ⊥) → Marks t h w
-  pub passed : (r ≡ 0 → ⊥) → (q : ℕ) → get_or w q 0 ≡ 255 → get_or v q 0 ≡ 255
+pub record Train (t h v w : List ℕ) (p n : ℕ) : Type 0 where
+  pub led : Led t h n p
+  pub marks : Marks t h w
+  pub passed : (q : ℕ) → get_or w q 0 ≡ 255 → get_or v q 0 ≡ 255
+
+abbrev pub Followed : List ℕ → List ℕ → List ℕ → List ℕ → ℕ → Option ℕ → Type 0
+Followed t h v w p None = (n : ℕ) → Led t h n p → ⊥
+Followed t h v w p (Some n) = Train t h v w p n

@@ -1,7 +1,7 @@
 -- A step on tables: the definitions of crates/motion's Step and Move, with a matrix of edges for the floor and a table of racks for the
 -- arrangement (crates/tables). `ascends`, `entered_once`, `leaves` and `goes_to` speak of the moves alone, and are motion's own.
 --
---     entries d j k        the k moves that the table d has from place j on: a move from a to b is the number a * 64 + b
+--     moves_of d           the moves that the numbers d are: a move from a to b is the number a * 64 + b
 --     led_on k ms h p       by the table h, the chain of a move into p ends at its leader, at most k moves further on
 --     sound_moves g h ms    a step's moves, but for the trains: they ascend, run along edges, take racks along, enter no position twice
 --     all_led h ms          each of the moves belongs to a train with a leader, of at most eight moves
@@ -11,15 +11,15 @@
 --     step_on h ms          the table that the moves ms, made all at once, make of h
 --     ran_on g h ms         the table after the step ms: as it was, where the step is not legal
 -- Assumes nothing.
-use Rattle.std.specs.Prelude.{ℕ, zero, suc, ◌+◌, ◌-◌, ◌/◌, ◌%◌, Bool, not, cond, ◌&&◌, ◌||◌, List, [], ◌∷◌, get_or, set}
+use Rattle.std.specs.Prelude.{ℕ, zero, suc, ◌-◌, ◌/◌, ◌%◌, Bool, not, cond, ◌&&◌, ◌||◌, List, [], ◌∷◌, get_or, set}
 use Rattle.motion.specs.Move.{goes_to}
 use Rattle.motion.specs.LegalStep.{longest_train}
 use Rattle.motion.specs.Step.{every, ascends, leaves, entered_once}
 use Rattle.tables.specs.Tables.{edge_at, held_at}
 
-unfoldable pub entries : List ℕ → ℕ → ℕ → List (ℕ × ℕ)
-entries d j zero = []
-entries d j (suc k) = (get_or d j 0 / 64 % 64, get_or d j 0 % 64) ∷ entries d (j + 1) k
+unfoldable pub moves_of : List ℕ → List (ℕ × ℕ)
+moves_of [] = []
+moves_of (x ∷ d) = (x / 64 % 64, x % 64) ∷ moves_of d
 
 -- "The chain is followed rack by rack to its leader: a move into a position left in the same step follows that move, and the
 -- chain has to end at a move into a position vacant before the step."

@@ -4,36 +4,31 @@
 #![tactic(auto)]
 
 ghost use Rattle.std.specs.Prelude.{◌≡◌, true, ◌≤◌, ◌<◌, length};
-ghost use Rattle.chains.specs.StepOn.{entries, sound_moves, all_led};
+ghost use Rattle.chains.specs.StepOn.{moves_of, sound_moves, all_led};
 ghost use Rattle.tables.specs.Simulation.{Each};
-ghost use Rattle.chains.specs.Chains.{noted, Targets, Taking, leader_mark, LeadersMarked, NonePassed, Chain, Followed};
+ghost use Rattle.chains.specs.Chains.{noted, Targets, Taking, LeadersMarked, NonePassed, Chain, Followed};
+
+use motion::LONGEST;
 
 // The mark of a position that the chain being followed has come through. No train is so long.
 const PASSED: u8 = 255;
 
-// "The new power rail feeds eight racks in a train": how many moves a train may have. The proof of `all_led` holds it to motion's
-// `longest_train`.
-const LONGEST: u8 = 8;
-
-// Whether a step's c moves ascend by position left, run along edges, take racks along and enter no position twice. Notes for each
-// position left one more than the position entered.
+// Whether a step's moves ascend by position left, run along edges, take racks along and enter no position twice. Notes for each position
+// left one more than the position entered.
 pub fn note_moves(
-    step: &[u16; 64],
-    c: usize,
+    step: &[u16],
     matrix: &[u8; 4096],
     racks: &[u8; 64],
     target: &mut [u8; 64],
 ) -> bool
-    requires { c ≤ 64 }
-    ensures sound { result ≡ sound_moves matrix.now racks.now (entries step.now 0 c) }
-    ensures all { result ≡ true → target.new ≡ noted target.old (entries step.now 0 c) }
+    ensures sound { result ≡ sound_moves matrix.now racks.now (moves_of step.now) }
+    ensures all { result ≡ true → target.new ≡ noted target.old (moves_of step.now) }
 {
     let mut entered = [0u8; 64];
     let mut lowest = 0;
-    let mut j = 0;
-    while j < c {
-        let a = field::first_of(step[j]);
-        let b = field::second_of(step[j]);
+    for &x in step {
+        let a = field::first_of(x);
+        let b = field::second_of(x);
         if a < lowest {
             return false;
         }
@@ -49,102 +44,78 @@ pub fn note_moves(
         entered[b] = 1;
         target[a] = (b + 1) as u8;
         lowest = a + 1;
-        j += 1;
     }
     true
 }
 
-// Follows the chain of a move that enters p, from the mover to the move that it follows, to its leader, and answers how many moves those
-// are: 1 where the move leads, and 0 where there is no leader. Marks show what is known of the positions that it comes through: a chain
-// that meets itself again is a ring, and one that meets a train whose length is known is so much longer.
-fn follow_chain(p: usize, target: &[u8; 64], racks: &[u8; 64], marks: &mut [u8; 64]) -> u8
+// Follows the chain of a move that enters p, from the mover to the move that it follows, to its leader, if there is one, and answers how
+// many moves those are: 1 where the move leads. Marks show what is known of the positions that it comes through: a chain that meets itself
+// again is a ring, and one that meets a train whose length is known is so much longer.
+fn follow_chain(p: usize, target: &[u8; 64], racks: &[u8; 64], marks: &mut [u8; 64]) -> Option<u8>
     requires p_bound { p < 64 }
     requires chain { Chain target.now racks.now marks.old p }
     ensures { Followed target.now racks.now marks.old marks.new p result }
 {
     if racks[p] == 0 {
-        return 1;
+        return Some(1);
     }
     if marks[p] == PASSED {
-        return 0;
+        return None;
     }
     if marks[p] != 0 {
-        return marks[p];
+        return Some(marks[p]);
     }
-    let next = field::wide(target[p]);
-    if next == 0 {
-        return 0;
-    }
-    let entered = next - 1;
+    let entered = usize::from(target[p]).checked_sub(1)?;
     marks[p] = PASSED;
-    let ahead = follow_chain(entered, target, racks, marks);
-    if ahead == 0 {
-        return 0;
-    }
+    let ahead = follow_chain(entered, target, racks, marks)?;
     let moves = ahead + 1;
     marks[p] = moves;
-    moves
+    Some(moves)
 }
 
-// What is known of a position before any chain is followed: a move into one without a rack leads, in a train of 1.
-fn leader_mark(rack: u8) -> u8
-    ensures { result ≡ leader_mark rack }
-{
-    if rack == 0 {
-        return 1;
-    }
-    0
-}
-
-// The marks before any chain is followed.
+// The marks before any chain is followed: a move into a position without a rack leads, in a train of 1.
 fn mark_leaders(racks: &[u8; 64], marks: &mut [u8; 64])
-    requires { length marks.old ≡ 64 }
     ensures { LeadersMarked racks.now marks.new 64 }
 {
-    let mut p = 0;
-    while p < 64 {
-        marks[p] = leader_mark(racks[p]);
-        p += 1;
+    for (p, &rack) in racks.iter().enumerate() {
+        marks[p] = u8::from(rack == 0);
     }
 }
 
-// The length of the train of a move that enters p, or 0. Most moves lead or follow one whose train is known: no chain has to be followed
-// for them.
-fn train_length(p: usize, target: &[u8; 64], racks: &[u8; 64], marks: &mut [u8; 64]) -> u8
+// The length of the train of a move that enters p, if it has a leader. Most moves lead or follow one whose train is known: no chain has to
+// be followed for them.
+fn train_length(p: usize, target: &[u8; 64], racks: &[u8; 64], marks: &mut [u8; 64]) -> Option<u8>
     requires p_bound { p < 64 }
     requires chain { Chain target.now racks.now marks.old p }
     requires none_passed { NonePassed marks.old }
     ensures { Followed target.now racks.now marks.old marks.new p result }
 {
     if marks[p] != 0 {
-        return marks[p];
+        return Some(marks[p]);
     }
     follow_chain(p, target, racks, marks)
 }
 
-// Whether each of a step's c moves belongs to a train with a leader, of at most LONGEST moves from the mover to it. Who enters the
-// position that a move leaves follows it, in a train one move longer.
-pub fn all_led(step: &[u16; 64], c: usize, target: &[u8; 64], racks: &[u8; 64]) -> bool
-    requires c_bound { c ≤ 64 }
-    requires targets { Targets (entries step.now 0 c) target.now }
-    requires each { Each (Taking target.now racks.now) (entries step.now 0 c) }
-    ensures { result ≡ all_led racks.now (entries step.now 0 c) }
+// Whether each of a step's moves belongs to a train with a leader, of at most LONGEST moves from the mover to it. Who enters the position
+// that a move leaves follows it, in a train one move longer.
+pub fn all_led(step: &[u16], target: &[u8; 64], racks: &[u8; 64]) -> bool
+    requires few { length step.now ≤ 64 }
+    requires targets { Targets (moves_of step.now) target.now }
+    requires each { Each (Taking target.now racks.now) (moves_of step.now) }
+    ensures { result ≡ all_led racks.now (moves_of step.now) }
 {
     let mut marks = [0u8; 64];
     mark_leaders(racks, &mut marks);
-    let mut j = 0;
-    while j < c {
-        let a = field::first_of(step[j]);
-        let b = field::second_of(step[j]);
-        let moves = train_length(b, target, racks, &mut marks);
-        if moves == 0 {
+    for &x in step {
+        let a = field::first_of(x);
+        let b = field::second_of(x);
+        let Some(moves) = train_length(b, target, racks, &mut marks) else {
             return false;
-        }
+        };
         if LONGEST < moves {
             return false;
         }
         marks[a] = moves + 1;
-        j += 1;
     }
     true
 }

@@ -11,7 +11,7 @@ use Prim.Native.Nat.{ℕ}
 use mathlib.Core.Path.{◌≡◌, refl}
 use mathlib.Core.List.{List, [], ◌∷◌}
 use native.Mathlib.Omega.{arith}
-use lib.Dec.{lit<, lit≤}
+use lib.Dec.{lit≤}
 use Rattle.answers.specs.Answer.{accepted}
 use Rattle.plan.specs.Plan.{move_count, plan_answer}
 use Rattle.plan_check.proofs.Examples.{case_book, case_named, plan_open}

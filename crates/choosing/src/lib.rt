@@ -3,10 +3,10 @@
 // proved method promises.
 #![tactic(auto)]
 
-ghost use Rattle.std.specs.Prelude.{◌≡◌, ◌≤◌, min, length};
+ghost use Rattle.std.specs.Prelude.{◌≤◌, length, IfSome};
 ghost use Rattle.planner.specs.Planner.{PlanMade, answer_of};
 
-use planner::PlannerVerdict;
+use answers::Refusal;
 
 // So many bytes of the buffer are kept while the proved method's plan stands there, at the most. A longer plan stays.
 const KEPT: usize = 262144;
@@ -14,60 +14,45 @@ const KEPT: usize = 262144;
 // The bytes of the longest record that the search's moves are listed in.
 const RECORD: usize = 9219;
 
-// The smaller of two numbers of bytes.
-fn smaller(x: usize, y: usize) -> usize
-    ensures { result ≡ min x y }
-{
-    if x < y {
-        return x;
-    }
-    y
-}
-
-// The moves that were found as a plan record of edition two, each with the rack that it takes, and how many bytes it has; 0 where a move
+// The moves that were found as a plan record of edition two, each with the rack that it takes, and how many bytes it has, unless a move
 // takes none. Whether they make a plan is not judged here.
-fn list(found: &[u16; 4096], k: usize, starts: [u8; 64], room: &mut [u8]) -> usize
+fn list(found: &[u16; 4096], k: usize, starts: [u8; 64], room: &mut [u8]) -> Option<usize>
     requires { (k ≤ 4096) × (9219 ≤ length room.old) }
-    ensures { result ≤ length room.new }
+    ensures { IfSome result (λ n. n ≤ length room.new) }
 {
     let mut racks = starts;
-    let mut j = 0;
-    while j < k {
+    for j in 0..k {
         let step = found[j];
         let a = field::first_of(step);
         let b = field::second_of(step);
         let rack = racks[a];
-        let number = field::wide(rack);
-        if number == 0 {
-            return 0;
-        }
-        if 64 < number {
-            return 0;
+        let number = usize::from(rack);
+        if number == 0 || number > 64 {
+            return None;
         }
         recording::put_listed(&mut room[3..], true, j, a, b, number);
         racks[a] = 0;
         racks[b] = rack;
-        j += 1;
     }
     recording::put_head(room, k, 1);
-    3 + (9 * k + 3) / 4
+    Some(3 + (9 * k + 3) / 4)
 }
 
-// The record of what the search finds for an order on n positions, from what it was decoded to, and how many bytes it has; 0 where it finds
-// nothing.
+// The record of what the search finds for an order on n positions, from what it was decoded to, and how many bytes it has, if it finds
+// anything.
 fn candidate(
     n: usize,
     rows: &[u64; 64],
     starts: [u8; 64],
     goals: &[u8; 64],
     room: &mut [u8; RECORD],
-) -> usize
-    ensures { result ≤ length room.new }
+) -> Option<usize>
+    ensures { IfSome result (λ n. n ≤ length room.new) }
 {
     let mut found = [0u16; 4096];
     let k = searching::search(n, rows, &starts, goals, &mut found);
     if k == 0 {
-        return 0;
+        return None;
     }
     list(&found, k, starts, room)
 }
@@ -85,41 +70,41 @@ fn kept_length(order: &[u8], length: usize) -> usize
     if counts.edges == n {
         return 0;
     }
-    let most = smaller(18 * (n * (n * n)) + 3, KEPT);
-    smaller(most, length)
+    (18 * (n * (n * n)) + 3).min(KEPT).min(length)
 }
 
 // The proved method's plan, or the search's. What stands in the buffer where the method writes its plan is kept first, as many bytes as
 // are asked for, so that nothing of that plan stays behind a shorter one; a plan that takes more of them stays. The order is decoded once,
 // for the method and the search.
-fn make_beside(order: &[u8], saved: usize, kept: &mut [u8], buffer: &mut [u8]) -> PlannerVerdict
+fn make_beside(
+    order: &[u8],
+    saved: usize,
+    kept: &mut [u8],
+    buffer: &mut [u8],
+) -> Result<usize, Refusal>
     requires { (saved ≤ length kept.old) × (saved ≤ length buffer.old) }
     ensures { PlanMade order.now buffer.old (answer_of result) buffer.new }
 {
-    writers::put_bytes(&buffer[..saved], kept, 0);
+    kept[..saved].copy_from_slice(&buffer[..saved]);
     let mut rows = [0u64; 64];
     let mut starts = [0u8; 64];
     let mut goals = [0u8; 64];
-    let planned = planner::make_on(order, &mut rows, &mut starts, &mut goals, buffer);
-    let PlannerVerdict::Planned(k) = planned else {
-        return planned;
-    };
+    let k = planner::make_on(order, &mut rows, &mut starts, &mut goals, buffer)?;
     let length = 3 + (9 * k + 3) / 4;
-    if saved < length {
-        return planned;
-    }
-    if k == 0 {
-        return planned;
+    if saved < length || k == 0 {
+        return Ok(k);
     }
     let mut room = [0u8; RECORD];
     let n = order::counts_of(order).positions;
-    let found = candidate(n, &rows, starts, &goals, &mut room);
+    let Some(found) = candidate(n, &rows, starts, &goals, &mut room) else {
+        return Ok(k);
+    };
     let moves = comparing::take_better(order, &kept[..length], &room[..found], k, buffer);
-    PlannerVerdict::Planned(moves)
+    Ok(moves)
 }
 
 // 10 to 14, 20, 21, 24, 26 and 23, or a plan: its record at the front of the buffer, in edition two, and how many moves it has.
-pub fn make(order: &[u8], buffer: &mut [u8]) -> PlannerVerdict
+pub fn make(order: &[u8], buffer: &mut [u8]) -> Result<usize, Refusal>
     ensures { PlanMade order.now buffer.old (answer_of result) buffer.new }
 {
     let saved = kept_length(order, buffer.len());

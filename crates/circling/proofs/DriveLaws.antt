@@ -1,41 +1,34 @@
 -- The states of `find` and `drive`.
 --
---     Tried, tried_none, tried_next, tried-found, tried-last      `find`: no place before i is ready
+--     Tried                                                       `find`: no place before i is ready
 --     moved_to                                                    a move, by another name of the position entered
 --     Driving, driving_first, driving_next, driving_last          `drive`: a trip has been made, and the needs that are left are the rest
 --     driving_space, driving_small, driving_movable, driving_rack, driving_more, driving_less
 --                     there is room for the next move, it can be made, and leaves less to go
 -- Assumes nothing.
 use Prim.Native.Nat.{ℕ, ◌+◌, ◌-◌, ◌≤◌, ◌<◌}
-use mathlib.Core.Path.{◌≡◌, refl, sym, ap, subst, ◌∙◌}
+use mathlib.Core.Path.{◌≡◌, ap, subst, ◌∙◌}
 use mathlib.Core.List.{List}
 use mathlib.Core.Logic.{◌≢◌, by_cases}
 use native.Mathlib.Decide.{ℕ_discrete}
 use native.Mathlib.Omega.{arith}
-use lib.ListN.{get_or, set, length, length-set}
+use lib.ListN.{set, length, length-set}
 use lib.Seq.{get_or-set_same, get_or-set_other}
-use Rattle.graph.specs.Rows.{row, Edge}
-use Rattle.ring.specs.Circle.{Circle, next}
+use Rattle.graph.specs.Rows.{row}
+use Rattle.ring.specs.Circle.{next}
 use Rattle.ring.specs.Standing.{OnCircle}
 use Rattle.ring.proofs.CircleLaws.{next_below, circle-next}
 use Rattle.moving.specs.declared.State.{State}
-use Rattle.moving.specs.Journey.{unlogged, Space, Moved, Trip}
+use Rattle.moving.specs.Journey.{Space, Moved}
 use Rattle.moving.specs.OnePlace.{Movable}
-use Rattle.moving.proofs.JourneyLaws.{trip_none, trip_more, trip_append, space_then, space_less, moved-passed, moved_trip}
+use Rattle.moving.proofs.JourneyLaws.{trip_none, trip_more, trip_append, space_then, moved-passed, moved_trip}
 use Rattle.circling.specs.Lands.{total}
-use Rattle.circling.specs.Drive.{Circled, Ready, Found, Driveable, Driven, TripRound}
+use Rattle.circling.specs.Drive.{Circled, Ready, Driveable, Driven, TripRound}
 use Rattle.circling.proofs.LandsLaws.{total-set}
 use Rattle.circling.proofs.PaceLaws.{Underway, underway_first, underway_next, underway_last, stuck, drive_on, held_by}
 
 abbrev pub Tried : ℕ → (ℕ → ℕ) → (ℕ → ℕ) → (ℕ → ℕ) → ℕ → Type 0
 Tried n at d h i = (j : ℕ) → j < i → Ready n at d h j → ⊥
-
-pub tried_none : (n : ℕ) (at d h : ℕ → ℕ) → Tried n at d h 0
-tried_none n at d h j l r = omega arith
-
-pub tried_next : (n : ℕ) (at d h : ℕ → ℕ) (i : ℕ) → (Ready n at d h i → ⊥) → Tried n at d h i → Tried n at d h (i + 1)
-tried_next n at d h i never old j l r =
-    by_cases (ℕ_discrete j i) (λ e. never (subst (Ready n at d h) e r)) (λ f. old j (omega arith) r)
 
 pub moved_to : {a b c : ℕ} {s s' : State} {t t' : List ℕ} → b ≡ c → Moved a b s t s' t' → Moved a c s t s' t'
 moved_to {a} {b} {c} {s} {s'} {t} {t'} e m = subst (λ (x : ℕ). Moved a x s t s' t') e m

@@ -4,16 +4,15 @@
 --     aimed_met           a number to aim at
 --     alike_met           its order is the same at place 1
 -- Assumes nothing.
-use Prim.Native.Nat.{ℕ, zero, suc, ◌≤◌, ◌<◌}
+use Prim.Native.Nat.{ℕ, zero, suc, ◌<◌}
 use mathlib.Core.Path.{◌≡◌, refl, ap}
-use mathlib.Core.List.{List, [], ◌∷◌}
+use mathlib.Core.List.{[], ◌∷◌}
 use mathlib.Core.Logic.{◌≢◌, ⊎_elim}
 use native.Mathlib.Omega.{arith}
 use Rattle.graph.specs.Rows.{row}
 use Rattle.ring.proofs.Examples.{one_rack, circle_met}
 use Rattle.circling.specs.Drive.{Driveable}
 use Rattle.circling.specs.Needs.{Aimed, RoundAlike}
-use Rattle.circling.proofs.NeedsLaws.{aimed-at}
 
 pub driveable_met : Driveable 3 1 (λ i. i) (row (0 ∷ 1 ∷ [])) (row one_rack)
 driveable_met =
@@ -36,7 +35,12 @@ driveable_met =
     alone (suc (suc (suc i))) j apart fi fj = fi refl
 
 pub aimed_met : Aimed 3 6 1 7
-aimed_met = aimed-at 3 6 1 2 7 (omega arith) (omega arith) (omega arith) (omega arith) (omega arith) refl
+aimed_met =
+    record {
+      lands = record { laps = 2; is = refl };
+      there = record { first = omega arith; second = omega arith; near = omega arith };
+      back = record { first = omega arith; second = omega arith; near = omega arith };
+    }
 
 pub alike_met : RoundAlike 3 1 (λ i. i) (row one_rack) (row (0 ∷ 1 ∷ 0 ∷ []))
 alike_met p g from to r q s kr kq ks t =

@@ -9,10 +9,10 @@
 --     lands_mirror         numbers that count down land there
 --     total-set            a sum with one number changed
 --     total_none           a row of zeros
---     Mirrored, mirrored-first, mirrored-next    the state of `reversed`
+--     Mirrored             the state of `reversed`
 -- Assumes nothing.
 use Prim.Native.Nat.{ℕ, zero, suc, ◌+◌, ◌-◌, ◌*◌, ◌≤◌, ◌<◌}
-use mathlib.Core.Path.{◌≡◌, refl, sym, ap, subst, ◌∙◌}
+use mathlib.Core.Path.{◌≡◌, refl, sym, ap, ◌∙◌}
 use mathlib.Core.List.{List, [], ◌∷◌}
 use mathlib.Core.Logic.{◌≢◌, ◌⊎◌, inl, inr, ⊎_elim, by_cases}
 use native.Mathlib.Decide.{ℕ_discrete, dec_lt, dec_le}
@@ -20,7 +20,6 @@ use native.Mathlib.Nat.{mul-le-mul_left, mul-add, mul-suc}
 use native.Mathlib.Omega.{arith}
 use borrow.Author.Tests.{eq-eqb, ne_eqb}
 use lib.ListN.{get_or, set, length, replicate}
-use lib.Seq.{get_or-set_same, get_or-set_other}
 use Rattle.ring.specs.Circle.{next}
 use Rattle.ring.specs.Order.{ahead}
 use Rattle.ring.proofs.CircleLaws.{next_is}
@@ -152,17 +151,3 @@ total_none (suc k) = let r = total_none k in omega arith
 -- the state of `reversed`: the places before j are those of the circle read the other way
 abbrev pub Mirrored : ℕ → (ℕ → ℕ) → (ℕ → ℕ) → ℕ → Type 0
 Mirrored n at to j = (i : ℕ) → i < j → to i ≡ at (mirror n i)
-
-pub mirrored-first : (n : ℕ) (at to : ℕ → ℕ) → to 0 ≡ at 0 → Mirrored n at to 1
-mirrored-first n at to e i l =
-    let z : i ≡ 0 = omega arith in
-    ap to z ∙ e ∙ ap at (sym (ap (mirror n) z))
-
-pub mirrored-next : (n : ℕ) (at : ℕ → ℕ) (l : List ℕ) (j : ℕ) → length l ≡ 64 → 0 < j → j < 64 → Mirrored n at (λ i. get_or l i 0) j
-    → Mirrored n at (λ i. get_or (set l j (at (n - j))) i 0) (j + 1)
-mirrored-next n at l j long some small old i h =
-    by_cases (ℕ_discrete i j)
-    (λ e.
-    ap (λ (x : ℕ). get_or (set l j (at (n - j))) x 0) e ∙ get_or-set_same l j (at (n - j)) 0 (omega arith)
-    ∙ ⊎_elim (λ s. absurd (omega (arith, s.0))) (λ s. ap at (sym s.1)) (mirror_is n j) ∙ ap (λ (x : ℕ). at (mirror n x)) (sym e))
-    (λ f. get_or-set_other l j i (at (n - j)) 0 f ∙ old i (omega arith))

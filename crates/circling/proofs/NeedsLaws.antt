@@ -1,15 +1,14 @@
 -- What racks need to go on, and where it takes them.
 --
 --     distance_below      no rack is a lap away
---     aimed-at            a number of few laps is one to aim at
---     Needing, needing_first, needing_same, needing_next, needing_last    the state of `needs`
+--     Needing, needing_first, needing_next, needing_last    the state of `needs`
 -- Assumes nothing.
 use Prim.Native.Nat.{ℕ, zero, suc, ◌+◌, ◌-◌, ◌*◌, ◌≤◌, ◌<◌}
 use mathlib.Core.Path.{◌≡◌, refl, sym, ap, ◌∙◌}
 use mathlib.Core.List.{List}
 use mathlib.Core.Logic.{by_cases}
 use native.Mathlib.Decide.{ℕ_discrete}
-use native.Mathlib.Nat.{mul-le-mul_left, mul-suc}
+use native.Mathlib.Nat.{mul-suc}
 use native.Mathlib.Omega.{arith}
 use lib.ListN.{get_or, set, length, length-set, replicate}
 use lib.Seq.{get_or-set_same, get_or-set_other}
@@ -17,20 +16,11 @@ use Rattle.ring.specs.Order.{Rack, Places, distance}
 use Rattle.graph.specs.Rows.{row}
 use Rattle.ring.proofs.OrderLaws.{first, ahead_below}
 use Rattle.circling.specs.Lands.{total}
-use Rattle.circling.specs.Needs.{reach, Aimed, Needs}
+use Rattle.circling.specs.Needs.{reach, Needs}
 use Rattle.circling.proofs.LandsLaws.{total-set, total_none}
 
 pub distance_below : {n m : ℕ} {p : ℕ → ℕ} → Places n m p → (r : ℕ) → Rack m r → distance n p r < n
 distance_below {n} {m} {p} v r k = ahead_below n (p 1) (p r) (v.below 1 (first k)) (v.below r k)
-
-pub aimed-at : (n b j w c : ℕ) → n ≤ 64 → 2 * n ≤ b → b < 3 * n → j < n → w ≤ 4 → c ≡ j + n * w → Aimed n b j c
-aimed-at n b j w c few low high l most e =
-    let lap : n * w ≤ n * 4 = mul-le-mul_left n most in
-    record {
-      lands = record { laps = w; is = e };
-      there = record { first = omega arith; second = omega arith; near = omega arith };
-      back = record { first = omega arith; second = omega arith; near = omega arith };
-    }
 
 pub none_at : (k i : ℕ) → row (replicate k 0) i ≡ 0
 none_at zero i = refl
@@ -60,23 +50,6 @@ module _ (n m b : ℕ) (p : ℕ → ℕ) (c : ℕ) (g : ℕ → ℕ) where
       }
 
   module _ {l : List ℕ} {r : ℕ} (v : Needing l r) (more : r ≤ m) (less : m < 64) (near : reach n c g r ≤ reach n b p r + 4 * n) where
-    pub needing_same : reach n c g r ≤ reach n b p r → Needing l (r + 1)
-    needing_same enough =
-        record {
-          some = omega arith;
-          most = omega arith;
-          long = v.long;
-          none = v.none;
-          rest = λ q h. v.rest q (omega arith);
-          each = λ q k h.
-              by_cases (ℕ_discrete q r)
-              (λ e. v.rest q (omega arith) ∙ (let z : reach n c g r - reach n b p r ≡ 0 = omega arith in
-              sym (ap (λ (x : ℕ). reach n c g x - reach n b p x) e ∙ z)))
-              (λ f. v.each q k (omega arith));
-          few = (let w = v.few in let o = mul-suc (4 * n) r in let e : suc r ≡ r + 1 = omega arith in
-              let x : 4 * n * suc r ≡ 4 * n * (r + 1) = ap (λ (y : ℕ). 4 * n * y) e in omega arith);
-        }
-
     pub needing_next : Needing (set l r (reach n c g r - reach n b p r)) (r + 1)
     needing_next =
         let x = reach n c g r - reach n b p r in

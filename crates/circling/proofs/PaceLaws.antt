@@ -17,7 +17,7 @@ use Rattle.ring.specs.Standing.{OnCircle}
 use Rattle.ring.proofs.CircleLaws.{next_is, next_below, circle_one}
 use Rattle.moving.specs.OnePlace.{Passed}
 use Rattle.circling.specs.Lands.{Lands}
-use Rattle.circling.specs.Drive.{Ready, Paced, Driveable, Driven}
+use Rattle.circling.specs.Drive.{Ready, Driveable, Driven}
 use Rattle.circling.proofs.LandsLaws.{ahead-next, ahead_before, ahead_one, lands_next, lands_self}
 
 pub record Underway (n : ℕ) (at d h e k : ℕ → ℕ) : Type 0 where

@@ -8,7 +8,7 @@
 --     on_driveable, back_driveable, settled    driven on, driven back, and then each stands at its goal
 --     few_moves                    how many moves it takes
 -- Assumes nothing.
-use Prim.Native.Nat.{ℕ, zero, suc, ◌+◌, ◌-◌, ◌*◌, ◌≤◌, ◌<◌}
+use Prim.Native.Nat.{ℕ, ◌+◌, ◌-◌, ◌*◌, ◌≤◌, ◌<◌}
 use mathlib.Core.Path.{◌≡◌, refl, sym, ap, subst, ◌∙◌}
 use mathlib.Core.List.{List}
 use mathlib.Core.Logic.{◌≢◌, ⊎_elim, by_cases}
@@ -18,15 +18,14 @@ use native.Mathlib.Omega.{arith}
 use Rattle.sets.proofs.CountLaws.{pigeonhole}
 use Rattle.graph.specs.Walk.{Symmetric}
 use Rattle.ring.specs.Circle.{Circle, next}
-use Rattle.ring.specs.Order.{Rack, Places, ahead, distance, SameOrder}
-use Rattle.graph.specs.Rows.{row}
+use Rattle.ring.specs.Order.{Rack, ahead, SameOrder}
 use Rattle.ring.specs.Standing.{OnCircle, StandAt}
 use Rattle.ring.proofs.CircleLaws.{place?, next_is, circle_one, circle-next}
-use Rattle.ring.proofs.OrderLaws.{first, ahead_is, ahead_below, order_kept}
+use Rattle.ring.proofs.OrderLaws.{first, ahead_is, order_kept}
 use Rattle.ring.proofs.StandingLaws.{stand_one}
 use Rattle.circling.specs.Lands.{Lands, mirror}
 use Rattle.circling.specs.Drive.{Paced, Driveable, Driven}
-use Rattle.circling.specs.Needs.{reach, Needs, round_moves}
+use Rattle.circling.specs.Needs.{reach, round_moves}
 use Rattle.circling.specs.Lands.{total}
 use Rattle.circling.proofs.LandsLaws.{laps_apart, lands_one, lands_then, lands_mirror, mirror_is, mirror_below, mirror_back}
 use Rattle.circling.proofs.NeedsLaws.{distance_below}

@@ -3,14 +3,14 @@
 --
 --     Circled n at          some floor has the circle
 --     Ready n at d h i      the rack at place i needs to go on, and the next place is vacant
---     Found n at d h i      place i is ready; with i = n none is
+--     Found n at d h r      the answer r is a place that is ready; or none is
 --     Paced n at d h        no rack that needs to go on is in the way of one behind it: it goes on as far, or its place is far enough
 --     Driveable n m at d h  the racks 1 to m, with a vacancy among them, so paced
 --     Driven n at d h k     in k each rack stands as many places on from its place in h as it needs
 --     TripRound n at c s t s' t'    a trip on every floor that has the circle
 --     TripOnRing n at c s t s' t'   a trip on every ring that has it
 -- Assumes nothing.
-use Rattle.std.specs.Prelude.{ℕ, ◌+◌, ◌≤◌, ◌<◌, ◌≡◌, List, ◌≢◌}
+use Rattle.std.specs.Prelude.{ℕ, ◌+◌, ◌≤◌, ◌<◌, ◌≡◌, List, ◌≢◌, Option, MatchOption}
 use Rattle.graph.specs.Rows.{Edge, Rows}
 use Rattle.ring.specs.Circle.{Circle, next}
 use Rattle.ring.specs.Order.{ahead}
@@ -26,10 +26,8 @@ pub record Ready (n : ℕ) (at d h : ℕ → ℕ) (i : ℕ) : Type 0 where
   pub needs : 0 < d (h (at i))
   pub vacant : h (at (next n i)) ≡ 0
 
-pub record Found (n : ℕ) (at d h : ℕ → ℕ) (i : ℕ) : Type 0 where
-  pub most : i ≤ n
-  pub ready : i < n → Ready n at d h i
-  pub none : i ≡ n → (j : ℕ) → j < n → Ready n at d h j → ⊥
+abbrev pub Found : ℕ → (ℕ → ℕ) → (ℕ → ℕ) → (ℕ → ℕ) → Option ℕ → Type 0
+Found n at d h r = MatchOption r ((j : ℕ) → j < n → Ready n at d h j → ⊥) (λ i. (i < n) × Ready n at d h i)
 
 pub record Paced (n : ℕ) (at d h : ℕ → ℕ) : Type 0 where
   pub idle : d 0 ≡ 0

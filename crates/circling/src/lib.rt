@@ -7,7 +7,7 @@ ghost use Rattle.std.specs.Prelude.{◌≡◌, ℕ, ◌*◌, ◌≤◌, ◌<◌,
 ghost use Rattle.ring.specs.Order.{Rack, Places};
 ghost use Rattle.graph.specs.Rows.{row};
 ghost use Rattle.ring.specs.Standing.{OnCircle};
-ghost use Rattle.moving.specs.Journey.{unlogged, Space};
+ghost use Rattle.moving.specs.Journey.{Space};
 ghost use Rattle.circling.specs.Lands.{mirror, total};
 ghost use Rattle.circling.specs.Drive.{Circled, Found, Driveable, Driven, TripRound, TripOnRing};
 ghost use Rattle.circling.specs.Needs.{Bases, Numbered, Aimed, Needs, RoundAlike, round_moves};
@@ -21,68 +21,47 @@ fn reversed(circle: &[u8; 64], n: usize) -> [u8; 64]
 {
     let mut back = [0u8; 64];
     back[0] = circle[0];
-    let mut j: usize = 1;
-    while j < n {
+    for j in 1..n {
         back[j] = circle[n - j];
-        j += 1;
     }
     back
 }
 
-// A place whose rack needs to go on, and may: the next place is vacant. n where there is none.
-fn find(circle: &[u8; 64], n: usize, need: &[u16; 64], racks: &[u8; 64]) -> usize
+// The first place whose rack needs to go on, and may: the next place is vacant.
+fn find(circle: &[u8; 64], n: usize, need: &[u16; 64], racks: &[u8; 64]) -> Option<usize>
     requires n_bound { n ≤ 64 }
     requires by_index { (i : ℕ) → i < n → row circle.now i < n }
     requires by_index_2 { (i : ℕ) → i < n → row racks.now (row circle.now i) < 64 }
     ensures { Found n (row circle.now) (row need.now) (row racks.now) result }
 {
-    let mut i: usize = 0;
-    while i < n {
+    for i in 0..n {
         let a = circle[i] as usize;
         let b = circle[ring::next(n, i)] as usize;
         let rack = racks[a] as usize;
-        if racks[b] == 0 {
-            if need[rack] != 0 {
-                return i;
-            }
+        if racks[b] == 0 && need[rack] != 0 {
+            return Some(i);
         }
-        i += 1;
     }
-    n
+    None
 }
 
-// Drives each rack on round the circle by as many places as it needs: again and again one that may go on does. Yields how many moves the
-// plan has.
-fn drive(
-    circle: &[u8; 64],
-    n: usize,
-    need: [u16; 64],
-    real: usize,
-    racks: &mut [u8; 64],
-    tail: &mut [u8],
-    written: usize,
-) -> usize
+// Drives each rack on round the circle by as many places as it needs: again and again one that may go on does.
+fn drive(circle: &[u8; 64], n: usize, need: [u16; 64], state: &mut State, tail: &mut [u8])
     requires circled { Circled n (row circle.now) }
-    requires driveable { Driveable n real (row circle.now) (row need) (row racks.old) }
+    requires driveable { Driveable n state.old.real (row circle.now) (row need) (row state.old.racks) }
     requires need_len { length need ≡ 64 }
-    requires space { Space (unlogged racks.old real written) tail.old (total need) }
-    ensures trip_round { TripRound n (row circle.now) (total need) (unlogged racks.old real written) tail.old
-        (unlogged racks.new real result) tail.new }
-    ensures driven { Driven n (row circle.now) (row need) (row racks.old) (row racks.new) }
-    ensures on_circle { OnCircle n real (row circle.now) (row racks.new) }
+    requires space { Space state.old tail.old (total need) }
+    ensures trip_round { TripRound n (row circle.now) (total need) state.old tail.old state.new tail.new }
+    ensures driven { Driven n (row circle.now) (row need) (row state.old.racks) (row state.new.racks) }
+    ensures on_circle { OnCircle n state.old.real (row circle.now) (row state.new.racks) }
 {
     let mut need = need;
-    let mut written = written;
-    loop {
-        let i = find(circle, n, &need, racks);
-        if n <= i {
-            return written;
-        }
+    while let Some(i) = find(circle, n, &need, &state.racks) {
         let a = circle[i] as usize;
         let b = circle[ring::next(n, i)] as usize;
-        let rack = racks[a] as usize;
-        need[rack] = need[rack] - 1;
-        written = moving::move_rack(a, b, real, racks, tail, written);
+        let rack = state.racks[a] as usize;
+        need[rack] -= 1;
+        moving::move_rack(a, b, state, tail);
     }
 }
 
@@ -106,14 +85,10 @@ fn needs(n: usize, m: usize, from: usize, p: &[u8; 64], to: usize, g: &[u8; 64])
     ensures { Needs n m from (row p.now) to (row g.now) result }
 {
     let mut need = [0u16; 64];
-    let mut r: usize = 1;
-    while r <= m {
+    for r in 1..=m {
         let x = reach(n, m, from, p, r);
         let y = reach(n, m, to, g, r);
-        if x < y {
-            need[r] = (y - x) as u16;
-        }
-        r += 1;
+        need[r] = y.saturating_sub(x) as u16;
     }
     need
 }
@@ -126,16 +101,10 @@ fn cost(n: usize, m: usize, from: usize, p: &[u8; 64], to: usize, g: &[u8; 64]) 
     requires places_2 { Places n m (row g.now) }
 {
     let mut sum: usize = 0;
-    let mut r: usize = 1;
-    while r <= m {
+    for r in 1..=m {
         let x = reach(n, m, from, p, r);
         let y = reach(n, m, to, g, r);
-        if x < y {
-            sum += y - x;
-        } else {
-            sum += x - y;
-        }
-        r += 1;
+        sum += x.abs_diff(y);
     }
     sum
 }
@@ -150,18 +119,15 @@ fn aim(n: usize, m: usize, from: usize, p: &[u8; 64], g: &[u8; 64]) -> usize
     requires places_2 { Places n m (row g.now) }
     ensures { Aimed n from (row g.now 1) result }
 {
-    let mut to = g[1] as usize;
-    let mut best = to;
-    let mut least = cost(n, m, from, p, to, g);
-    let mut lap: usize = 1;
-    while lap < 5 {
-        to += n;
+    let mut best = g[1] as usize;
+    let mut least = cost(n, m, from, p, best, g);
+    for lap in 1..5 {
+        let to = g[1] as usize + n * lap;
         let moves = cost(n, m, from, p, to, g);
         if moves < least {
             least = moves;
             best = to;
         }
-        lap += 1;
     }
     best
 }
@@ -179,21 +145,15 @@ pub fn solve(circle: &[u8; 64], n: usize, goal: &[u8; 64], state: State, tail: &
     ensures by_index { (i : ℕ) → i < n
         → row result.racks (row circle.now i) ≡ row goal.now (row circle.now i) }
 {
-    let real = state.real;
-    let mut racks = state.racks;
-    let p = ring::places(circle, n, &racks);
+    let mut state = state;
+    let p = ring::places(circle, n, &state.racks);
     let g = ring::places(circle, n, goal);
     let from = p[1] as usize + 2 * n;
-    let to = aim(n, real, from, &p, &g);
-    let on = needs(n, real, from, &p, to, &g);
-    let back = needs(n, real, to, &g, from, &p);
-    let before = drive(circle, n, on, real, &mut racks, tail, state.written);
+    let to = aim(n, state.real, from, &p, &g);
+    let on = needs(n, state.real, from, &p, to, &g);
+    let back = needs(n, state.real, to, &g, from, &p);
+    drive(circle, n, on, &mut state, tail);
     let other = reversed(circle, n);
-    let written = drive(&other, n, back, real, &mut racks, tail, before);
-    State {
-        racks,
-        real,
-        written,
-        logged: state.logged,
-    }
+    drive(&other, n, back, &mut state, tail);
+    state
 }

@@ -170,19 +170,22 @@ module _ (o B f : List ℕ) (k : ℕ) (b : List ℕ) (w : Overwritten o B f k b)
       ∙ ap (λ (l : List ℕ). written l 0 (take (length stood.plan) B)) stood.stands
       ∙ put_back B stood.plan stood.room
 
-  pub back_fits : Fits b 0 f
-  back_fits = record { room = omega (arith, lengths.0) }
-
   module _ (q : List ℕ) (bytes : Bytes q) (i : Improves o (take (length f) b) q) where
     better : Improves o stood.plan q
     better = subst (λ (p : List ℕ). Improves o p q) front_plan i
 
-    pub found_fits : Fits (written b 0 f) 0 q
-    found_fits = rw back (improved_fits o B k b stood w.some q bytes better)
+    pub found_room : {x : List ℕ} → x ≡ f → length q ≤ length (x ++ drop (length f) b)
+    found_room e =
+        let fits = improved_fits o B k b stood w.some q bytes better in
+        rw (e, ← written_front b f, back) (omega (arith, fits.room))
 
-    pub replaced : Chosen o B (accepted (move_count q ∷ [])) (written (written b 0 f) 0 q)
-    replaced =
-        subst (λ (l : List ℕ). Chosen o B (accepted (move_count q ∷ [])) (written l 0 q)) (sym back)
+    pub found_taken : {x : List ℕ} → x ≡ f → length (take (length q) (x ++ drop (length f) b)) ≡ length q
+    found_taken {x} e = let room = found_room e in omega (arith, length-take (length q) (x ++ drop (length f) b), room)
+
+    pub replaced : {x y : List ℕ} → x ≡ f → y ≡ q
+        → Chosen o B (accepted (move_count q ∷ [])) (y ++ drop (length q) (x ++ drop (length f) b))
+    replaced ex ey =
+        rw (ex, ey, ← written_front b f, back, ← written_front B q)
         (improved stood.plan q
         (subst (λ (n : ℕ). PlanMade o B (accepted (n ∷ [])) (written B 0 stood.plan)) (sym stood.counted)
         (subst (PlanMade o B (accepted (k ∷ []))) stood.stands w.plan_made))
@@ -190,4 +193,4 @@ module _ (o B f : List ℕ) (k : ℕ) (b : List ℕ) (w : Overwritten o B f k b)
 
 pub one_to_give : {o B B' : List ℕ} {a : Answer} → Chosen o B a B' → PlanMade o B a B'
 one_to_give (as_planned plan_made) = plan_made
-one_to_give (improved p q first better second) = second
+one_to_give (improved p q first _ second) = second

@@ -3,19 +3,22 @@
 --     cubes                what an order's count of positions is multiplied to fits a word
 --     steps_told           a count of steps tells that the plan checker accepts the plan, and is the making rule's
 --     not_counted          a plan that the plan checker accepts is not refused a count
---     no_plan, edition_one, too_long, longer, no_shorter    no improvement: no plan, one of edition one, of too many moves, of more
---                          steps, or of as many steps and no fewer moves
---     in_fewer_steps, by_fewer_moves    an improvement
+--     no_plan, edition_one, too_long    no improvement: no plan, one of edition one, or one of too many moves
+--     decided              else the steps decide, and then the moves
 -- Assumes nothing.
 use Prim.Native.Nat.{ℕ, ◌*◌, ◌≤◌, ◌<◌}
 use mathlib.Core.Path.{◌≡◌, refl, sym, ap, ◌∙◌}
-use mathlib.Core.Bool.{true, false}
+use mathlib.Core.Bool.{Bool, true, false}
 use mathlib.Core.Logic.{◌↔◌}
-use mathlib.Core.List.{List, [], ◌∷◌, head-eq_of_cons-eq}
+use mathlib.Core.List.{List, [], ◌∷◌}
 use native.Mathlib.Nat.{mul-le-mul_right, le_of_lt}
 use native.Mathlib.Omega.{arith}
 use lib.ListN.{length}
-use Rattle.answers.specs.Answer.{Answer, accepted, refused}
+use Rattle.std.specs.Prelude.{Some}
+use Rattle.std.proofs.Common.{Ordering, Less, Equal, Greater}
+use Rattle.std.specs.Ordering.{nat_cmp, partial_ordering_then, partial_lt, is_some_and, is_lt}
+use Rattle.std.proofs.lemmas.Cmp.{ranked}
+use Rattle.answers.specs.Answer.{accepted, refused}
 use Rattle.answers.proofs.AnswerLaws.{pass_up-low, pass_up-high, pass_up_accepted}
 use Rattle.field.proofs.BitLaws.{field_lt}
 use Rattle.order.specs.Order.{position_count}
@@ -82,23 +85,33 @@ module _ (o p q : List ℕ) where
       improves : Better o p q → Improves o p q
       improves better = record { edition_two = two; checked = is_plan; few = rw (← en, ← em) few; better = better }
 
-      pub in_fewer_steps : t < s → Improves o p q
-      in_fewer_steps less = improves (fewer_steps (rw (← et, ← es) less))
-
       better_not : Better o p q → s < t → ⊥
       better_not (fewer_steps less) more = omega (arith, es, et)
       better_not (fewer_moves same less) more = omega (arith, es, et)
 
-      pub longer : s < t → Improves o p q → ⊥
-      longer more i = better_not i.better more
+      module _ (k : ℕ) (ek : k ≡ move_count p) where
+        not_better : s ≡ t → Better o p q → k ≤ m → ⊥
+        not_better as_many (fewer_steps less) more = omega (arith, es, et)
+        not_better as_many (fewer_moves same less) more = omega (arith, em, ek)
 
-      module _ (k : ℕ) (ek : k ≡ move_count p) (at_least_lem : s ≤ t) (at_most : t ≤ s) where
-        pub by_fewer_moves : m < k → Improves o p q
-        by_fewer_moves less = improves (fewer_moves (omega (arith, es, et)) (rw (← em, ← ek) less))
+        by_order : (x : Ordering) → x ≡ nat_cmp t s → (y : Ordering) → y ≡ nat_cmp m k
+            → (is_some_and is_lt (partial_ordering_then (Some x) (Some y)) ≡ true) ↔ Improves o p q
+        by_order Less first y second = let less = ranked t s Less first in so (improves (fewer_steps (rw (← et, ← es) less)))
+        by_order Equal first Less second =
+            let same = ranked t s Equal first in
+            let less = ranked m k Less second in
+            so (improves (fewer_moves (omega (arith, es, et)) (rw (← em, ← ek) less)))
+        by_order Equal first Equal second =
+            let same = ranked t s Equal first in
+            let as_many = ranked m k Equal second in
+            not_so (λ i. not_better (sym same) i.better (omega arith))
+        by_order Equal first Greater second =
+            let same = ranked t s Equal first in
+            let more = ranked m k Greater second in
+            not_so (λ i. not_better (sym same) i.better (omega arith))
+        by_order Greater first y second = let more = ranked t s Greater first in not_so (λ i. better_not i.better more)
 
-        not_better : Better o p q → k ≤ m → ⊥
-        not_better (fewer_steps less) more = omega (arith, es, et)
-        not_better (fewer_moves same less) more = omega (arith, em, ek)
-
-        pub no_shorter : k ≤ m → Improves o p q → ⊥
-        no_shorter more i = not_better i.better more
+        pub decided : {b : Bool}
+            → b ≡ partial_lt (λ (x y : ℕ × ℕ). partial_ordering_then (Some (nat_cmp x.0 y.0)) (Some (nat_cmp x.1 y.1))) (t, m) (s, k)
+            → (b ≡ true) ↔ Improves o p q
+        decided e = rw e (by_order (nat_cmp t s) refl (nat_cmp m k) refl)

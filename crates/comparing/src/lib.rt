@@ -9,20 +9,16 @@ ghost use Rattle.plan.specs.Plan.{move_count, plan_answer};
 ghost use Rattle.comparing.specs.Choosing.{Improves, Chosen};
 ghost use Rattle.comparing.specs.Overwriting.{Overwritten, SomeBuffer};
 
-use scheduling::MakerVerdict;
-
 // May the plan that was found stand in the place of the proved method's? It has to be a plan of edition two for the order, with no more
 // moves than demand 3 allows, and its timetable has to be shorter, or as long with fewer moves.
 fn improves(order: &[u8], proved: &[u8], found: &[u8]) -> bool
     requires { plan_answer order.now proved.now ≡ accepted (move_count proved.now ∷ []) }
     ensures { (result ≡ true) ↔ Improves order.now proved.now found.now }
 {
-    let made = scheduling::count_steps(order, proved);
-    let MakerVerdict::Accepted(steps) = made else {
+    let Ok(steps) = scheduling::count_steps(order, proved) else {
         return false;
     };
-    let other = scheduling::count_steps(order, found);
-    let MakerVerdict::Accepted(fewer) = other else {
+    let Ok(fewer) = scheduling::count_steps(order, found) else {
         return false;
     };
     if !plan::names_racks(found) {
@@ -33,17 +29,7 @@ fn improves(order: &[u8], proved: &[u8], found: &[u8]) -> bool
     if 8 * (n * (n * n)) < moves {
         return false;
     }
-    if fewer < steps {
-        return true;
-    }
-    if steps < fewer {
-        return false;
-    }
-    let most = field::count_at_head(proved);
-    if moves < most {
-        return true;
-    }
-    false
+    (fewer, moves) < (steps, field::count_at_head(proved))
 }
 
 // A plan of k moves stands in the buffer, and its bytes were kept as they had been before. Leaves it there, or puts the bytes back and
@@ -53,11 +39,10 @@ pub fn take_better(order: &[u8], kept: &[u8], found: &[u8], k: usize, buffer: &m
     ensures { (B : List ℕ) → Overwritten order.now B kept.now k buffer.old
         → Chosen order.now B (accepted (result ∷ [])) buffer.new }
 {
-    let length = kept.len();
-    if !improves(order, &buffer[..length], found) {
+    if !improves(order, &buffer[..kept.len()], found) {
         return k;
     }
-    writers::put_bytes(kept, buffer, 0);
-    writers::put_bytes(found, buffer, 0);
+    buffer[..kept.len()].copy_from_slice(kept);
+    buffer[..found.len()].copy_from_slice(found);
     field::count_at_head(found)
 }

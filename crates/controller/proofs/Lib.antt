@@ -1,2 +1,3 @@
 pub mod AnswerSizes
+pub mod Judgements
 pub mod LiveCalls

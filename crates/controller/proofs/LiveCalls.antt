@@ -20,8 +20,7 @@ module _ (k : Kind) (P : Picture) (o t : List ℕ) {r role : Role} (is : r ≡ r
   call-told answered told =
       subst (λ (x : Answer). Tells one_count floor_steps_of x n) (answered ∙ ap (λ (x : Role). call_answer k x P o t) is) told
 
-  pub floor_called : {Q R : Picture} → (a ≡ call_answer k r P o t) × (Q ≡ picture_after k r P o t)
-      → Tells one_count floor_steps_of a n × (R ≡ Q)
-      → Tells one_count floor_steps_of (call_answer k role P o t) n × (R ≡ picture_after k role P o t)
+  pub floor_called : {Q : Picture} → (a ≡ call_answer k r P o t) × (Q ≡ picture_after k r P o t) → Tells one_count floor_steps_of a n
+      → Tells one_count floor_steps_of (call_answer k role P o t) n × (Q ≡ picture_after k role P o t)
   floor_called made told =
-      (call-told made.0 told.0, told.1 ∙ made.1 ∙ ap (λ (x : Role). picture_after k x P o t) is)
+      (call-told made.0 told, made.1 ∙ ap (λ (x : Role). picture_after k x P o t) is)

@@ -16,8 +16,10 @@ use borrow.Author.Tests.{lt-ltb, le-ltb}
 use lib.Dec.{ltb}
 use lib.ListN.{length, take, drop, replicate, length-append, length-drop}
 use lib.Seq.{length-take-le}
-use Rattle.answers.specs.Answer.{Answer, accepted, refused, refuse, pass_up}
-use Rattle.answers.proofs.AnswerLaws.{pass_up_accepted, pass_up-high, refuse_else}
+use Rattle.std.specs.Prelude.{Result, IsErrAnd}
+use Rattle.answers.specs.Answer.{Answer, accepted, refused, refused_by, refuse, pass_up, the_count}
+use Rattle.answers.specs.declared.Refusal.{Refusal}
+use Rattle.answers.proofs.AnswerLaws.{pass_up_accepted, pass_up-high, refuse_else, handed_up}
 use Rattle.field.proofs.BitLaws.{field_lt}
 use Rattle.field.specs.Bits.{positions}
 use Rattle.recording.specs.Head.{head_bytes}
@@ -35,12 +37,12 @@ use Rattle.order.proofs.TailLaws.{tail-starts}
 use Rattle.motion.specs.Replay.{listed}
 use Rattle.tables.proofs.TablesLaws.{Holds}
 use Rattle.tables.proofs.TableLaws.{placed-holds}
-use Rattle.plan.specs.Plan.{spare_bits, plan_bytes, plan_record, named, move_count, plan_moves, plan_answer}
+use Rattle.plan.specs.Plan.{spare_bits, plan_record, named, move_count, plan_moves, plan_answer}
 use Rattle.plan_check.proofs.Accepted.{PlanGave, gave, count_is, count_below, tail-moves}
 use Rattle.plan.proofs.Listing.{length_listing, listing_fits}
 use Rattle.plan.proofs.PlanRecord.{length_record, record_parts, moves-counted}
 use Rattle.converting.specs.Listing.{tabled, Held}
-use Rattle.converting.specs.Converter.{converted_of, converter_answer, buffer_after}
+use Rattle.converting.specs.Converter.{converted_of, converter_answer, buffer_after, answer_of}
 use Rattle.converting.proofs.Tabling.{tabled-listed, leads_held}
 
 module _ (o p B : List ℕ) where
@@ -48,15 +50,14 @@ module _ (o p B : List ℕ) where
   unfolding buffer_after
   after_refusal n q e = sym (ap (λ (a : Answer). left_by a (converted_of o p) B) e)
 
-  pub converter_refused : (a r : Answer) (n q : ℕ) → a ≡ plan_answer o p → a ≡ refused n q → r ≡ pass_up a (accepted (0 ∷ []))
-      → (r ≡ converter_answer o p (length B)) × (B ≡ buffer_after o p B)
+  -- r is what `?` makes of the plan checker's refusal e
+  pub converter_refused : (r : Result ℕ Refusal) (e : Refusal) → IsErrAnd r (λ x. x ≡ e) → refused_by e.0 e.1 ≡ plan_answer o p
+      → (answer_of r ≡ converter_answer o p (length B)) × (B ≡ buffer_after o p B)
   unfolding converter_answer
-  converter_refused a r n q ea en er =
-      let below : plan_answer o p ≡ refused n q = sym ea ∙ en in
-      let up : converter_answer o p (length B) ≡ refused n q =
-      ap (λ (x : Answer). pass_up x (refuse (ltb (length B) (length (converted_of o p))) 38 0 (accepted (move_count p ∷ [])))) below in
-      let down : r ≡ refused n q = er ∙ ap (λ (x : Answer). pass_up x (accepted (0 ∷ []))) en in
-      (down ∙ sym up, after_refusal n q up)
+  converter_refused r e is down =
+      let below = refuse (ltb (length B) (length (converted_of o p))) 38 0 (accepted (move_count p ∷ [])) in
+      let up : converter_answer o p (length B) ≡ refused_by e.0 e.1 = ap (λ (x : Answer). pass_up x below) (sym down) in
+      (handed_up the_count r e is down below, after_refusal _ _ up)
 
   module _ (k : ℕ) (e : accepted (k ∷ []) ≡ plan_answer o p) (n : Bool) (edition : n ≡ named p) where
     gives : PlanGave o p (k ∷ [])

@@ -20,7 +20,7 @@ use Rattle.field.proofs.ListedLaws.{size_none, moves_next, length-units, put_beh
 use Rattle.field.proofs.PackingLaws.{length-packed}
 use Rattle.field.proofs.WritingLaws.{written_front, length-written}
 use Rattle.tables.specs.Tables.{moved_on}
-use Rattle.converting.specs.Listing.{tabled, Held, held_none, held_more}
+use Rattle.converting.specs.Listing.{tabled, Held, held_more}
 
 -- room for k moves is room for each of them
 room_end : (e : Bool) (j k n : ℕ) → j < k → (6 * (move_size e * k) + 7) / 8 ≤ n → (6 * (move_size e * (j + 1)) + 7) / 8 ≤ n

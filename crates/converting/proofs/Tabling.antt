@@ -4,15 +4,14 @@
 --     leads_held       each of the moves leaves a position where the table has a rack
 -- Assumes nothing.
 use Prim.Native.Nat.{ℕ, ◌≤◌}
-use mathlib.Core.Path.{◌≡◌, refl, sym, ap₂, ◌∙◌}
+use mathlib.Core.Path.{◌≡◌, refl, sym, ap₂}
 use mathlib.Core.Bool.{Bool, true, false, cond}
-use mathlib.Core.List.{List, [], ◌∷◌, ◌++◌}
+use mathlib.Core.List.{List, ◌++◌}
 use native.Mathlib.Omega.{arith}
 use lib.ListN.{length, get_or}
 use Rattle.field.specs.Listed.{units, all_units}
 use Rattle.order.specs.Floor.{Floor}
 use Rattle.motion.specs.Arrangement.{Arrangement, rack_at}
-use Rattle.motion.specs.Move.{after_move}
 use Rattle.motion.specs.Replay.{listed}
 use Rattle.motion.specs.Sound.{Sound}
 use Rattle.motion.proofs.ArrangementLaws.{rack_at_finds}

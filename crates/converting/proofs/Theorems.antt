@@ -3,22 +3,17 @@
 --     there_and_back     of every accepted plan, of either edition: in the other edition it is accepted too, and converted back it is
 --                        restored
 -- Assumes nothing.
-use Prim.Native.Nat.{ℕ, ◌*◌, ◌^◌, ◌≤◌, ◌<◌}
+use Prim.Native.Nat.{ℕ, ◌≤◌}
 use mathlib.Core.Path.{◌≡◌, refl, sym, ap, ap₂, ◌∙◌}
 use mathlib.Core.Bool.{Bool, true, false, not}
 use mathlib.Core.List.{List, [], ◌∷◌}
 use borrow.Author.Tests.{le-ltb}
 use lib.ListN.{length}
-use lib.Dec.{ltb}
-use Rattle.answers.specs.Answer.{Answer, accepted, refuse}
-use Rattle.answers.proofs.AnswerLaws.{pass_up_accepted}
+use Rattle.answers.specs.Answer.{accepted}
 use Rattle.field.specs.Bytes.{Bytes}
-use Rattle.field.specs.Listed.{move_size, moves_of}
-use Rattle.field.specs.Units.{record_length}
-use Rattle.field.specs.Writing.{written, left_by}
+use Rattle.field.specs.Listed.{moves_of}
 use Rattle.order.specs.Order.{rack_count, floor_of, starts_of, goals_of}
-use Rattle.motion.specs.Replay.{listed, replay_moves, ended, trace}
-use Rattle.motion.specs.Move.{after_move}
+use Rattle.motion.specs.Replay.{listed, replay_moves, ended}
 use Rattle.motion.proofs.Lawful.{replay_moves_ended}
 use Rattle.motion.proofs.PebbleLaws.{pebble_replay}
 use Rattle.plan.specs.Plan.{plan_bytes, plan_record, named, move_count, plan_listed, plan_moves, plan_answer}

@@ -6,13 +6,12 @@
 --     buffer_after o p B        the buffer B afterwards
 --     answer_of v               the converter's verdict v as an answer
 -- Assumes nothing.
-use Rattle.std.specs.Prelude.{ℕ, not, List, [], ◌∷◌, length, ltb}
-use Rattle.answers.specs.Answer.{Answer, accepted, refused_by, refuse, pass_up}
+use Rattle.std.specs.Prelude.{ℕ, not, List, [], ◌∷◌, length, ltb, Result}
+use Rattle.answers.specs.Answer.{Answer, accepted, refuse, pass_up, the_count, answer_by}
 use Rattle.field.specs.Writing.{left_by}
 use Rattle.order.specs.Order.{starts_of}
 use Rattle.plan.specs.Plan.{named, move_count, plan_moves, plan_record, plan_answer}
-use Rattle.converting.specs.declared.ConverterVerdict.{ConverterVerdict}
-use Rattle.converting.specs.declared.ConverterVerdict.TheVariants.{Accepted, Refused}
+use Rattle.answers.specs.declared.Refusal.{Refusal}
 
 unfoldable pub converted_of : List ℕ → List ℕ → List ℕ
 converted_of o p = plan_record (not (named p)) (starts_of o) (plan_moves p)
@@ -28,6 +27,5 @@ converter_answer o p n =
 unfoldable pub buffer_after : List ℕ → List ℕ → List ℕ → List ℕ
 buffer_after o p B = left_by (converter_answer o p (length B)) (converted_of o p) B
 
-abbrev pub answer_of : ConverterVerdict → Answer
-answer_of (Accepted moves) = accepted (moves ∷ [])
-answer_of (Refused f place) = refused_by f place
+abbrev pub answer_of : Result ℕ Refusal → Answer
+answer_of = answer_by the_count

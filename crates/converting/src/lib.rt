@@ -2,17 +2,14 @@
 // afterwards, specs/Theorems.antt what is proved of going there and back; `convert` is the entry point.
 #![tactic(auto)]
 
-ghost use Rattle.std.specs.Prelude.{◌≡◌, not, [], ◌∷◌, ◌+◌, ◌*◌, ◌/◌, ◌^◌, ◌≤◌, ◌<◌, length};
-ghost use Rattle.answers.specs.Answer.{accepted, PassedUp};
+ghost use Rattle.std.specs.Prelude.{◌≡◌, not, ◌+◌, ◌*◌, ◌/◌, ◌^◌, ◌≤◌, ◌<◌, length};
 ghost use Rattle.field.specs.Listed.{move_size, moves_at, all_units};
 ghost use Rattle.field.specs.Packing.{pack_positions};
 ghost use Rattle.field.specs.Writing.{written};
-ghost use Rattle.plan.specs.Verdict.{answer_of as plan_answer_of};
 ghost use Rattle.converting.specs.Listing.{tabled, Held};
 ghost use Rattle.converting.specs.Converter.{converter_answer, buffer_after, answer_of};
 
-use answers::Fault;
-use plan::PlanVerdict;
+use answers::{Fault, Refusal};
 
 // Lists the k moves of a plan's tail in the other edition at the front of the room. The racks are moved along on their table, where a
 // move's rack is found when it leaves its position.
@@ -24,54 +21,32 @@ fn list_moves(tail: &[u8], named: bool, k: usize, racks: &mut [u8; 64], room: &m
         (pack_positions (all_units (not named) (tabled racks.old (moves_at named tail.now 0 k)))) }
 {
     let other = !named;
-    let mut j = 0;
-    while j < k {
+    for j in 0..k {
         let step = field::move_at(tail, named, j);
         let a = step.first;
         let b = step.second;
         let rack = racks[a];
-        recording::put_listed(room, other, j, a, b, field::wide(rack));
+        recording::put_listed(room, other, j, a, b, usize::from(rack));
         racks[a] = 0;
         racks[b] = rack;
-        j += 1;
-    }
-}
-
-// The verdict of the converter: specs/Converter.antt gives it the number and the values.
-#[derive(Clone, Copy)]
-pub enum ConverterVerdict {
-    Accepted(usize),
-    Refused(Fault, u32),
-}
-
-// The plan checker's verdict as the converter's: the same fault at the same place, or no moves yet.
-fn passed_up(plan: PlanVerdict) -> ConverterVerdict
-    ensures { PassedUp plan_answer_of plan (accepted (0 ∷ [])) (answer_of result) }
-{
-    match plan {
-        PlanVerdict::Accepted(_) => ConverterVerdict::Accepted(0),
-        PlanVerdict::Refused(fault, place) => ConverterVerdict::Refused(fault, place),
     }
 }
 
 // Writes a plan for an order in the other edition at the front of the buffer: the plan checker's numbers, then 38.
-pub fn convert(order: &[u8], plan: &[u8], buffer: &mut [u8]) -> ConverterVerdict
+pub fn convert(order: &[u8], plan: &[u8], buffer: &mut [u8]) -> Result<usize, Refusal>
     ensures result_value { answer_of result ≡ converter_answer order.now plan.now (length buffer.old) }
     ensures buffer_after { buffer.new ≡ buffer_after order.now plan.now buffer.old }
 {
-    let below = plan_check::check(order, plan);
-    let PlanVerdict::Accepted(k) = below else {
-        return passed_up(below);
-    };
+    let k = plan_check::check(order, plan)?;
     let named = plan::names_racks(plan);
     let units = plan::units(!named, k);
     if buffer.len() < 3 + (6 * units + 7) / 8 {
-        return ConverterVerdict::Refused(Fault::ConvertedBuffer, 0);
+        return Err(Refusal(Fault::ConvertedBuffer, 0));
     }
     let counts = order::counts_of(order);
     let mut racks = [0u8; 64];
     decoding::place_racks(&order[3..], 2 * counts.edges, counts.racks, &mut racks);
     list_moves(&plan[3..], named, k, &mut racks, &mut buffer[3..]);
     recording::put_head(buffer, k, plan::spare_bits(!named));
-    ConverterVerdict::Accepted(k)
+    Ok(k)
 }

@@ -4,6 +4,7 @@
 --     plan_of o ms        the record of the moves ms for the order o, in the edition that the planner writes
 --     plan-within        a plan just written ends within its buffer
 --     length-within      so does the timetable that is found in a buffer
+--     found-made         the timetable just made is found
 --     plan-alone         the plan just written, alone
 --     timetable-alone    the timetable just made, alone
 --     every-timetable    of every accepted plan the timetable is made, and accepted
@@ -22,7 +23,7 @@ use borrow.Author.Tests.{le-ltb}
 use lib.ListN.{length, take, drop, length-append}
 use lib.Seq.{take_at}
 use Rattle.answers.specs.Answer.{Answer, accepted, refused}
-use Rattle.answers.proofs.AnswerLaws.{pass_up_accepted}
+use Rattle.answers.proofs.AnswerLaws.{pass_up_accepted, pass_up-low}
 use Rattle.field.specs.Listed.{move_size}
 use Rattle.field.specs.Writing.{written}
 use Rattle.field.proofs.WritingLaws.{written_front}
@@ -87,6 +88,15 @@ length-within T = elim (dec_le 1 (whole_timetable_length T)) [
   | yes some ↦ ((timetable-length_found T).some some).0
   | no none ↦ omega (arith, lt_of_not-le none)
 ]
+
+-- the timetable that the maker made is found in its buffer
+pub found-made : (o p T v : List ℕ) → maker_answer o p (length T) ≡ accepted v → whole_timetable_length (buffer_after o p T) ≡ 0 → ⊥
+unfolding maker_answer
+found-made o p T v e none =
+    let r = timetable_record (made_of o p) in
+    let right = pass_up-low (plan_answer o p) _ v e in
+    let whole = (record_well_packed (made_of o p) (made_packable o p right.0 right.1)).length_right in
+    (timetable-length_found (buffer_after o p T)).none none r (drop (length r) T) (maker_record o p T v e).0 whole
 
 -- the maker and the checker on an accepted plan
 module _ (o p : List ℕ) (k : ℕ) (right : plan_answer o p ≡ accepted (k ∷ [])) (count : move_count p ≡ k)

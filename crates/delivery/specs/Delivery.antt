@@ -8,9 +8,9 @@
 --     TimetableCalled o p k T m c T'    the maker and the checker have answered, and left, what holds of the plan p of k moves
 --     DeliveredBy o P T a P' T'    the order is delivered, and the calls have answered so
 --     DeliversBy o P T a P' T'  every order that can be planned is delivered by the three calls, given such a buffer
---     call_of_maker, call_of_check, answers_of    what the code answers, as these
+--     call_of, answers_of       what the code answers, as these
 -- Assumes nothing.
-use Rattle.std.specs.Prelude.{ℕ, ◌+◌, ◌*◌, ◌≤◌, ◌≡◌, List, [], ◌∷◌, length, take}
+use Rattle.std.specs.Prelude.{ℕ, ◌+◌, ◌*◌, ◌≤◌, ◌≡◌, List, [], ◌∷◌, length, take, Option, None, Some}
 use Rattle.answers.specs.Answer.{Answer, accepted, refused}
 use Rattle.field.specs.Units.{record_length}
 use Rattle.order.specs.Order.{position_count}
@@ -20,10 +20,6 @@ use Rattle.scheduling.specs.Maker.{maker_answer, buffer_after, answer_of as answ
 use Rattle.floor.specs.Plannable.{Plannable}
 use Rattle.planner.specs.Planner.{PlanMade, answer_of as answer_of_planner}
 use Rattle.delivery.specs.Theorems.{timetable_alone, TimetableMade, Delivered}
-use Rattle.delivery.specs.declared.MakerCall.{MakerCall}
-use Rattle.delivery.specs.declared.MakerCall.TheVariants.{NotReached, Answered}
-use Rattle.delivery.specs.declared.CheckCall.{CheckCall}
-use Rattle.delivery.specs.declared.CheckCall.TheVariants.{NotReached as CheckNotReached, Answered as CheckAnswered}
 use Rattle.delivery.specs.declared.Delivery.{Delivery}
 
 pub data Call : Type 0 where
@@ -76,13 +72,14 @@ abbrev pub DeliversBy : List ℕ → List ℕ → List ℕ → Answers → List 
 DeliversBy o P T a P' T' =
     let n = position_count o in Plannable o → 18 * (n * (n * n)) + 3 ≤ length P → DeliveredBy o P T a P' T'
 
-abbrev pub call_of_maker : MakerCall → Call
-call_of_maker NotReached = not_reached
-call_of_maker (Answered v) = answered (answer_of_maker v)
-
-abbrev pub call_of_check : CheckCall → Call
-call_of_check CheckNotReached = not_reached
-call_of_check (CheckAnswered v) = answered (answer_of_check v)
+abbrev pub call_of : {X : Type 0} → (X → Answer) → Option X → Call
+call_of answer_of None = not_reached
+call_of answer_of (Some v) = answered (answer_of v)
 
 abbrev pub answers_of : Delivery → Answers
-answers_of d = record { planner = answer_of_planner d.plan; maker = call_of_maker d.timetable; checker = call_of_check d.check }
+answers_of d =
+    record {
+      planner = answer_of_planner d.plan;
+      maker = call_of answer_of_maker d.timetable;
+      checker = call_of answer_of_check d.check;
+    }

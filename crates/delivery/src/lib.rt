@@ -5,30 +5,15 @@
 
 ghost use Rattle.delivery.specs.Delivery.{Called, DeliversBy, answers_of};
 
-use planner::PlannerVerdict;
-use scheduling::MakerVerdict;
-use timetable::TimetableVerdict;
-
-// What came of the timetable maker's call: it is not reached where the planner refuses.
-#[derive(Clone, Copy)]
-pub enum MakerCall {
-    NotReached,
-    Answered(MakerVerdict),
-}
-
-// What came of the timetable checker's call: it is not reached where the planner or the maker refuses.
-#[derive(Clone, Copy)]
-pub enum CheckCall {
-    NotReached,
-    Answered(TimetableVerdict),
-}
+use answers::Refusal;
+use timetable::Counts;
 
 // The answers of the three calls, side by side. A refusal by the maker is no refusal of them all: the plan stays written.
 #[derive(Clone, Copy)]
 pub struct Delivery {
-    pub plan: PlannerVerdict,
-    pub timetable: MakerCall,
-    pub check: CheckCall,
+    pub plan: Result<usize, Refusal>,
+    pub timetable: Option<Result<usize, Refusal>>,
+    pub check: Option<Result<Counts, Refusal>>,
 }
 
 // Makes the three calls in turn, as far as none refuses, with a buffer lent for the plan and one for the timetable. Each record is handed
@@ -40,27 +25,29 @@ pub fn deliver(order: &[u8], plan: &mut [u8], timetable: &mut [u8]) -> Delivery
         plan.new timetable.new }
 {
     let planned = choosing::make(order, plan);
-    let PlannerVerdict::Planned(moves) = planned else {
+    let Ok(moves) = planned else {
         return Delivery {
             plan: planned,
-            timetable: MakerCall::NotReached,
-            check: CheckCall::NotReached,
+            timetable: None,
+            check: None,
         };
     };
     let plan_end = 3 + (6 * (3 * moves) + 7) / 8;
     let made = scheduling::make(order, &plan[..plan_end], timetable);
-    let MakerVerdict::Accepted(steps) = made else {
+    let Ok(steps) = made else {
         return Delivery {
             plan: planned,
-            timetable: MakerCall::Answered(made),
-            check: CheckCall::NotReached,
+            timetable: Some(made),
+            check: None,
         };
     };
-    let timetable_end = timetable::record_length(timetable);
+    let Some(timetable_end) = timetable::record_length(timetable) else {
+        unreachable!()
+    };
     let checked = timetable_check::check(order, &timetable[..timetable_end]);
     Delivery {
-        plan: PlannerVerdict::Planned(moves),
-        timetable: MakerCall::Answered(MakerVerdict::Accepted(steps)),
-        check: CheckCall::Answered(checked),
+        plan: Ok(moves),
+        timetable: Some(Ok(steps)),
+        check: Some(checked),
     }
 }

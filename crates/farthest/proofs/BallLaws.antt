@@ -8,10 +8,10 @@
 --     Rounds n g l k a b, rounds_begin, rounds_more, rounds_next, rounds_end    the state of `dearest`: the balls l of k moves, and a, b
 --                        the lowest pair that those of one move less miss
 -- Assumes nothing.
-use Prim.Native.Nat.{ℕ, zero, suc, ◌+◌, ◌-◌, ◌≤◌, ◌<◌}
-use mathlib.Core.Path.{◌≡◌, refl, sym, subst, ap, ◌∙◌}
+use Prim.Native.Nat.{ℕ, suc, ◌+◌, ◌-◌, ◌≤◌, ◌<◌}
+use mathlib.Core.Path.{◌≡◌, refl, sym, subst, ◌∙◌}
 use mathlib.Core.List.{List}
-use mathlib.Core.Logic.{◌↔◌, ◌≢◌, ◌⊎◌, inl, inr, ⊎_elim, by_cases}
+use mathlib.Core.Logic.{◌↔◌, ◌≢◌, inl, inr, ⊎_elim, by_cases}
 use native.Mathlib.Decide.{ℕ_discrete, dec_le}
 use native.Mathlib.Omega.{arith}
 use lib.Bits.{bit_or}
@@ -26,7 +26,7 @@ use Rattle.graph.proofs.FewLaws.{at_most_below, walk_few}
 use Rattle.graph.specs.Connected.{Below, Connected}
 use Rattle.graph.specs.Rows.{Edge, Rows}
 use Rattle.farthest.specs.Balls.{Earlier}
-use Rattle.farthest.specs.Balls.{Reached, Alone, Next, Grows, Grown, Missed, Dearest}
+use Rattle.farthest.specs.Balls.{Reached, Alone, Grows, Grown, Missed, Dearest}
 
 pub record Filled (Q : ℕ → ℕ → Type 0) (k : ℕ) (l : List ℕ) : Type 0 where
   pub long : length l ≡ 64

@@ -2,7 +2,7 @@
 // none misses a position. specs/Balls.antt says what that means; `dearest` is the entry point.
 #![tactic(auto)]
 
-ghost use Rattle.std.specs.Prelude.{ℕ, ◌≤◌, ◌<◌, ◌↔◌};
+ghost use Rattle.std.specs.Prelude.{ℕ, ◌≤◌, ◌<◌, ◌↔◌, MatchOption};
 ghost use Rattle.sets.specs.Sets.{Has};
 ghost use Rattle.graph.specs.Connected.{Connected};
 ghost use Rattle.graph.specs.Rows.{Edge, Rows};
@@ -22,10 +22,8 @@ fn alone(n: usize) -> [u64; 64]
     ensures { Alone n result }
 {
     let mut balls = [0u64; 64];
-    let mut u: usize = 0;
-    while u < n {
+    for u in 0..n {
         balls[u] = sets::only(u);
-        u += 1;
     }
     balls
 }
@@ -51,10 +49,8 @@ fn grown(rows: &[u64; 64], balls: &[u64; 64], n: usize) -> [u64; 64]
     ensures { Grown n rows.now balls.now result }
 {
     let mut larger = [0u64; 64];
-    let mut u: usize = 0;
-    while u < n {
+    for u in 0..n {
         larger[u] = grown_ball(rows, balls, u);
-        u += 1;
     }
     larger
 }
@@ -66,24 +62,22 @@ struct Trip {
     goal: usize,
 }
 
-// The lowest position whose ball misses a position of the floor, and the lowest one that it misses; n where every ball is full.
-fn first_missed(balls: &[u64; 64], n: usize) -> Trip
+// The lowest position whose ball misses a position of the floor, and the lowest one that it misses; none where every ball is full.
+fn first_missed(balls: &[u64; 64], n: usize) -> Option<Trip>
     requires { n ≤ 64 }
-    ensures { Missed n balls.now result.start result.goal }
+    ensures { MatchOption result (Missed n balls.now n 0) (λ trip. (trip.start < n) × Missed n balls.now trip.start trip.goal) }
 {
     let all = sets::below(n);
-    let mut from: usize = 0;
-    while from < n {
-        let missed = sets::minus(all, balls[from]);
+    for start in 0..n {
+        let missed = sets::minus(all, balls[start]);
         if missed != 0 {
-            return Trip {
-                start: from,
+            return Some(Trip {
+                start,
                 goal: sets::lowest(missed),
-            };
+            });
         }
-        from += 1;
     }
-    Trip { start: n, goal: 0 }
+    None
 }
 
 // The dearest carry of a connected floor. All balls grow move by move. As long as one is not full, the lowest pair that is missed is dearer
@@ -93,17 +87,16 @@ pub fn dearest(rows: &[u64; 64], n: usize) -> Carry
     ensures { Dearest n (Edge rows.now) result.start result.goal result.moves }
 {
     let mut balls = alone(n);
-    let mut start: usize = 0;
-    let mut goal: usize = 0;
+    let mut trip = Trip { start: 0, goal: 0 };
     let mut moves: usize = 0;
-    loop {
-        let missed = first_missed(&balls, n);
-        if missed.start == n {
-            return Carry { start, goal, moves };
-        }
-        start = missed.start;
-        goal = missed.goal;
+    while let Some(farther) = first_missed(&balls, n) {
+        trip = farther;
         balls = grown(rows, &balls, n);
         moves += 1;
+    }
+    Carry {
+        start: trip.start,
+        goal: trip.goal,
+        moves,
     }
 }

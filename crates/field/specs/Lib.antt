@@ -4,3 +4,4 @@ pub mod Listed
 pub mod Units
 pub mod Packing
 pub mod Writing
+pub mod PlanMoves

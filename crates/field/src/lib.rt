@@ -14,13 +14,6 @@ pub struct Pair {
     pub second: usize,
 }
 
-// A byte as an index or a part of a larger number.
-pub fn wide(b: u8) -> usize
-    ensures { (result ≡ b) × (result < 256) }
-{
-    b as usize
-}
-
 // The first position of a pair that is kept as one number, first * 64 + second.
 pub fn first_of(x: u16) -> usize
     ensures { result ≡ x / 64 % 64 }
@@ -42,7 +35,7 @@ pub fn pair_number(s: &[u8], j: usize) -> usize
     ensures { PairAt s.now (12 * j) (result / 64) (result % 64) }
 {
     let at = j + j / 2;
-    let x = wide(s[at]) * 256 + wide(s[at + 1]);
+    let x = usize::from(s[at]) * 256 + usize::from(s[at + 1]);
     if j % 2 == 0 {
         return x / 16;
     }
@@ -68,7 +61,7 @@ pub fn triple_number(s: &[u8], j: usize) -> usize
     ensures { TripleAt s.now (18 * j) (result / 4096) (result / 64 % 64) (result % 64) }
 {
     let at = 2 * j + j / 4;
-    let x = wide(s[at]) * 65536 + wide(s[at + 1]) * 256 + wide(s[at + 2]);
+    let x = usize::from(s[at]) * 65536 + usize::from(s[at + 1]) * 256 + usize::from(s[at + 2]);
     (x >> (6 - j % 4 * 2)) % 262144
 }
 
@@ -107,6 +100,35 @@ pub fn move_at(s: &[u8], named: bool, j: usize) -> Pair
     }
 }
 
+// The moves that a plan's tail lists from its first byte on, in the edition whose moves name their racks or in the other.
+#[derive(Clone, Copy)]
+pub struct Moves<'a> {
+    pub tail: &'a [u8],
+    pub named: bool,
+    pub count: usize,
+    ghost few: { count < 2 ^ 22 },
+    ghost fits: { 6 * (move_size named * count) ≤ 8 * length tail.now },
+}
+
+impl Moves<'_> {
+    // The move of index j.
+    pub fn listed(&self, j: usize) -> Listed
+        requires { j < self.now.count }
+        ensures { ListedAt self.now.named self.now.tail.now (6 * (move_size self.now.named * j)) (result.step / 64)
+            (result.step % 64) result.rack }
+    {
+        listed_at(self.tail, self.named, j)
+    }
+
+    // The two positions of that move.
+    pub fn at(&self, j: usize) -> Pair
+        requires { j < self.now.count }
+        ensures { PairAt self.now.tail.now (6 * (move_size self.now.named * j)) result.first result.second }
+    {
+        move_at(self.tail, self.named, j)
+    }
+}
+
 // The position that stands q positions after the first byte.
 pub fn position_at(s: &[u8], q: usize) -> usize
     requires { 6 * q + 6 ≤ 8 * length s.now }
@@ -115,15 +137,15 @@ pub fn position_at(s: &[u8], q: usize) -> usize
     let at = q / 4 * 3;
     let place = q % 4;
     if place == 0 {
-        return wide(s[at]) / 4;
+        return usize::from(s[at]) / 4;
     }
     if place == 1 {
-        return wide(s[at]) % 4 * 16 + wide(s[at + 1]) / 16;
+        return usize::from(s[at]) % 4 * 16 + usize::from(s[at + 1]) / 16;
     }
     if place == 2 {
-        return wide(s[at + 1]) % 16 * 4 + wide(s[at + 2]) / 64;
+        return usize::from(s[at + 1]) % 16 * 4 + usize::from(s[at + 2]) / 64;
     }
-    wide(s[at + 2]) % 64
+    usize::from(s[at + 2]) % 64
 }
 
 // The count of 22 bits that a plan and a timetable begin with.
@@ -131,7 +153,7 @@ pub fn count_at_head(s: &[u8]) -> usize
     requires { 3 ≤ length s.now }
     ensures { result ≡ field s.now 0 22 }
 {
-    wide(s[0]) * 16384 + wide(s[1]) * 64 + wide(s[2]) / 4
+    usize::from(s[0]) * 16384 + usize::from(s[1]) * 64 + usize::from(s[2]) / 4
 }
 
 // The two spare bits that end the three bytes of a record's head.
@@ -139,7 +161,7 @@ pub fn spare_at_head(s: &[u8]) -> usize
     requires { 3 ≤ length s.now }
     ensures { result ≡ field s.now 22 2 }
 {
-    wide(s[2]) % 4
+    usize::from(s[2]) % 4
 }
 
 // The pad after q positions, as a number: 0 where no pad bit is set. Four positions end with a byte; one, two or three of them leave
@@ -154,12 +176,12 @@ pub fn pad_after(s: &[u8], q: usize) -> usize
         return 0;
     }
     if place == 1 {
-        return wide(s[end]) % 4;
+        return usize::from(s[end]) % 4;
     }
     if place == 2 {
-        return wide(s[end + 1]) % 16;
+        return usize::from(s[end + 1]) % 16;
     }
-    wide(s[end + 2]) % 64
+    usize::from(s[end + 2]) % 64
 }
 
 // Whether a byte string is as long as a record of q positions.

@@ -1,11 +1,11 @@
 -- The floor judge's layers: its answer from the order reader's acceptance and its own tests.
 --
---     order_refused     a refusal of the order reader is the answer
+--     order_refused, order_handed    a refusal of the order reader is the answer, and hands on no counts
 --     RingFloor o, Order o    the floor of o is a ring; the racks have one order round it
 --     crowded           20 off rings
 --     ring_full, ring_other, ring-plain    on a ring 20, 24, and acceptance
 --     counts_are, handed    the counts that an acceptance hands on
---     refused_too, order_handed    a refusal hands on no counts
+--     refused_too       a refusal hands on no counts
 --     rows-counted, rings, ring-tables    the rows that the order's edges fill are those of its floor
 --     apart, many_sided, plain    off rings 21, 26, and acceptance, from what the search of the rows says
 -- Assumes nothing.
@@ -18,21 +18,25 @@ use native.Mathlib.Omega.{arith}
 use borrow.Author.Tests.{lt-ltb, le-ltb}
 use lib.ListN.{length}
 use lib.Dec.{ltb}
-use Rattle.answers.specs.Answer.{Answer, accepted, refused, pass_up, holds}
+use Rattle.std.specs.Prelude.{Result, IsErrAnd}
+use Rattle.answers.specs.Answer.{Answer, accepted, refused, refused_by, pass_up}
+use Rattle.answers.specs.declared.Refusal.{Refusal}
 use Rattle.field.proofs.RecordLaws.{length_pairs}
 use Rattle.order.specs.Order.{position_count, edge_count, rack_count, floor_of, starts_of, goals_of, counts, order_answer}
 use Rattle.tables.specs.Accepted.{OrderGave}
 use Rattle.tables.proofs.AcceptedLaws.{gave_accepted}
-use Rattle.tables.proofs.Layers.{handed_up}
 use Rattle.graph.specs.Connected.{BiConnected, Ring}
 use Rattle.graph.specs.EdgeCount.{edge_count as edges_in, FourSided as FourInRows}
 use Rattle.graph.specs.Rows.{Edge}
 use Rattle.floor.specs.FloorAnswer.{Joins, SameRound, bi_connected?, vacancies_owed, floor_answer}
 use Rattle.order.specs.Tables.{rows_of, decoded_rows, decoded_starts, decoded_goals}
+use Rattle.order.specs.declared.Counts.{Counts}
+use Rattle.order.specs.Verdict.{told}
 use Rattle.floor.specs.RingTables.{RingTables}
+use Rattle.floor.specs.Verdict.{answer_of, handed_on}
 use Rattle.floor.specs.Sides.{FourSided, four_sided?}
 use Rattle.floor.proofs.FloorRows.{filled_is, filled_bi_connected}
-use Rattle.answers.proofs.AnswerLaws.{holds-yes, holds_no}
+use Rattle.answers.proofs.AnswerLaws.{holds-yes, holds_no, handed_up}
 use Rattle.floor.proofs.FloorLaws.{ordered_off, ordered_on, disordered_on, floor_refusals, floor_over, owed_on, owed_off}
 use Rattle.floor.proofs.EdgesCounted.{edges_counted, ring-rows}
 use Rattle.floor.proofs.SidesLaws.{sides_rows, ring_sides}
@@ -45,21 +49,24 @@ positions_are : (o : List ℕ) → (floor_of o).positions ≡ position_count o
 unfolding floor_of
 positions_are o = refl
 
-pub order_refused : (o : List ℕ) (below r : Answer) (number place : ℕ) → below ≡ order_answer o → below ≡ refused number place
-    → r ≡ pass_up below (accepted []) → r ≡ floor_answer o
-unfolding floor_answer
-order_refused o below r number place = handed_up (accepted []) (floor_refusals o)
+-- r is what `?` makes of the order reader's refusal e
+module _ (o : List ℕ) (r : Result Counts Refusal) (e : Refusal) (is : IsErrAnd r (λ x. x ≡ e))
+    (down : refused_by e.0 e.1 ≡ order_answer o) where
+  pub order_refused : answer_of r ≡ floor_answer o
+  unfolding floor_answer
+  order_refused = handed_up (λ _. []) r e is down (floor_refusals o)
+
+  refused_here : refused_by e.0 e.1 ≡ floor_answer o
+  unfolding floor_answer
+  refused_here = ap (λ (b : Answer). pass_up b (floor_refusals o)) down
+
+  pub order_handed : handed_on r ≡ pass_up (floor_answer o) (accepted (counts o))
+  order_handed = handed_up told r e is refused_here (accepted (counts o))
 
 -- a refusal hands on no counts
 pub refused_too : (o : List ℕ) (number place : ℕ) → refused number place ≡ floor_answer o
     → refused number place ≡ pass_up (floor_answer o) (accepted (counts o))
 refused_too o number place down = ap (λ (b : Answer). pass_up b (accepted (counts o))) down
-
-pub order_handed : (o : List ℕ) (below r h : Answer) (number place : ℕ) → r ≡ floor_answer o → r ≡ pass_up below (accepted []) → h ≡ below
-    → below ≡ refused number place → h ≡ pass_up (floor_answer o) (accepted (counts o))
-order_handed o below r h number place is up same f =
-    let down : refused number place ≡ floor_answer o = sym (up ∙ ap (λ (b : Answer). pass_up b (accepted [])) f) ∙ is in
-    same ∙ f ∙ refused_too o number place down
 
 abbrev pub RingFloor : List ℕ → Type 0
 RingFloor o = Ring (floor_of o).positions (Joins (floor_of o)) (length (floor_of o).edges)

@@ -9,7 +9,7 @@
 -- Assumes nothing.
 use Prim.Native.Nat.{ℕ, ◌+◌, ◌^◌, ◌≤◌, ◌<◌}
 use mathlib.Core.Path.{◌≡◌, refl, sym, ap, ◌∙◌}
-use mathlib.Core.Bool.{Bool, true, false, not, cond, ◌||◌, or-true}
+use mathlib.Core.Bool.{Bool, true, false, not, cond, or-true}
 use mathlib.Core.List.{List, [], ◌∷◌}
 use mathlib.Core.Logic.{◌↔◌, ◌⊎◌, inl, inr, ⊎_elim, by_cases}
 use native.Mathlib.Decide.{ℕ_discrete}
@@ -17,7 +17,7 @@ use native.Mathlib.Omega.{arith}
 use borrow.Author.Tests.{eq-eqb, ne_eqb, not-false}
 use lib.Bits.{bit_or}
 use lib.Count.{ones}
-use lib.Dec.{T, eqb}
+use lib.Dec.{T}
 use lib.ListN.{length, get_or, replicate, length-set, length-replicate}
 use lib.Seq.{get_or-set_other}
 use Rattle.field.specs.Bytes.{BelowPairs, more₂}
@@ -28,7 +28,7 @@ use Rattle.order.specs.Tables.{joining, joined_rows, rows_of}
 use Rattle.order.proofs.EdgeLaws.{is_pair-same, ascending-first, rest-ascends, good_edge}
 use Rattle.tables.proofs.TableLaws.{zeros_at}
 use Rattle.sets.specs.Sets.{bit, Has}
-use Rattle.sets.proofs.SetLaws.{has_or_not, has_none}
+use Rattle.sets.proofs.SetLaws.{has_or_not}
 use Rattle.sets.proofs.CountLaws.{ones_push, ones-sum, sum_same}
 use Rattle.graph.specs.Connected.{Ring}
 use Rattle.graph.specs.Rows.{Edge}

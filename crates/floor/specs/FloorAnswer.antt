@@ -24,7 +24,7 @@ use Rattle.motion.specs.Arrangement.{Arrangement, stands}
 use Rattle.graph.specs.Connected.{BiConnected, Ring}
 use Rattle.ring.specs.Circle.{round_of, place_on}
 use Rattle.ring.specs.Order.{SameOrder}
-use Rattle.graph.proofs.WayDecision.{alike?, both?, not?, decide_bi_connected}
+use Rattle.graph.proofs.WayDecision.{alike?, both?, decide_bi_connected}
 use Rattle.ring.proofs.RoundDecision.{same_order?}
 use Rattle.floor.specs.Sides.{four_sided?}
 

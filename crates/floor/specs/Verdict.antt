@@ -3,15 +3,14 @@
 --     answer_of v    the number and place of a refusal; an acceptance has no counts
 --     handed_on v    the same with the counts that an acceptance hands on to the planner
 -- Assumes nothing.
-use Rattle.std.specs.Prelude.{[], ◌∷◌}
-use Rattle.answers.specs.Answer.{Answer, accepted, refused_by}
-use Rattle.floor.specs.declared.FloorVerdict.{FloorVerdict}
-use Rattle.floor.specs.declared.FloorVerdict.TheVariants.{Accepted, Refused}
+use Rattle.std.specs.Prelude.{[], Result}
+use Rattle.answers.specs.Answer.{Answer, answer_by}
+use Rattle.answers.specs.declared.Refusal.{Refusal}
+use Rattle.order.specs.declared.Counts.{Counts}
+use Rattle.order.specs.Verdict.{answer_of as order_answer_of}
 
-abbrev pub answer_of : FloorVerdict → Answer
-answer_of (Accepted c) = accepted []
-answer_of (Refused f place) = refused_by f place
+abbrev pub answer_of : Result Counts Refusal → Answer
+answer_of = answer_by (λ _. [])
 
-abbrev pub handed_on : FloorVerdict → Answer
-handed_on (Accepted c) = accepted (c.positions ∷ c.edges ∷ c.racks ∷ [])
-handed_on (Refused f place) = refused_by f place
+abbrev pub handed_on : Result Counts Refusal → Answer
+handed_on = order_answer_of

@@ -6,31 +6,12 @@ ghost use Rattle.std.specs.Prelude.{true, ◌↔◌, ◌≡◌, List, [], ℕ};
 ghost use Rattle.answers.specs.Answer.{accepted, pass_up};
 ghost use Rattle.order.specs.Order.{counts, floor_of, starts_of, goals_of};
 ghost use Rattle.order.specs.Tables.{decoded_rows, decoded_starts, decoded_goals};
-ghost use Rattle.order.specs.Verdict.{answer_of as order_answer_of};
 ghost use Rattle.floor.specs.FloorAnswer.{SameRound, floor_answer};
 ghost use Rattle.floor.specs.RingTables.{RingTables, SomeRing};
 ghost use Rattle.floor.specs.Verdict.{answer_of, handed_on};
 
-use answers::Fault;
-use order::{Counts, OrderVerdict};
-
-// The verdict on a floor: specs/Verdict.antt gives it document 01's number and values.
-#[derive(Clone, Copy)]
-pub enum FloorVerdict {
-    Accepted(Counts),
-    Refused(Fault, u32),
-}
-
-// The order reader's verdict as the judge's: the same counts, or the same fault at the same place.
-fn passed_up(order: OrderVerdict) -> FloorVerdict
-    ensures result_value { answer_of result ≡ pass_up (order_answer_of order) (accepted []) }
-    ensures result_value_2 { handed_on result ≡ order_answer_of order }
-{
-    match order {
-        OrderVerdict::Accepted(counts) => FloorVerdict::Accepted(counts),
-        OrderVerdict::Refused(fault, place) => FloorVerdict::Refused(fault, place),
-    }
-}
+use answers::{Fault, Refusal};
+use order::Counts;
 
 // Do the racks of an order on a ring stand in the same order round it at start and goal?
 fn same_round(rows: &[u64; 64], starts: &[u8; 64], goals: &[u8; 64], n: usize, m: usize) -> bool
@@ -51,42 +32,39 @@ pub fn judge(
     rows: &mut [u64; 64],
     starts: &mut [u8; 64],
     goals: &mut [u8; 64],
-) -> FloorVerdict
+) -> Result<Counts, Refusal>
     ensures result_value { answer_of result ≡ floor_answer order.now }
     ensures result_value_2 { handed_on result ≡ pass_up (floor_answer order.now) (accepted (counts order.now)) }
     ensures rows_after { rows.new ≡ decoded_rows order.now }
     ensures starts_after { starts.new ≡ decoded_starts order.now }
     ensures goals_after { goals.new ≡ decoded_goals order.now }
 {
-    let below = decoding::decode(order, rows, starts, goals);
-    let OrderVerdict::Accepted(counts) = below else {
-        return passed_up(below);
-    };
+    let counts = decoding::decode(order, rows, starts, goals)?;
     let n = counts.positions;
     let m = counts.racks;
     if graph::is_ring(rows, n, counts.edges) {
         if n <= m {
-            return FloorVerdict::Refused(Fault::FloorCrowded, 0);
+            return Err(Refusal(Fault::FloorCrowded, 0));
         }
         if !same_round(rows, starts, goals, n, m) {
-            return FloorVerdict::Refused(Fault::FloorOrder, 0);
+            return Err(Refusal(Fault::FloorOrder, 0));
         }
-        return FloorVerdict::Accepted(counts);
+        return Ok(counts);
     }
     if n < m + 2 {
-        return FloorVerdict::Refused(Fault::FloorCrowded, 0);
+        return Err(Refusal(Fault::FloorCrowded, 0));
     }
     if !graph::is_biconnected(rows, n) {
-        return FloorVerdict::Refused(Fault::FloorNotBiconnected, 0);
+        return Err(Refusal(Fault::FloorNotBiconnected, 0));
     }
     if !graph::is_four_sided(rows, n) {
-        return FloorVerdict::Refused(Fault::FloorSides, 0);
+        return Err(Refusal(Fault::FloorSides, 0));
     }
-    FloorVerdict::Accepted(counts)
+    Ok(counts)
 }
 
 // The verdict alone.
-pub fn check(order: &[u8]) -> FloorVerdict
+pub fn check(order: &[u8]) -> Result<Counts, Refusal>
     ensures { answer_of result ≡ floor_answer order.now }
 {
     let mut rows = [0u64; 64];

@@ -19,7 +19,7 @@ use Rattle.sets.specs.Sets.{bit, Has}
 use Rattle.sets.specs.Sum.{sum_below}
 use Rattle.sets.proofs.SetLaws.{has_none, has_below}
 use Rattle.graph.specs.Rows.{Edge, Rows}
-use Rattle.graph.specs.EdgeCount.{row_sum, edge_count}
+use Rattle.graph.specs.EdgeCount.{edge_count}
 
 abbrev both : Bool → Bool → Bool
 both true b = b

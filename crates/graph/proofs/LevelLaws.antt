@@ -11,11 +11,11 @@
 --     State, Answer, begin_none, begin, found, room, stop, next    the same with the sets as words
 --     Around, around_begin, around-next, around_end   the state of `around`
 -- Assumes nothing.
-use Prim.Native.Nat.{ℕ, suc, ◌+◌, ◌-◌, ◌^◌, ◌≤◌, ◌<◌}
+use Prim.Native.Nat.{ℕ, ◌+◌, ◌-◌, ◌^◌, ◌≤◌, ◌<◌}
 use mathlib.Core.Path.{◌≡◌, refl, sym, subst, ap, ◌∙◌}
 use mathlib.Core.List.{List}
 use mathlib.Core.Logic.{◌↔◌, ◌≢◌, ◌⊎◌, inl, inr, ⊎_elim, by_cases}
-use native.Mathlib.Decide.{ℕ_discrete, dec_le}
+use native.Mathlib.Decide.{ℕ_discrete}
 use native.Mathlib.Numerals.{add-one}
 use native.Mathlib.Omega.{arith}
 use lib.Bits.{bit_and, bit_or}
@@ -23,13 +23,13 @@ use lib.Count.{ones}
 use lib.ListN.{get_or, set, length, length-set}
 use lib.Seq.{get_or-set_same, get_or-set_other}
 use Rattle.sets.specs.Sets.{Has}
-use Rattle.sets.proofs.SetLaws.{has_or_not, has_below, has_and, has_or, has_none, has_some, none_empty}
+use Rattle.sets.proofs.SetLaws.{has_or_not, has_below, has_and, has_or, has_none, has_some}
 use Rattle.sets.proofs.CountLaws.{ones_less, ones_most, ones_parts}
 use Rattle.graph.specs.Walk.{Walk, Symmetric}
 use Rattle.graph.specs.Walk.Walk.{alone, step}
 use Rattle.graph.proofs.WalkLaws.{walk_some, walk_first, walk_last, walk_alone}
 use Rattle.graph.specs.Rows.{Edge}
-use Rattle.graph.specs.Levels.{Near, Seen, Touches, Levels, Met, Spread}
+use Rattle.graph.specs.Levels.{Near, Seen, Touches, Levels, Spread}
 
 -- A level that is written, and the others.
 level_here : (l : List ℕ) (d x : ℕ) → d < length l → (i : ℕ) → i ≡ d → get_or (set l d x) i 0 ≡ x

@@ -2,6 +2,7 @@
 --
 --     nearest_same      the same positions allowed: the same answer
 --     nearest_targets   the same targets: the same answer
+--     route_same, route_targets    these two of a route, if there is one
 --     nearest_found     where a walk leads to a target, there is a path
 --     nearest_short     the path has at most n positions, where the allowed ones are below n
 --     nearest_inner     no position of the path but its last is a target
@@ -14,7 +15,9 @@ use native.Mathlib.Omega.{arith}
 use Rattle.graph.specs.Walk.{Walk}
 use Rattle.graph.proofs.WalkLaws.{walk_inside, walk_segment}
 use Rattle.sets.proofs.CountLaws.{pigeonhole}
-use Rattle.graph.specs.Nearest.{Nearest}
+use Rattle.std.proofs.Common.{Option, Some, None}
+use Rattle.graph.specs.Nearest.{Nearest, NearestRoute}
+use Rattle.graph.specs.declared.Route.{Route}
 
 pub nearest_same : {E : ℕ → ℕ → Type 0} {P Q T : ℕ → Type 0} {a k : ℕ} {f : ℕ → ℕ} → ((p : ℕ) → P p → Q p) → ((p : ℕ) → Q p → P p)
     → Nearest E P T a k f → Nearest E Q T a k f
@@ -46,6 +49,17 @@ nearest_targets U to from r =
       shortest = λ t j walk is. r.shortest t j walk (from t is);
       lowest = λ i w t more e walk is. r.lowest i w t more e walk (from t is);
     }
+
+module _ (E : ℕ → ℕ → Type 0) (P T : ℕ → Type 0) (a : ℕ) where
+  pub route_same : (Q : ℕ → Type 0) (r : Option Route) → ((p : ℕ) → P p → Q p) → ((p : ℕ) → Q p → P p) → NearestRoute E P T a r
+      → NearestRoute E Q T a r
+  route_same Q None to from n = nearest_same to from n
+  route_same Q (Some r) to from n = (n.0, nearest_same to from n.1)
+
+  pub route_targets : (U : ℕ → Type 0) (r : Option Route) → ((p : ℕ) → T p → U p) → ((p : ℕ) → U p → T p) → NearestRoute E P T a r
+      → NearestRoute E P U a r
+  route_targets U None to from n = nearest_targets U to from n
+  route_targets U (Some r) to from n = (n.0, nearest_targets U to from n.1)
 
 module _ {E : ℕ → ℕ → Type 0} {P T : ℕ → Type 0} {a k : ℕ} {f : ℕ → ℕ} (r : Nearest E P T a k f) where
   pub nearest_found : (t j : ℕ) → Walk E P a t j → T t → 0 < k

@@ -5,7 +5,7 @@
 --     nearest_none        where no level has the position sought, no walk leads from it to a target
 --     nearest_traced      else the positions traced down the levels are a shortest way
 --     whole-nothing       nothing hangs together
---     whole_reached       nothing is left unreached from one position of a set exactly where the set hangs together
+--     whole_reached, whole_searched    nothing is left unreached from one position of a set exactly where the set hangs together
 -- Assumes nothing.
 use Prim.Native.Nat.{ℕ, suc, ◌+◌, ◌-◌, ◌≤◌, ◌<◌}
 use mathlib.Core.Path.{◌≡◌, refl, sym, subst, ap, ◌∙◌}
@@ -18,6 +18,7 @@ use lib.Bits.{bit_and}
 use lib.Dec.{T, eqb, eqb→eq}
 use lib.ListN.{get_or, set, length, length-set, replicate}
 use lib.Seq.{get_or-set_same, get_or-set_other}
+use Rattle.std.proofs.Common.{Option, Some, None}
 use Rattle.sets.specs.Sets.{Has}
 use Rattle.sets.proofs.SetLaws.{has_and, has_none, has_positive, none_empty}
 use Rattle.graph.specs.Walk.{Walk, Way, Symmetric}
@@ -27,7 +28,7 @@ use Rattle.graph.specs.Connected.{Whole, Except, Below}
 use Rattle.graph.proofs.ConnectedLaws.{whole_base, whole_same}
 use Rattle.graph.proofs.Decision.{says_same}
 use Rattle.graph.specs.Rows.{Edge}
-use Rattle.graph.specs.Levels.{Near, Touches, Spread, Traced}
+use Rattle.graph.specs.Levels.{Touches, Spread, Traced, OrZero}
 use Rattle.graph.specs.Nearest.{Nearest}
 
 -- The state of `trace`: k positions are written, the last of them v.
@@ -208,7 +209,7 @@ module _ {E : ℕ → ℕ → Type 0} {P T G : ℕ → Type 0} {l : List ℕ} {a
           let level_is : q.level ≡ d - 1 - (i + 1) = omega arith in
           subst (λ (j : ℕ). Has (get_or l j 0) w) level_is q.on
 
-pub whole_reached : (g : List ℕ) (f b t x d : ℕ) (l : List ℕ) → Symmetric (Edge g) → Has f b → ((p : ℕ) → Has t p ↔ (p ≡ b))
+whole_reached : (g : List ℕ) (f b t x d : ℕ) (l : List ℕ) → Symmetric (Edge g) → Has f b → ((p : ℕ) → Has t p ↔ (p ≡ b))
     → Spread (Edge g) (Has f) (Has t) (Has 0) l d x → (x ≡ 0) ↔ Whole (Edge g) (Has f)
 whole_reached g f b t x d l symmetric free only s = (
   λ e. whole_base symmetric b (λ v p. home v p (λ h. has_none v (subst (λ (y : ℕ). Has y v) e h))),
@@ -223,6 +224,12 @@ whole_reached g f b t x d l symmetric free only s = (
         let r = s.near none v p out in
         let near = r.1 in
         record { size = r.0; walk = subst (λ (y : ℕ). Walk (Edge g) (Has f) v y r.0) ((only near.target).0 near.is) near.walk }
+
+-- the same of the number of levels as the search yields it
+pub whole_searched : (g : List ℕ) (f b t x : ℕ) (d : Option ℕ) (l : List ℕ) → Symmetric (Edge g) → Has f b → ((p : ℕ) → Has t p ↔ (p ≡ b))
+    → OrZero (λ k. Spread (Edge g) (Has f) (Has t) (Has 0) l k x) d → (x ≡ 0) ↔ Whole (Edge g) (Has f)
+whole_searched g f b t x None l symmetric free only s = whole_reached g f b t x 0 l symmetric free only s
+whole_searched g f b t x (Some k) l symmetric free only s = whole_reached g f b t x k l symmetric free only s.1
 
 pub whole-nothing : (g : List ℕ) (f : ℕ) → f ≡ 0 → Whole (Edge g) (Has f)
 whole-nothing g f e u v hu = absurd (has_none u (subst (λ (y : ℕ). Has y u) e hu))

@@ -10,10 +10,11 @@
 --     Met G l d                  the last of d levels has a position of G
 --     Spread E P T G l d x       the levels were made until one has a position of G, the last of d; or, with d = 0, until there were no
 --                                more, and x is what was never reached
+--     OrZero R d                 R of the number d, which is not 0; where there is none, R of 0
 --     Descent E l d a            a is on the last of d levels, and each level but the first has an edge down from each of its positions
 --     Traced E l d a f           the positions f go down d levels from a to the first, each time to the lowest one joined on the next level
 -- Assumes nothing.
-use Rattle.std.specs.Prelude.{ℕ, ◌+◌, ◌-◌, ◌≤◌, ◌<◌, ◌≡◌, List, get_or}
+use Rattle.std.specs.Prelude.{ℕ, ◌+◌, ◌-◌, ◌≤◌, ◌<◌, ◌≡◌, List, Option, Some, None, get_or}
 use Rattle.sets.specs.Sets.{Has}
 use Rattle.graph.specs.Walk.{Walk}
 
@@ -55,6 +56,10 @@ pub record Spread (E : ℕ → ℕ → Type 0) (P T G : ℕ → Type 0) (l : Lis
   pub within : (v : ℕ) → Has x v → P v
   pub gone : d ≡ 0 → (v t k : ℕ) → Walk E P v t k → T t → Has x v → ⊥
   pub near : d ≡ 0 → (v : ℕ) → P v → (Has x v → ⊥) → (k : ℕ) × Near E P T v k
+
+abbrev pub OrZero : (ℕ → Type 0) → Option ℕ → Type 0
+OrZero R None = R 0
+OrZero R (Some d) = (0 < d) × R d
 
 pub record Descent (E : ℕ → ℕ → Type 0) (l : List ℕ) (d a : ℕ) : Type 0 where
   pub some : 0 < d

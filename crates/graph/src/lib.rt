@@ -7,9 +7,9 @@ ghost use Rattle.sets.specs.Sets.{Has};
 ghost use Rattle.graph.specs.Walk.{Symmetric};
 ghost use Rattle.graph.specs.Connected.{Whole, Connected, ConnectedWithout, BiConnected, Ring};
 ghost use Rattle.graph.specs.EdgeCount.{edge_count, FourSided};
-ghost use Rattle.graph.specs.Rows.{row, Edge, Rows};
-ghost use Rattle.graph.specs.Levels.{Touches, Spread, Descent, Traced};
-ghost use Rattle.graph.specs.Nearest.{Nearest};
+ghost use Rattle.graph.specs.Rows.{Edge, Rows};
+ghost use Rattle.graph.specs.Levels.{Touches, Spread, OrZero, Descent, Traced};
+ghost use Rattle.graph.specs.Nearest.{NearestRoute};
 
 // The positions that edges join to a position of the set.
 fn around(rows: &[u64; 64], set: u64) -> u64
@@ -26,10 +26,10 @@ fn around(rows: &[u64; 64], set: u64) -> u64
     joined
 }
 
-// How a search ended: the number of its levels where the last has a position of the goal, and 0 where none has; and what was never reached.
+// How a search ended: the number of its levels where the last has a position of the goal, none where none has; and what was never reached.
 #[derive(Clone, Copy)]
 struct Reach {
-    depth: usize,
+    depth: Option<usize>,
     left: u64,
 }
 
@@ -38,22 +38,25 @@ struct Reach {
 fn spread(rows: &[u64; 64], free: u64, targets: u64, goal: u64, levels: &mut [u64; 64]) -> Reach
     requires symmetric { Symmetric (Edge rows.now) }
     requires levels_len { length levels.old ≡ 64 }
-    ensures { Spread (Edge rows.now) (Has free) (Has targets) (Has goal) levels.new result.depth result.left }
+    ensures { OrZero (λ depth. Spread (Edge rows.now) (Has free) (Has targets) (Has goal) levels.new depth result.left) result.depth }
 {
     let mut fresh = free & targets;
     let mut left = sets::minus(free, targets);
     if fresh == 0 {
-        return Reach { depth: 0, left };
+        return Reach { depth: None, left };
     }
     levels[0] = fresh;
     let mut depth: usize = 1;
     loop {
         if fresh & goal != 0 {
-            return Reach { depth, left };
+            return Reach {
+                depth: Some(depth),
+                left,
+            };
         }
         fresh = around(rows, fresh) & left;
         if fresh == 0 {
-            return Reach { depth: 0, left };
+            return Reach { depth: None, left };
         }
         levels[depth] = fresh;
         left = sets::minus(left, fresh);
@@ -69,16 +72,14 @@ fn trace(rows: &[u64; 64], levels: &[u64; 64], depth: usize, from: usize) -> [u8
     let mut path = [0u8; 64];
     path[0] = from as u8;
     let mut v = from;
-    let mut k: usize = 1;
-    while k < depth {
+    for k in 1..depth {
         v = sets::lowest(rows[v] & levels[depth - 1 - k]);
         path[k] = v as u8;
-        k += 1;
     }
     path
 }
 
-// A way: how many positions it has, 0 where there is none, and the positions, `at[0]` to `at[size - 1]`.
+// A way: how many positions it has, at least one, and the positions, `at[0]` to `at[size - 1]`.
 #[derive(Clone, Copy)]
 pub struct Route {
     pub size: usize,
@@ -87,22 +88,16 @@ pub struct Route {
 
 // A shortest way from `from` to the nearest of the targets, both ends included, through free positions alone: of several, the one that
 // enters the lower position where they first differ. None, exactly where there is no way.
-pub fn search(rows: &[u64; 64], free: u64, targets: u64, from: usize) -> Route
+pub fn search(rows: &[u64; 64], free: u64, targets: u64, from: usize) -> Option<Route>
     requires symmetric { Symmetric (Edge rows.now) }
     requires from_bound { from < 64 }
-    ensures { Nearest (Edge rows.now) (Has free) (Has targets) from result.size (row result.at) }
+    ensures { NearestRoute (Edge rows.now) (Has free) (Has targets) from result }
 {
     let mut levels = [0u64; 64];
     let reach = spread(rows, free, targets, sets::only(from), &mut levels);
-    let size = reach.depth;
-    if size == 0 {
-        return Route {
-            size: 0,
-            at: [0u8; 64],
-        };
-    }
+    let size = reach.depth?;
     let at = trace(rows, &levels, size, from);
-    Route { size, at }
+    Some(Route { size, at })
 }
 
 // Do the positions of the set hang together?
@@ -144,14 +139,7 @@ pub fn is_biconnected(rows: &[u64; 64], n: usize) -> bool
     if n < 3 {
         return false;
     }
-    let mut x: usize = 0;
-    while x < n {
-        if !is_connected_without(rows, n, x) {
-            return false;
-        }
-        x += 1;
-    }
-    true
+    (0..n).all(|x| is_connected_without(rows, n, x))
 }
 
 // Is the floor a ring? `e` is the number of its edges.
@@ -171,12 +159,5 @@ pub fn is_four_sided(rows: &[u64; 64], n: usize) -> bool
     requires { Rows n rows.now }
     ensures { (result ≡ true) ↔ FourSided n rows.now }
 {
-    let mut p: usize = 0;
-    while p < n {
-        if 4 < sets::size(rows[p]) {
-            return false;
-        }
-        p += 1;
-    }
-    true
+    rows[..n].iter().all(|&joined| sets::size(joined) <= 4)
 }

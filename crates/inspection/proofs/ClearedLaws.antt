@@ -5,19 +5,20 @@
 --     number_short, number_refused, number-told  the answer: in too short a buffer, of a refused order, and else
 --     bytes-written         a row copied to the front of a buffer is written there
 --     table_is              a table that says where the racks stand is the one with the racks put down
---     Decoded, as_decoded, rows_right, room_right    an accepted order as it is decoded, and what clearing asks for
+--     Decoded, decoded, rows_right, room_right    an accepted order as it is decoded, and what clearing asks for
 --     off_floor             no vacancy has a way to a position that is not on the floor
 --     number_none, number_is    the answer where there is no way, and where there is one
 --     told_no_way, told-moves, shown    what comes of a clearing: the answer, and the buffer
 -- Assumes nothing.
 use Prim.Native.Nat.{ℕ, suc, ◌+◌, ◌-◌, ◌≤◌, ◌<◌}
 use mathlib.Core.Path.{◌≡◌, refl, sym, ap, subst, ◌∙◌}
-use mathlib.Core.Bool.{true, false, false≢true}
 use mathlib.Core.List.{List, [], ◌∷◌, ◌++◌}
 use mathlib.Core.Logic.{inl, inr, by_cases}
 use native.Mathlib.Decide.{dec_lt}
 use native.Mathlib.Omega.{arith}
 use borrow.Author.Tests.{lt-ltb, le-ltb}
+use Rattle.std.proofs.Common.{Some, None}
+use Rattle.std.proofs.lemmas.Option.{none-some, same_Some}
 use lib.Dec.{T}
 use lib.ListN.{length, get_or, drop, replicate, length-append, length-drop, length-replicate, get_or-append, get_or-eq_default}
 use lib.Seq.{get_or-append-add, get_or-drop, ext_get_or}
@@ -26,10 +27,6 @@ use Rattle.field.specs.Writing.{written}
 use Rattle.field.proofs.WritingLaws.{written_front}
 use Rattle.order.specs.Floor.{joined}
 use Rattle.order.specs.Order.{floor_of, starts_of, order_answer}
-use Rattle.order.specs.declared.Counts.{Counts}
-use Rattle.order.specs.declared.OrderVerdict.{OrderVerdict}
-use Rattle.order.specs.declared.OrderVerdict.TheVariants.{Accepted}
-use Rattle.order.specs.Verdict.{answer_of}
 use Rattle.order.specs.Tables.{racks_at, decoded_rows, decoded_starts}
 use Rattle.motion.specs.Arrangement.{Arrangement, rack_at}
 use Rattle.motion.specs.Sound.{Sound}
@@ -148,9 +145,9 @@ pub record Decoded (o : List ℕ) (n e m : ℕ) (g h : List ℕ) : Type 0 where
   pub filled : g ≡ decoded_rows o
   pub placed : h ≡ decoded_starts o
 
-pub as_decoded : {o g h : List ℕ} {v : OrderVerdict} {c : Counts} → v ≡ Accepted c → answer_of v ≡ order_answer o → g ≡ decoded_rows o
-    → h ≡ decoded_starts o → Decoded o c.positions c.edges c.racks g h
-as_decoded up told filled placed = record { answer = sym (ap answer_of up) ∙ told; filled = filled; placed = placed }
+pub decoded : {o : List ℕ} {n e m : ℕ} {g h : List ℕ} → accepted (n ∷ e ∷ m ∷ []) ≡ order_answer o → g ≡ decoded_rows o
+    → h ≡ decoded_starts o → Decoded o n e m g h
+decoded answer filled placed = record { answer = answer; filled = filled; placed = placed }
 
 module _ {o : List ℕ} {n e m : ℕ} {g h : List ℕ} (decoded : Decoded o n e m g h) where
   gave : OrderGave o n e m
@@ -216,23 +213,24 @@ module _ {o : List ℕ} {n e m : ℕ} {g h : List ℕ} (decoded : Decoded o n e 
 
     -- what the answer tells, and the racks copied into the buffer
     module _ (old : List ℕ) (long : 64 ≤ length old) {l t : List ℕ} where
-      pub told_no_way : {r : Clearing} {l' t' : List ℕ} → Outcome (Unheld n held) g p begun l t r l' t' → r.found ≡ false
+      pub told_no_way : {r : Clearing} {l' t' : List ℕ} → Outcome (Unheld n held) g p begun l t r l' t' → r.moves ≡ None
           → clear_number o held p (length old) ≡ 0
-      told_no_way (by_nearest x) e = absurd (false≢true (sym e))
+      told_no_way (by_nearest x) e = absurd (none-some _ (sym e))
       told_no_way (no_way none) e = number_none (length old) long none
 
-      pub told-moves : {r : Clearing} {l' t' : List ℕ} → Outcome (Unheld n held) g p begun l t r l' t' → r.found ≡ true
-          → (clear_number o held p (length old) ≡ r.moves + 1) × (r.moves < 64)
+      pub told-moves : {r : Clearing} {l' t' : List ℕ} {d : ℕ} → Outcome (Unheld n held) g p begun l t r l' t' → r.moves ≡ Some d
+          → (clear_number o held p (length old) ≡ d + 1) × (d < 64)
       told-moves (by_nearest x) e =
+          let told = same_Some _ _ e in
           let number = number_is (length old) long x.distance in
           let few = distance_few (at_most_inside n (λ q y. y.inside)) x.distance in
           let small = rows_right.small in
           (omega arith, omega arith)
-      told-moves (no_way none) e = absurd (false≢true e)
+      told-moves (no_way none) e = absurd (none-some _ e)
 
-      pub shown : {r : Clearing} {l' t' new : List ℕ} → Outcome (Unheld n held) g p begun l t r l' t' → r.found ≡ true
+      pub shown : {r : Clearing} {l' t' new : List ℕ} {d : ℕ} → Outcome (Unheld n held) g p begun l t r l' t' → r.moves ≡ Some d
           → Copied (up_to 64 (row r.state.racks)) 0 64 old new → ClearLeft o held p old new
-      shown (no_way none) e copied = absurd (false≢true e)
+      shown (no_way none) e copied = absurd (none-some _ e)
       shown {new = new} (by_nearest {s' = s'} x) e copied =
           let trip = x.journey.journey.trip in
           let led = went_led (floor_of o) joins (starts_of o) (held_by holds) trip.went in

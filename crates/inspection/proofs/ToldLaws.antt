@@ -1,16 +1,14 @@
 -- One value of what came of one call.
 --
 --     chosen-first, chosen-second, chosen_third    which of three it is
---     value_as                                     a value, of an answer by another name
---     value_by                                     what an arm of a match tells, as an equation
 --     told_planner, told_maker, told_checker       a value of one of the three calls
 -- Assumes nothing.
 use Prim.Native.Nat.{ℕ}
-use mathlib.Core.Path.{◌≡◌, sym, ap, ◌∙◌}
+use mathlib.Core.Path.{◌≡◌, ap, ◌∙◌}
 use mathlib.Core.List.{List}
 use borrow.Author.Tests.{eq-eqb, ne_eqb}
 use Rattle.delivery.specs.Delivery.{Call, answered, Answers, Called}
-use Rattle.inspection.specs.Told.{chosen, value_of, ValueBy, Told}
+use Rattle.inspection.specs.Told.{chosen, value_of, Told}
 
 module _ {A : Type 0} (v : ℕ) (x y z : A) where
   pub chosen-first : v ≡ 0 → x ≡ chosen v x y z
@@ -25,12 +23,6 @@ module _ {A : Type 0} (v : ℕ) (x y z : A) where
     pub chosen_third : (v ≡ 1 → ⊥) → z ≡ chosen v x y z
     unfolding chosen
     chosen_third m = simp (ne_eqb v 0 n, ne_eqb v 1 m)
-
-pub value_as : {A : Type 0} (f : A → Call) (v : ℕ) {r : ℕ} {x y : A} → x ≡ y → r ≡ value_of v (f y) → r ≡ value_of v (f x)
-value_as {A} f v e h = h ∙ ap (λ (z : A). value_of v (f z)) (sym e)
-
-pub value_by : {A : Type 0} {f : A → Call} {x : A} {v r : ℕ} → ValueBy f x v r → r ≡ value_of v (f x)
-value_by {f = f} {v = v} h = value_as f v h.is h.value
 
 module _ {o P T P' T' : List ℕ} {a : Answers} {w v r : ℕ} (c : Called o P T a P' T') where
   pub told_planner : w ≡ 0 → r ≡ value_of v (answered a.planner) → Told o P T w v r P' T'

@@ -4,7 +4,6 @@
 --     call_of w a                 the planner's answer, or what came of the maker's or the checker's call, for w = 0, 1 or any other
 --     value_of v c                of an accepted call 0, its first count and its second; of a refused one its number and its place; 255 if
 --                                 it was not reached
---     ValueBy f x v r             r is such a value of the call that f makes of x
 --     Told o P T w v r P' T'      r is such a value of answers that the three calls may give, with the buffers P' and T' that they leave
 -- Assumes nothing.
 use Rattle.std.specs.Prelude.{ℕ, ◌≡◌, cond, List, get_or, eqb}
@@ -21,12 +20,6 @@ abbrev pub value_of : ℕ → Call → ℕ
 value_of v not_reached = chosen v 255 0 0
 value_of v (answered (accepted counts)) = chosen v 0 (get_or counts 0 0) (get_or counts 1 0)
 value_of v (answered (refused number place)) = chosen v number place 0
-
--- as an arm of a match on x tells it: x is some case, and r is a value of that case's call
-pub record ValueBy {X : Type 0} (f : X → Call) (x : X) (v r : ℕ) : Type 0 where
-  pub case : X
-  pub is : x ≡ case
-  pub value : r ≡ value_of v (f case)
 
 pub record Told (o P T : List ℕ) (w v r : ℕ) (P' T' : List ℕ) : Type 0 where
   pub answers : Answers

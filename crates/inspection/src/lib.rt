@@ -2,48 +2,30 @@
 // C's conventions. This is no part of the product's interface, and include/wichteab.h does not declare it.
 #![tactic(auto)]
 
-ghost use Rattle.std.specs.Prelude.{◌≡◌, ◌+◌, ◌≤◌, ◌<◌, length};
+ghost use Rattle.std.specs.Prelude.{ℕ, ◌≡◌, ◌+◌, ◌≤◌, ◌<◌, List, length, get_or};
 ghost use Rattle.graph.specs.Rows.{row};
-ghost use Rattle.answers.specs.Answer.{Answer, refused_by};
+ghost use Rattle.answers.specs.Answer.{Answer, the_count, answer_by};
 ghost use Rattle.timetable.specs.Reading.{part_given};
-ghost use Rattle.timetable.specs.Checking.{answer_of_check};
-ghost use Rattle.scheduling.specs.Maker.{answer_of as answer_of_maker};
-ghost use Rattle.planner.specs.Planner.{PlanMade, answer_of as answer_of_planner};
-ghost use Rattle.delivery.specs.Delivery.{answered, call_of_maker, call_of_check};
+ghost use Rattle.timetable.specs.Checking.{told};
+ghost use Rattle.planner.specs.Planner.{PlanMade};
+ghost use Rattle.delivery.specs.Delivery.{answered, call_of};
 ghost use Rattle.inspection.specs.Inspection.{up_to, Copied, LaidOut, Inspected, shown_byte};
 ghost use Rattle.inspection.specs.Clear.{clear_number, ClearLeft};
-ghost use Rattle.inspection.specs.Told.{chosen, value_of, ValueBy, Told};
+ghost use Rattle.inspection.specs.Told.{chosen, value_of, Told};
 
-use answers::Fault;
+use answers::Refusal;
 use breakdown::Breakdown;
-use delivery::{CheckCall, MakerCall};
 use moving::State;
-use order::OrderVerdict;
-use planner::PlannerVerdict;
-use scheduling::MakerVerdict;
-use timetable::TimetableVerdict;
-
-// Byte i of a row, of which `count` bytes are used: 0 behind them.
-fn used(bytes: &[u8; 64], count: usize, i: usize) -> u8
-    requires { i < 64 }
-    ensures { result ≡ up_to count (row bytes.now) i }
-{
-    if i < count {
-        return bytes[i];
-    }
-    0
-}
+use timetable::Counts;
 
 // Copies a row into the buffer from byte `at` on: its first `count` bytes, and zeros up to 64.
 fn copy_row(bytes: &[u8; 64], count: usize, at: usize, buffer: &mut [u8])
     requires { at + 64 ≤ length buffer.old }
     ensures { Copied (up_to count (row bytes.now)) at 64 buffer.old buffer.new }
 {
-    let mut i: usize = 0;
-    while i < 64 {
-        buffer[at + i] = used(bytes, count, i);
-        i += 1;
-    }
+    let used = count.min(64);
+    buffer[at..at + used].copy_from_slice(&bytes[..used]);
+    buffer[at + used..at + 64].fill(0);
 }
 
 // The four rows of a breakdown of n positions, one after another.
@@ -76,19 +58,15 @@ pub extern "C" fn wichteab_inspect_breakdown(order: &[u8], buffer: &mut [u8]) ->
     let mut rows = [0u64; 64];
     let mut starts = [0u8; 64];
     let mut goals = [0u8; 64];
-    let below = decoding::decode(order, &mut rows, &mut starts, &mut goals);
-    let OrderVerdict::Accepted(counts) = below else {
+    let Ok(counts) = decoding::decode(order, &mut rows, &mut starts, &mut goals) else {
         return 0;
     };
     let n = counts.positions;
-    let found = breakdown::break_down(&rows, n);
-    let ring = found.ring;
-    let handles = found.handles;
-    if ring == 0 {
+    let Some(found) = breakdown::break_down(&rows, n) else {
         return 0;
-    }
+    };
     lay_out(found, n, buffer);
-    (ring + handles * 256) as u64
+    (found.ring + found.handles * 256) as u64
 }
 
 // Clears a position of an order's floor by the nearest vacancy, with the positions of `held` held and the racks at their starts. The answer
@@ -110,8 +88,7 @@ pub extern "C" fn wichteab_inspect_clear(
     let mut rows = [0u64; 64];
     let mut starts = [0u8; 64];
     let mut goals = [0u8; 64];
-    let below = decoding::decode(order, &mut rows, &mut starts, &mut goals);
-    let OrderVerdict::Accepted(counts) = below else {
+    let Ok(counts) = decoding::decode(order, &mut rows, &mut starts, &mut goals) else {
         return 0;
     };
     if 64 <= position {
@@ -127,12 +104,11 @@ pub extern "C" fn wichteab_inspect_clear(
     let mut log = [0u16; moving::LOG];
     let mut tail = [0u8; 144];
     let clearing = shunting::clear(&rows, counts.positions, held, p, state, &mut log, &mut tail);
-    if !clearing.found {
+    let Some(moves) = clearing.moves else {
         return 0;
-    }
-    let racks = clearing.state.racks;
-    copy_row(&racks, 64, 0, buffer);
-    (clearing.moves + 1) as u64
+    };
+    copy_row(&clearing.state.racks, 64, 0, buffer);
+    (moves + 1) as u64
 }
 
 // The byte at `index` of the part of a timetable that the step reader gives back; 256 from the part's end on. No exported function may
@@ -146,36 +122,55 @@ pub extern "C" fn wichteab_inspect_step(timetable: &[u8], number: u64, index: u6
     if part.len() <= at {
         return 256;
     }
-    field::wide(part[at]) as u64
+    usize::from(part[at]) as u64
 }
 
 // The first, the second or the third of three numbers.
 fn choose(v: u64, x: u64, y: u64, z: u64) -> u64
     ensures { result ≡ chosen v x y z }
 {
-    if v == 0 {
-        return x;
+    match v {
+        0 => x,
+        1 => y,
+        _ => z,
     }
-    if v == 1 {
-        return y;
-    }
-    z
 }
 
-// A value of a refusal.
-fn refused_value(v: u64, fault: Fault, place: u32) -> u64
-    ensures { result ≡ value_of v (answered (refused_by fault place)) }
-{
-    choose(v, answers::number(fault), place as u64, 0)
+// What an accepted answer counts: its first two numbers, 0 for those that it lacks.
+trait Counted: Copy {
+    ghost values: { Self → List ℕ };
+
+    fn first_two(self) -> (u64, u64)
+        ensures { (result.0 ≡ get_or (values self) 0 0) × (result.1 ≡ get_or (values self) 1 0) };
 }
 
-// A value of the planner's answer.
-fn planner_value(v: u64, answer: PlannerVerdict) -> u64
-    ensures { ValueBy (λ a. answered (answer_of_planner a)) answer v result }
+impl Counted for usize {
+    ghost values = { the_count };
+
+    fn first_two(self) -> (u64, u64) {
+        (self as u64, 0)
+    }
+}
+
+impl Counted for Counts {
+    ghost values = { told };
+
+    fn first_two(self) -> (u64, u64) {
+        (self.steps as u64, self.moves as u64)
+    }
+}
+
+// A value of a call: of its answer, if it was reached.
+fn call_value<T: Counted>(v: u64, call: Option<Result<T, Refusal>>) -> u64
+    ensures { result ≡ value_of v (call_of (answer_by T.values) call) }
 {
-    match answer {
-        PlannerVerdict::Planned(moves) => choose(v, 0, moves as u64, 0),
-        PlannerVerdict::Refused(fault, place) => refused_value(v, fault, place),
+    match call {
+        None => choose(v, 255, 0, 0),
+        Some(Ok(counts)) => {
+            let (first, second) = counts.first_two();
+            choose(v, 0, first, second)
+        }
+        Some(Err(Refusal(fault, place))) => choose(v, fault.number(), place as u64, 0),
     }
 }
 
@@ -186,47 +181,7 @@ pub extern "C" fn wichteab_inspect_method(order: &[u8], buffer: &mut [u8], value
     ensures { (a : Answer) × PlanMade order.now buffer.old a buffer.new
         × (result ≡ value_of value (answered a)) }
 {
-    let planned = planner::make(order, buffer);
-    planner_value(value, planned)
-}
-
-// A value of the timetable maker's answer.
-fn maker_value(v: u64, answer: MakerVerdict) -> u64
-    ensures { ValueBy (λ a. answered (answer_of_maker a)) answer v result }
-{
-    match answer {
-        MakerVerdict::Accepted(steps) => choose(v, 0, steps as u64, 0),
-        MakerVerdict::Refused(fault, place) => refused_value(v, fault, place),
-    }
-}
-
-// A value of the timetable checker's answer.
-fn checker_value(v: u64, answer: TimetableVerdict) -> u64
-    ensures { ValueBy (λ a. answered (answer_of_check a)) answer v result }
-{
-    match answer {
-        TimetableVerdict::Accepted { steps, moves } => choose(v, 0, steps as u64, moves as u64),
-        TimetableVerdict::Refused(fault, place) => refused_value(v, fault, place),
-    }
-}
-
-// The same of their calls, which may not be reached.
-fn maker_call_value(v: u64, call: MakerCall) -> u64
-    ensures { result ≡ value_of v (call_of_maker call) }
-{
-    match call {
-        MakerCall::NotReached => choose(v, 255, 0, 0),
-        MakerCall::Answered(answer) => maker_value(v, answer),
-    }
-}
-
-fn checker_call_value(v: u64, call: CheckCall) -> u64
-    ensures { result ≡ value_of v (call_of_check call) }
-{
-    match call {
-        CheckCall::NotReached => choose(v, 255, 0, 0),
-        CheckCall::Answered(answer) => checker_value(v, answer),
-    }
+    call_value(value, Some(planner::make(order, buffer)))
 }
 
 // Delivers an order: the planner, the timetable maker and the timetable checker in turn. The answer is one value of one call: of the
@@ -244,14 +199,9 @@ pub extern "C" fn wichteab_inspect_delivery(
         timetable.new }
 {
     let all = delivery::deliver(order, plan, timetable);
-    let planned = all.plan;
-    let made = all.timetable;
-    let checked = all.check;
-    if call == 0 {
-        return planner_value(value, planned);
+    match call {
+        0 => call_value(value, Some(all.plan)),
+        1 => call_value(value, all.timetable),
+        _ => call_value(value, all.check),
     }
-    if call == 1 {
-        return maker_call_value(value, made);
-    }
-    checker_call_value(value, checked)
 }

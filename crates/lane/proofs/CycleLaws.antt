@@ -26,7 +26,7 @@ use Rattle.graph.proofs.NearestLaws.{nearest_found}
 use Rattle.breakdown.specs.Breakdown.{Among}
 use Rattle.breakdown.specs.Part.{Places, Part}
 use Rattle.breakdown.proofs.StageLaws.{among, Two, robust_neighbours}
-use Rattle.lane.specs.Lane.{HandleOn, BesideEnd, Closed, Copied}
+use Rattle.lane.specs.Lane.{HandleOn, BesideEnd, Closed}
 use Rattle.lane.proofs.StageLaws.{apart, between_among, among_between, among_few}
 
 module _ {n : ℕ} {g : List ℕ} {at : ℕ → ℕ} {s e u v : ℕ} (rows : Rows n g) (lane : HandleOn n (Edge g) at s e u v) where
@@ -120,15 +120,12 @@ module _ {n : ℕ} {g : List ℕ} {at : ℕ → ℕ} {s e u v : ℕ} (rows : Row
       pub route_short : size ≤ s
       route_short = among_few.different f size on (nearest.path route-some).distinct
 
-      module _ {none first cycle : ℕ → ℕ} (copied : Copied at s 0 none first (e - s)) (behind : Copied f 0 (e - s) first cycle size) where
-        inner : (j : ℕ) → j < e - s → cycle j ≡ at (s + j)
-        inner j l = let zero : j ≡ 0 + j = omega arith in behind.before j l ∙ ap first zero ∙ copied.copied j l
-
+      module _ {cycle : ℕ → ℕ} (inner : (j : ℕ) → j < e - s → cycle j ≡ at (s + j))
+          (behind : (j : ℕ) → j < size → cycle (e - s + j) ≡ f j) where
         later : (j : ℕ) → e - s ≤ j → j < e - s + size → cycle j ≡ f (j - (e - s))
         later j le l =
             let same : j ≡ e - s + (j - (e - s)) = omega arith in
-            let zero : 0 + (j - (e - s)) ≡ j - (e - s) = omega arith in
-            ap cycle same ∙ behind.copied (j - (e - s)) (omega arith) ∙ ap f zero
+            ap cycle same ∙ behind (j - (e - s)) (omega arith)
 
         ends : cycle (e - s + size - 1) ≡ u
         ends =

@@ -1,6 +1,5 @@
 -- Laws of a handle's places, and of the stage that it stands on.
 --
---     copied_none, copied_next, copied_all    the state of `copy_places`: no position is copied; one more; fewer than are
 --     agreed_next            the state of `is_settled`: one place more holds what the goal has there
 --     among_between, between_among    the stage as the places from 0 on; among_few    it has no more positions than places
 --     Region at s e k        the stage with what is not stacked of the handle: with the places from s + k up to e
@@ -15,13 +14,10 @@
 -- Assumes nothing.
 use Prim.Native.Nat.{ℕ, suc, ◌+◌, ◌-◌, ◌≤◌, ◌<◌}
 use mathlib.Core.Path.{◌≡◌, refl, sym, ap, subst, ◌∙◌}
-use mathlib.Core.List.{List}
 use mathlib.Core.Logic.{◌↔◌, ◌≢◌, inl, inr, ⊎_elim, by_cases}
 use native.Mathlib.Decide.{ℕ_discrete, dec_lt}
 use native.Mathlib.Omega.{arith}
 use lib.Bits.{bit_and, bit_or}
-use lib.ListN.{length, set}
-use lib.Seq.{get_or-set_same, get_or-set_other}
 use Rattle.sets.specs.Sets.{Has}
 use Rattle.sets.proofs.SetLaws.{has_and, has_or, has_some}
 use Rattle.graph.specs.Walk.{Symmetric}
@@ -30,35 +26,11 @@ use Rattle.graph.specs.Connected.{Whole}
 use Rattle.breakdown.specs.Breakdown.{Among, Between}
 use Rattle.breakdown.specs.Part.{Places, Part}
 use Rattle.breakdown.proofs.StageLaws.{Both, whole-right}
-use Rattle.graph.specs.Rows.{row}
 use Rattle.shunting.specs.Distance.{Reaches, AtMost}
 use Rattle.shunting.proofs.DistanceLaws.{at_most_inside, at_most_seats, reaches_back}
 use Rattle.shunting.specs.Cleared.{VacantBelow, Vacancy}
 use Rattle.moving.specs.Table.{Table}
-use Rattle.lane.specs.Lane.{HandleOn, Copied, Agreed, Placing}
-
-pub copied_none : (from : ℕ → ℕ) (first to : ℕ) (old : ℕ → ℕ) → Copied from first to old old 0
-copied_none from first to old = record { copied = λ i l. absurd (none l); before = λ i l. refl }
-  where
-    none : {i : ℕ} → i < 0 → ⊥
-    none l = omega arith
-
-pub copied_next : (from : ℕ → ℕ) (first to : ℕ) (old : ℕ → ℕ) (new : List ℕ) (j : ℕ) → to + j < length new
-    → Copied from first to old (row new) j
-    → Copied from first to old (row (set new (to + j) (from (first + j)))) (j + 1)
-copied_next from first to old new j room s =
-    record {
-      copied = λ i l.
-          by_cases (ℕ_discrete i j)
-          (λ e. subst (λ (x : ℕ). row (set new (to + j) (from (first + j))) (to + x) ≡ from (first + x)) (sym e)
-          (get_or-set_same new (to + j) (from (first + j)) 0 room))
-          (λ e. get_or-set_other new (to + j) (to + i) (from (first + j)) 0 (omega arith) ∙ s.copied i (omega arith));
-      before = λ i l. get_or-set_other new (to + j) i (from (first + j)) 0 (omega arith) ∙ s.before i l;
-    }
-
-pub copied_all : {from : ℕ → ℕ} {first to : ℕ} {old new : ℕ → ℕ} {j k : ℕ} → k ≤ j → Copied from first to old new j
-    → Copied from first to old new k
-copied_all le s = record { copied = λ i l. s.copied i (omega arith); before = s.before }
+use Rattle.lane.specs.Lane.{HandleOn, Agreed, Placing}
 
 pub agreed_next : (at T h : ℕ → ℕ) (s i : ℕ) → h (at i) ≡ T (at i) → Agreed at T h s i → Agreed at T h s (i + 1)
 agreed_next at T h s i here a j le l =

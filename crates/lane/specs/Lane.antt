@@ -5,7 +5,6 @@
 --     BesideEnd E at s u v y    y is a position of the stage beside the right end v that is neither end
 --     Closed n E at s e u v cycle size    the handle's inner positions from u's side on, then a way from v to u through the stage: a cycle
 --     After at e v i r          r is the position after place i of the handle: the next place's, or its right end
---     Copied from first to old new j    of `from` j places, from `first` on, are copied to those from `to` on; those before stay
 --     Agreed at T h s e         the places from s up to e hold what they have in the goal T
 --     Filled at T s n           the places from s up to n have a rack in the goal T
 --     Stacked at T e k s h      the first k places of the handle, from s on, hold what the last k of them, before e, have in the goal T
@@ -62,10 +61,6 @@ pub record Closed (n : ℕ) (E : ℕ → ℕ → Type 0) (at : ℕ → ℕ) (s e
 pub record After (at : ℕ → ℕ) (e v i r : ℕ) : Type 0 where
   pub inner : i + 1 < e → r ≡ at (i + 1)
   pub last : e ≤ i + 1 → r ≡ v
-
-pub record Copied (from : ℕ → ℕ) (first to : ℕ) (old new : ℕ → ℕ) (j : ℕ) : Type 0 where
-  pub copied : (i : ℕ) → i < j → new (to + i) ≡ from (first + i)
-  pub before : (i : ℕ) → i < to → new i ≡ old i
 
 abbrev pub Agreed : (at T h : ℕ → ℕ) → ℕ → ℕ → Type 0
 Agreed at T h s e = (j : ℕ) → s ≤ j → j < e → h (at j) ≡ T (at j)

@@ -48,17 +48,14 @@ fn open_stage(
     ensures vacancy { Vacancy (LaneStage lane) (row result.racks) }
     ensures log_len_unchanged { length log.new ≡ length log.old }
 {
-    let order = lane.order;
-    let racks = state.racks;
     let n = lane.positions;
     let s = lane.start;
-    let stage = breakdown::part(&order, 0, s);
-    if shunting::vacancies(&racks, n) & stage != 0 {
+    let stage = breakdown::part(&lane.order, 0, s);
+    if shunting::vacancies(&state.racks, n) & stage != 0 {
         return state;
     }
-    let region = stage | breakdown::part(&order, s + k, lane.end);
-    let mut begun = state;
-    begun.logged = 0;
+    let region = stage | breakdown::part(&lane.order, s + k, lane.end);
+    let begun = State { logged: 0, ..state };
     shunting::clear_within(rows, n, region, lane.right, begun, log, tail)
 }
 
@@ -71,7 +68,7 @@ fn after(order: &[u8; 64], i: usize, end: usize, right: usize) -> usize
     if end <= i + 1 {
         return right;
     }
-    field::wide(order[i + 1])
+    usize::from(order[i + 1])
 }
 
 // Carries the rack at place q of the handle to the position beside the right end, and leaves everything else as it stands: the rack goes
@@ -94,22 +91,18 @@ fn carry(
     ensures lane_carried { LaneCarried lane q (row state.racks) (row result.racks) }
     ensures log_len_unchanged { length log.new ≡ length log.old }
 {
-    let order = lane.order;
     let n = lane.positions;
     let end = lane.end;
     let right = lane.right;
     let beside = lane.beside;
-    let upper = sets::without(breakdown::part(&order, 0, end), beside);
-    let mut state = state;
-    state.logged = 0;
-    let mut i = q;
-    while i < end {
-        let here = order[i] as usize;
-        let next = after(&order, i, end, right);
+    let upper = sets::without(breakdown::part(&lane.order, 0, end), beside);
+    let mut state = State { logged: 0, ..state };
+    for i in q..end {
+        let here = lane.order[i] as usize;
+        let next = after(&lane.order, i, end, right);
         let free = sets::without(upper, here);
         state = shunting::clear_within(rows, n, free, next, state, log, tail);
         state = moving::make_move(here, next, state, log, tail);
-        i += 1;
     }
     let logged = state.logged;
     state = moving::make_move(right, beside, state, log, tail);
@@ -122,9 +115,8 @@ fn next_rack(lane: Lane, k: usize, goal: &[u8; 64]) -> u8
     requires k_bound { k < lane.end - lane.start }
     ensures { result ≡ next_rack lane (row goal.now) k }
 {
-    let order = lane.order;
     let at = lane.end - k - 1;
-    goal[order[at] as usize]
+    goal[lane.order[at] as usize]
 }
 
 // Clears the position beside the right end, and then the right end, with the stack and what lies behind the handle held.
@@ -146,14 +138,12 @@ fn open_end(
     ensures lane_open { LaneOpen lane (row result.racks) }
     ensures log_len_unchanged { length log.new ≡ length log.old }
 {
-    let order = lane.order;
     let n = lane.positions;
     let s = lane.start;
     let beside = lane.beside;
-    let stage = breakdown::part(&order, 0, s);
-    let region = stage | breakdown::part(&order, s + k, lane.end);
-    let mut begun = state;
-    begun.logged = 0;
+    let stage = breakdown::part(&lane.order, 0, s);
+    let region = stage | breakdown::part(&lane.order, s + k, lane.end);
+    let begun = State { logged: 0, ..state };
     let aside = shunting::clear_within(rows, n, region, beside, begun, log, tail);
     let free = sets::without(region, beside);
     shunting::clear_within(rows, n, free, lane.right, aside, log, tail)
@@ -181,22 +171,19 @@ fn fetch(
     ensures lane_fetched { LaneFetched lane (row goal.now) k (row result.racks) }
     ensures log_len_unchanged { length log.new ≡ length log.old }
 {
-    let order = lane.order;
     let n = lane.positions;
     let s = lane.start;
     let rack = next_rack(lane, k, goal);
-    let stage = breakdown::part(&order, 0, s);
-    let racks = state.racks;
-    if sets::has(stage, moving::where_is(&racks, n, rack)) {
+    let stage = breakdown::part(&lane.order, 0, s);
+    if sets::has(stage, moving::where_is(&state.racks, n, rack)) {
         return state;
     }
     let open = open_end(rows, lane, k, state, log, tail);
-    let moved = open.racks;
-    let at = moving::where_is(&moved, n, rack);
+    let at = moving::where_is(&open.racks, n, rack);
     if sets::has(stage, at) {
         return open;
     }
-    let q = breakdown::place_of(&order, s, lane.end, at);
+    let q = breakdown::place_of(&lane.order, s, lane.end, at);
     carry(rows, lane, q, open, log, tail)
 }
 
@@ -223,16 +210,18 @@ pub fn place(
     ensures lane_placing_2 { LanePlacing lane (row goal.now) (k + 1) (row result.racks) }
     ensures log_len_unchanged { length log.new ≡ length log.old }
 {
-    let order = lane.order;
     let n = lane.positions;
     let left = lane.left;
     let rack = next_rack(lane, k, goal);
-    let stage = breakdown::part(&order, 0, lane.start);
+    let stage = breakdown::part(&lane.order, 0, lane.start);
     let opened = open_stage(rows, lane, k, state, log, tail);
-    let mut fetched = fetch(rows, lane, k, goal, opened, log, tail);
-    fetched.logged = 0;
-    let from = moving::where_is(&fetched.racks, n, rack);
-    let brought = shunting::bring(rows, n, stage, from, left, fetched, log, tail);
+    let fetched = fetch(rows, lane, k, goal, opened, log, tail);
+    let begun = State {
+        logged: 0,
+        ..fetched
+    };
+    let from = moving::where_is(&begun.racks, n, rack);
+    let brought = shunting::bring(rows, n, stage, from, left, begun, log, tail);
     let cleared = shunting::clear_within(
         rows,
         n,
@@ -242,6 +231,5 @@ pub fn place(
         log,
         tail,
     );
-    let at = cycle.at;
-    turning::turn(&at, cycle.size, cleared, log, tail)
+    turning::turn(&cycle.at, cycle.size, cleared, log, tail)
 }

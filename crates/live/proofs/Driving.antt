@@ -1,6 +1,5 @@
 -- The calls, above what every call begins with: the answer and the picture afterwards at each return.
 --
---     opening_allowed         a role's number tells whether it may open a picture
 --     opened                  an opening that is let in
 --     shown_racks             a reading that is let in
 --     turned_below            a step turned round has the same positions
@@ -67,13 +66,6 @@ pub step_below : (t : List ℕ) (i : ℕ) → BelowPairs 64 (step_numbered t i)
 unfolding step_numbered
 step_below t i = moves-low _
 
-pub opening_allowed : (r : Role) (P : Picture) (n : ℕ) → n ≡ role_number r → not (eqb n 0) ≡ allowed opening r P
-opening_allowed r P n e = subst (λ (k : ℕ). not (eqb n 0) ≡ leb 1 k) e (on n)
-  where
-    on : (n : ℕ) → not (eqb n 0) ≡ leb 1 n
-    on zero = refl
-    on (suc n) = rw (ne_eqb (suc n) 0 (λ e. omega arith), le-leb 1 (suc n) (omega arith)) refl
-
 module _ (r : Role) (P : Picture) (o t : List ℕ) where
   pub opened : {c : ℕ} → Admitted (allowed opening r P) o t c → (n e m : ℕ) → OrderGave o n e m → (h : List ℕ)
       → h ≡ placed (replicate 64 0) 1 (positions (take (length o - 3) (drop 3 o)) (6 * (2 * e)) m)
@@ -115,9 +107,14 @@ module _ (r : Role) (P : Picture) (o t : List ℕ) where
           let is = here_is (floor_of o) placed_well.edges_below placed_well.edges_right P (step_below t (P.steps + 1)) in
           rw (lt-leb (step_count t) P.steps (subst (λ (k : ℕ). P.steps < k) a.count_is h), is, e) refl
 
-      pub run_illegal : false ≡ legal_on (floor_of o) P.positions P.racks next → Told running r P o t (refused 61 0) P
-      unfolding own_answer
-      run_illegal e = own_refused running r P o t a 61 0 (rw (decides false e) refl)
+      pub run_illegal : false ≡ legal_on (floor_of o) P.positions P.racks next → (h' : List ℕ)
+          → h' ≡ ran_here (floor_of o) P.positions P.racks next
+          → Told running r P o t (refused 61 0) (record { racks = h'; steps = P.steps; positions = P.positions })
+      unfolding own_answer ran_here
+      run_illegal e h' made =
+          let told = own_refused running r P o t a 61 0 (rw (decides false e) refl) in
+          let racks_are : h' ≡ P.racks = made ∙ rw (← e) refl in
+          (told.0, (λ i. record { racks = racks_are i; steps = P.steps; positions = P.positions }) ∙ told.1)
 
       pub ran_on_lem : true ≡ legal_on (floor_of o) P.positions P.racks next → (h' : List ℕ)
           → h' ≡ ran_here (floor_of o) P.positions P.racks next
@@ -161,9 +158,14 @@ module _ (r : Role) (P : Picture) (o t : List ℕ) where
               e,
             ) refl
 
-        pub take_illegal : false ≡ legal_on (floor_of o) P.positions P.racks back → Told taking_back r P o t (refused 62 0) P
-        unfolding own_answer
-        take_illegal e = own_refused taking_back r P o t a 62 0 (rw (decides_back false e) refl)
+        pub take_illegal : false ≡ legal_on (floor_of o) P.positions P.racks back → (h' : List ℕ)
+            → h' ≡ ran_here (floor_of o) P.positions P.racks back
+            → Told taking_back r P o t (refused 62 0) (record { racks = h'; steps = P.steps; positions = P.positions })
+        unfolding own_answer ran_here
+        take_illegal e h' made =
+            let told = own_refused taking_back r P o t a 62 0 (rw (decides_back false e) refl) in
+            let racks_are : h' ≡ P.racks = made ∙ rw (← e) refl in
+            (told.0, (λ i. record { racks = racks_are i; steps = P.steps; positions = P.positions }) ∙ told.1)
 
         pub took_back : true ≡ legal_on (floor_of o) P.positions P.racks back → (h' : List ℕ)
             → h' ≡ ran_here (floor_of o) P.positions P.racks back

@@ -2,21 +2,22 @@
 --
 --     gate_lacking, gate_below, gate_passed   the gate's answer at each return
 --     Admitted a o t k        an allowed call, with an order and a timetable that the checker accepts, of k steps
---     gate_told               what the gate's acceptance tells
---     let_in                  the same of a verdict of the gate
---     refused_below           a refusal by the gate is the call's, and leaves the picture; turned-away: the same of a verdict of the gate;
---                             refused-reading: a refused reading shows nothing
+--     gate_told               what the gate's acceptance tells; order_let_in: so the order is well-formed
+--     refused_below           a refusal by the gate is the call's, and leaves the picture; turned_away: the same of what `?` makes of it;
+--                             refused_reading: a refused reading shows nothing
 --     admitted_answer, admitted-picture   of an admitted call the rest decides
 --     own_refused, own_accepted           the answer and the picture, where the rest is a refusal and where it is none
---     after                   an answer and a picture that are those before, which are those asked for
 -- Assumes nothing.
 use Prim.Native.Nat.{ℕ, ◌^◌, ◌<◌}
 use mathlib.Core.Path.{◌≡◌, refl, sym, ap, ◌∙◌}
 use mathlib.Core.Bool.{Bool, true, false, not}
 use mathlib.Core.List.{List, [], ◌∷◌}
 use native.Mathlib.Omega.{arith}
-use Rattle.answers.specs.Answer.{Answer, accepted, refused, refuse, pass_up}
-use Rattle.answers.specs.declared.Fault.{Fault}
+use Rattle.std.specs.Prelude.{Result, IsErrAnd}
+use Rattle.answers.specs.Answer.{Answer, accepted, refused, refused_by, refuse, pass_up, the_count}
+use Rattle.answers.proofs.AnswerLaws.{handed_on}
+use Rattle.answers.specs.declared.Refusal.{Refusal}
+use Rattle.order.specs.Order.{WellFormed}
 use Rattle.timetable.specs.Reading.{total}
 use Rattle.timetable.specs.Timetable.{step_count, parts_of, timetable_answer}
 use Rattle.timetable_check.proofs.SizeLaws.{count_small}
@@ -26,8 +27,6 @@ use Rattle.live.specs.Roles.{Kind, reading}
 use Rattle.live.specs.Calls.{allowed, own_answer, call_answer, changed, by_answer, picture_after, answer_of}
 use Rattle.live.specs.Admitting.{gate_answer}
 use Rattle.live.specs.declared.Role.{Role}
-use Rattle.live.specs.declared.LiveVerdict.{LiveVerdict}
-use Rattle.live.specs.declared.LiveVerdict.TheVariants.{Accepted, Refused}
 
 pub record Admitted (a : Bool) (o t : List ℕ) (k : ℕ) : Type 0 where
   pub is_allowed : a ≡ true
@@ -43,11 +42,9 @@ module _ (a : Bool) (o t : List ℕ) where
   unfolding gate_answer
   gate_lacking e = rw e refl
 
-  pub gate_below : a ≡ true → (below r other : Answer) (n p : ℕ) → below ≡ timetable_answer o t → below ≡ refused n p
-      → r ≡ pass_up below other
-      → r ≡ gate_answer a o t
+  pub gate_below : a ≡ true → {r : Answer} → r ≡ pass_up (timetable_answer o t) (accepted (step_count t ∷ [])) → r ≡ gate_answer a o t
   unfolding gate_answer
-  gate_below e below r other n p b f up = rw (e, up, ← b, f) refl
+  gate_below e up = rw e up
 
   steps_are : (k m : ℕ) → accepted (k ∷ m ∷ []) ≡ timetable_answer o t → k ≡ step_count t
   steps_are k m b =
@@ -70,6 +67,9 @@ module _ (a : Bool) (o t : List ℕ) where
       on true q (accepted v) w e = record { is_allowed = q; counts = v; is_accepted = w; count_is = cc }
       on true q (refused n p) w e = refused_not e
       on false q x w e = refused_not e
+
+  pub order_let_in : {k : ℕ} → accepted (k ∷ []) ≡ gate_answer a o t → WellFormed o
+  order_let_in {k} e = let it = gate_told k e in ((accepted_leads o t it.counts).0 it.is_accepted).order_right
 
 module _ (k : Kind) (r : Role) (P : Picture) (o t : List ℕ) where
   -- a refused call leaves the picture
@@ -104,23 +104,17 @@ module _ (k : Kind) (r : Role) (P : Picture) (o t : List ℕ) where
     unfolding picture_after
     own_accepted v e = let is = admitted_answer ∙ e in (sym is, rw is refl)
 
--- what a verdict of the gate tells
-module _ (k : Kind) (r : Role) (P : Picture) (o t : List ℕ) (v : LiveVerdict) (e : answer_of v ≡ gate_answer (allowed k r P) o t) where
-  pub let_in : (n : ℕ) → v ≡ Accepted n → Admitted (allowed k r P) o t n
-  let_in n is = gate_told _ o t n (sym (ap answer_of is) ∙ e)
-
-  pub turned_away : (f : Fault) (p : ℕ) → v ≡ Refused f p → (answer_of v ≡ call_answer k r P o t) × (P ≡ picture_after k r P o t)
-  turned_away f p is =
-      let told = refused_below k r P o t _ _ (sym (ap answer_of is) ∙ e) in
-      (ap answer_of is ∙ told.0, told.1)
-
-pub after : {a b c : Answer} {P Q R : Picture} → (a ≡ b) × (P ≡ Q) → (b ≡ c) × (Q ≡ R) → (a ≡ c) × (P ≡ R)
-after left told = (left.0 ∙ told.0, left.1 ∙ told.1)
+-- v is what `?` makes of the gate's refusal e
+pub turned_away : (k : Kind) (r : Role) (P : Picture) (o t : List ℕ) (v : Result ℕ Refusal) (e : Refusal) → IsErrAnd v (λ x. x ≡ e)
+    → refused_by e.0 e.1 ≡ gate_answer (allowed k r P) o t → (answer_of v ≡ call_answer k r P o t) × (P ≡ picture_after k r P o t)
+turned_away k r P o t v e is told =
+    let below = refused_below k r P o t _ _ told in
+    (handed_on the_count v e is below.0, below.1)
 
 -- a refused reading shows nothing
-pub refused_reading : (r : Role) (P : Picture) (o t : List ℕ) (v : Answer) (n p : ℕ) → v ≡ refused n p
-    → refused n p ≡ gate_answer (allowed reading r P) o t → (x : List ℕ)
-    → (v ≡ call_answer reading r P o t) × (x ≡ by_answer (call_answer reading r P o t) P.racks x)
-refused_reading r P o t v n p is e x =
-    let told = refused_below reading r P o t n p e in
-    (is ∙ told.0, rw (← told.0) refl)
+pub refused_reading : (r : Role) (P : Picture) (o t : List ℕ) (v : Result ℕ Refusal) (e : Refusal) → IsErrAnd v (λ x. x ≡ e)
+    → refused_by e.0 e.1 ≡ gate_answer (allowed reading r P) o t → (x : List ℕ)
+    → (answer_of v ≡ call_answer reading r P o t) × (x ≡ by_answer (call_answer reading r P o t) P.racks x)
+refused_reading r P o t v e is told x =
+    let below = refused_below reading r P o t _ _ told in
+    (handed_on the_count v e is below.0, rw (← below.0) refl)

@@ -12,8 +12,8 @@
 --     answer_of v             the verdict v as an answer
 -- Whether a step is legal on a picture is decided in HereDecision.antt; what is decided is the type, `LegalHere`.
 -- Assumes nothing.
-use Rattle.std.specs.Prelude.{ℕ, ◌+◌, ◌-◌, Bool, true, false, not, ◌&&◌, ◌||◌, List, [], ◌∷◌, eqb, ltb, leb}
-use Rattle.answers.specs.Answer.{Answer, accepted, refused, refused_by, holds, refuse, pass_up}
+use Rattle.std.specs.Prelude.{ℕ, ◌+◌, ◌-◌, Bool, true, false, not, ◌&&◌, ◌||◌, List, [], ◌∷◌, eqb, ltb, leb, Result}
+use Rattle.answers.specs.Answer.{Answer, accepted, refused, holds, refuse, pass_up, the_count, answer_by}
 use Rattle.order.specs.Order.{position_count, floor_of, starts_of}
 use Rattle.order.specs.Tables.{racks_at}
 use Rattle.motion.specs.TurnedStep.{turned_step}
@@ -22,8 +22,7 @@ use Rattle.timetable.specs.Timetable.{step_count, timetable_answer}
 use Rattle.live.specs.Picture.{Picture, is_open}
 use Rattle.live.specs.Roles.{Kind, opening, reading, running, taking_back, right}
 use Rattle.live.specs.declared.Role.{Role}
-use Rattle.live.specs.declared.LiveVerdict.{LiveVerdict}
-use Rattle.live.specs.declared.LiveVerdict.TheVariants.{Accepted, Refused}
+use Rattle.answers.specs.declared.Refusal.{Refusal}
 use Rattle.stepping.specs.Judging.{step_numbered}
 use Rattle.live.specs.HereDecision.{legal_here?}
 
@@ -72,6 +71,5 @@ by_answer (refused number place) x y = y
 unfoldable pub picture_after : Kind → Role → Picture → List ℕ → List ℕ → Picture
 picture_after k r P o t = by_answer (call_answer k r P o t) (changed k P o t) P
 
-abbrev pub answer_of : LiveVerdict → Answer
-answer_of (Accepted steps) = accepted (steps ∷ [])
-answer_of (Refused f place) = refused_by f place
+abbrev pub answer_of : Result ℕ Refusal → Answer
+answer_of = answer_by the_count

@@ -1,4 +1,3 @@
-pub mod SameLaws
 pub mod MovesLaws
 pub mod RingLaws
 pub mod OrderTables

@@ -2,25 +2,11 @@
 // specs/Moves.antt says what is promised of them; `plan_moves` is the entry point.
 #![tactic(auto)]
 
-ghost use Rattle.std.specs.Prelude.{true, ◌↔◌, ◌≢◌, ◌≡◌, ℕ, ◌*◌, ◌≤◌, ◌<◌, length};
+ghost use Rattle.std.specs.Prelude.{◌≢◌, ◌≡◌, ◌*◌, ◌≤◌, length};
 ghost use Rattle.graph.specs.Rows.{row};
 ghost use Rattle.method.specs.Moves.{Differ, SomeTables, MovesMade};
 
 use moving::State;
-
-// Do two tables have the same racks at every position?
-fn same_tables(start: &[u8; 64], goal: &[u8; 64]) -> bool
-    ensures { (result ≡ true) ↔ ((p : ℕ) → p < 64 → row start.now p ≡ row goal.now p) }
-{
-    let mut p: usize = 0;
-    while p < 64 {
-        if start[p] != goal[p] {
-            return false;
-        }
-        p += 1;
-    }
-    true
-}
 
 // The moves of a plan on a floor that is no ring: vacancies beyond two are filled with stand-ins, and the breakdown leads from the one
 // arrangement to the other. Yields how many there are.
@@ -43,7 +29,9 @@ fn broken_down(
     let mut goal = goals;
     solving::fill(n, m, &mut start);
     solving::fill(n, m, &mut goal);
-    let found = breakdown::break_down(rows, n);
+    let Some(found) = breakdown::break_down(rows, n) else {
+        unreachable!();
+    };
     let state = State {
         racks: start,
         real: m,
@@ -71,15 +59,13 @@ fn round(
     ensures { MovesMade n e m rows.now starts goals tail.old tail.new result }
 {
     let circle = ring::circle(rows, n);
-    let goal = goals;
-    let real = m;
-    let state = State {
+    let begun = State {
         racks: starts,
-        real,
+        real: m,
         written: 0,
         logged: 0,
     };
-    let end = circling::solve(&circle, n, &goal, state, tail);
+    let end = circling::solve(&circle, n, &goals, begun, tail);
     end.written
 }
 
@@ -99,9 +85,7 @@ pub fn plan_moves(
     requires n_in_bounds { 18 * (n * (n * n)) ≤ length tail.old }
     ensures { MovesMade n e m rows.now starts goals tail.old tail.new result }
 {
-    let start = starts;
-    let goal = goals;
-    if same_tables(&start, &goal) {
+    if starts == goals {
         return 0;
     }
     if e == n {

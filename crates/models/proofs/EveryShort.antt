@@ -6,15 +6,14 @@
 --     each_model        each model has one, without racks
 --     model_order       so each model's floor has an order with two vacancies: what the theorems suppose of an order holds of something
 -- Assumes nothing.
-use Prim.Native.Nat.{ℕ, ◌+◌, ◌*◌, ◌/◌, ◌^◌, ◌≤◌, ◌<◌}
-use mathlib.Core.Path.{◌≡◌, refl, sym, ap, ap₂, subst, ◌∙◌}
-use mathlib.Core.Bool.{true, false, not}
+use Prim.Native.Nat.{ℕ, ◌+◌, ◌*◌, ◌/◌, ◌≤◌}
+use mathlib.Core.Path.{◌≡◌, refl, sym, ap, subst, ◌∙◌}
+use mathlib.Core.Bool.{false}
 use mathlib.Core.List.{List, [], ◌∷◌, ◌++◌, append_assoc, append-nil}
 use native.Mathlib.Omega.{arith}
 use borrow.Author.Tests.{le-ltb, not-true}
 use lib.Pow.{pow_pos}
 use lib.ListN.{length, replicate, length-append}
-use lib.Dec.{ltb}
 use Rattle.answers.specs.Answer.{accepted}
 use Rattle.field.specs.Bits.{bits, bits_of, field, positions, position_bits, pad}
 use Rattle.field.proofs.BitLaws.{length-bits, field_at}
@@ -30,7 +29,7 @@ use Rattle.models.specs.ShortOrder.{ShortOrder, short_bits, short_record, model_
 use Rattle.models.specs.ShortOrder.{short_racks, short_starts, short_goals, short_of, wrong_short}
 use Rattle.models.specs.Expansion.{full_order, expanded, expand_answer}
 use Rattle.models.specs.Theorems.{ShortChoice, HasModel, WrittenOut}
-use Rattle.models.proofs.GridLaws.{known_range, model_size, ModelSize, model_bi_connected}
+use Rattle.models.proofs.GridLaws.{known_range, model_size, model_bi_connected}
 use Rattle.models.proofs.ExpansionLaws.{ShortFits, packed}
 use Rattle.models.proofs.ShortLaws.{short_bits_are, length-short_bits}
 use Rattle.models.proofs.Theorems.{written_out}

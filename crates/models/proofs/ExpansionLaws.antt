@@ -9,17 +9,17 @@
 --     buffer-kept, buffer-written     the buffer afterwards
 --     meets_50, no_model, bad_racks, too_long, sound    the answer, from the facts
 -- Assumes nothing.
-use Prim.Native.Nat.{ℕ, ◌+◌, ◌-◌, ◌*◌, ◌/◌, ◌%◌, ◌^◌, ◌≤◌, ◌<◌}
-use mathlib.Core.Path.{◌≡◌, refl, sym, ap, ap₂, subst, ◌∙◌}
+use Prim.Native.Nat.{ℕ, ◌+◌, ◌-◌, ◌*◌, ◌/◌, ◌%◌, ◌≤◌, ◌<◌}
+use mathlib.Core.Path.{◌≡◌, refl, sym, ap, ◌∙◌}
 use mathlib.Core.Bool.{Bool, true, false, not, ◌||◌, or-true}
 use mathlib.Core.List.{List, [], ◌∷◌}
 use native.Mathlib.Omega.{arith}
-use borrow.Author.Tests.{lt-ltb, le-ltb, eq-eqb, ne_eqb, ltb-false, eqb-true, not-false, not-true}
+use borrow.Author.Tests.{lt-ltb, le-ltb, eq-eqb, ne_eqb, ltb-false, eqb-true, not-false}
 use lib.ListN.{length, get_or, take, drop, length-drop}
 use lib.Dec.{ltb, eqb}
 use Rattle.answers.specs.Answer.{Answer, accepted, refused, refuse}
 use Rattle.answers.proofs.AnswerLaws.{refuse_not, refuse_else}
-use Rattle.field.specs.Bits.{field, positions, pad, to_bytes}
+use Rattle.field.specs.Bits.{field, positions, pad}
 use Rattle.field.specs.Writing.{written, left_by}
 use Rattle.field.proofs.BitLaws.{field_in_byte, field-drop, field_lt}
 use Rattle.field.proofs.RecordLaws.{rest_is, up_to_byte, positions-drop, length-positions, length-to_bytes}
@@ -29,7 +29,7 @@ use Rattle.order.proofs.RecordOf.{length-order_bits}
 use Rattle.models.specs.Grid.{unknown_model, model_floor}
 use Rattle.models.specs.ShortOrder.{model_code, short_racks, short_starts, short_goals, short_length, wrong_short}
 use Rattle.models.specs.Expansion.{full_order, expanded, expand_answer, buffer_after}
-use Rattle.models.proofs.GridLaws.{model_size, ModelSize}
+use Rattle.models.proofs.GridLaws.{model_size}
 
 module _ (s : List ℕ) (two : 2 ≤ length s) where
   pub model_is : get_or s 0 0 < 256 → model_code s ≡ get_or s 0 0

@@ -11,15 +11,13 @@
 --     one_model         no two have as many positions
 --     ModelSize F, model_size    1 to 64 positions, at most 255 edges, and more of them than positions
 --     model_below       of positions below 64
---     size_is           its rows and columns, as the code needs them
+--     size_is, size_tabled    its rows and columns, as the code needs them, and in the code's table
 --     model_edges       lower first, below n and ascending
 -- Assumes nothing.
-use Prim.Native.Nat.{ℕ, zero, suc, ◌+◌, ◌-◌, ◌*◌, ◌/◌, ◌%◌, ◌≤◌, ◌<◌}
-use mathlib.Core.Path.{◌≡◌, refl, sym, subst, ap, ◌∙◌}
+use Prim.Native.Nat.{ℕ, ◌+◌, ◌-◌, ◌*◌, ◌/◌, ◌%◌, ◌≤◌, ◌<◌}
+use mathlib.Core.Path.{◌≡◌, refl, subst}
 use mathlib.Core.Bool.{Bool, true, false, cond, not, ◌&&◌, ◌||◌, or-true, or-false}
-use mathlib.Core.List.{List, [], ◌∷◌, ◌++◌}
-use mathlib.Core.Logic.{◌≢◌, by_cases}
-use native.Mathlib.Decide.{ℕ_discrete}
+use mathlib.Core.List.{[], ◌∷◌}
 use native.Mathlib.Omega.{arith}
 use mir.Facts.{and_yes}
 use borrow.Author.Tests.{eqb-false, ltb-false, eq-eqb, ne_eqb, lt-ltb, le-ltb}
@@ -36,9 +34,10 @@ use Rattle.breakdown.proofs.StageLaws.{breakdown_bi_connected}
 use Rattle.floor.specs.FloorAnswer.{Joins}
 use Rattle.floor.specs.Sides.{count_of, edges_at, FourSided}
 use Rattle.floor.proofs.FloorRows.{joined-turned}
-use Rattle.models.specs.Grid.{model_rows, model_columns, rows_of, columns_of, unknown_model}
+use Rattle.models.specs.Grid.{rows_of, columns_of, unknown_model}
 use Rattle.models.specs.Grid.{to_right, to_below, edges_on, grid_edges, grid, model_floor}
 use Rattle.models.specs.Writing.{SizeOf}
+use Rattle.models.specs.declared.Size.{Size}
 use Rattle.models.proofs.Certificate.{from, from_each, certifies, certified}
 
 module _ (k : ℕ) where
@@ -132,6 +131,21 @@ all_measured : T (from 1 5 is_measured)
 unfolding from model_floor grid grid_edges edges_on to_right to_below rows_of columns_of
 all_measured = tt
 
+-- the code's table
+abbrev size_at : ℕ → Size
+size_at k =
+    get_or
+    (record { rows = 2; columns = 3 } ∷ record { rows = 3; columns = 4 } ∷ record { rows = 4; columns = 4 }
+    ∷ record { rows = 4; columns = 5 } ∷ record { rows = 8; columns = 8 } ∷ [])
+    (k - 1) (record { rows = 0; columns = 0 })
+
+abbrev is_tabled : ℕ → Bool
+is_tabled k = eqb (size_at k).rows (rows_of k) && eqb (size_at k).columns (columns_of k)
+
+all_tabled : T (from 1 5 is_tabled)
+unfolding from rows_of columns_of
+all_tabled = tt
+
 all_ascend : T (from 1 5 (λ k. not (wrong_edges (model_floor k))))
 unfolding from wrong_edges some bad_edge precedes ascending model_floor grid grid_edges edges_on to_right to_below rows_of columns_of
 all_ascend = tt
@@ -224,3 +238,9 @@ module _ (k : ℕ) (known : unknown_model k ≡ false) where
         few = leb→le (r * c) 64 t₃.0;
         edges_are = eqb→eq (length (model_floor k).edges + (r + c)) (2 * (r * c)) t₃.1;
       }
+
+  -- and the code's table has them
+  pub size_tabled : SizeOf k (size_at k).rows (size_at k).columns
+  size_tabled =
+      let t = and_yes (eqb (size_at k).rows (rows_of k)) _ (models_each is_tabled all_tabled k known) in
+      rw (eqb→eq (size_at k).rows (rows_of k) t.0, eqb→eq (size_at k).columns (columns_of k) t.1) size_is

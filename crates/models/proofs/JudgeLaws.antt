@@ -8,6 +8,8 @@
 --     judged_short             52
 --     judged_sound             accepted, with the length of the full record
 -- Assumes nothing.
+use mir.Val.{Fits}
+use mir.Syntax.{w8}
 use Prim.Native.Nat.{ℕ, ◌+◌, ◌-◌, ◌*◌, ◌/◌, ◌%◌, ◌≤◌, ◌<◌}
 use mathlib.Core.Path.{◌≡◌, refl, sym, ap, ap₂, subst, ◌∙◌}
 use mathlib.Core.Bool.{Bool, true, false, not}
@@ -15,7 +17,7 @@ use mathlib.Core.List.{List, [], ◌∷◌}
 use native.Mathlib.Omega.{arith}
 use borrow.Author.Tests.{not-false, not-true}
 use lib.ListN.{length, get_or, take, drop, length-drop}
-use Rattle.answers.specs.Answer.{Answer, accepted, refused}
+use Rattle.answers.specs.Answer.{accepted, refused}
 use Rattle.field.specs.Bits.{field, pad}
 use Rattle.field.proofs.BitLaws.{field_lt}
 use Rattle.field.proofs.RecordLaws.{rest_is}
@@ -26,7 +28,7 @@ use Rattle.models.specs.ShortOrder.{model_code, short_racks, wrong_short}
 use Rattle.models.specs.Expansion.{full_order, expanded, expand_answer}
 use Rattle.models.specs.Writing.{SizeOf}
 use Rattle.models.proofs.GridLaws.{known_is, unknown_zero, unknown_many}
-use Rattle.models.proofs.ExpansionLaws.{model_is, racks_is, spare_is, ShortFits}
+use Rattle.models.proofs.ExpansionLaws.{model_is, racks_is, spare_is}
 use Rattle.models.proofs.ExpansionLaws.{short_fits, wrong_length_lem, spare_set, pad-set, packed}
 use Rattle.models.proofs.ExpansionLaws.{tail-pad, tail_room, tail-starts, tail-goals, length-expanded}
 use Rattle.models.proofs.ExpansionLaws.{meets_50, no_model, bad_racks, too_long, sound}
@@ -78,8 +80,14 @@ pub record ShortHead (s : List ℕ) (x b : ℕ) : Type 0 where
   pub racks_byte : b ≡ get_or s 1 0
   pub racks_small : b < 256
 
-pub read_head : {s : List ℕ} {x b : ℕ} → (x ≡ get_or s 0 0) × (x < 256) → (b ≡ get_or s 1 0) × (b < 256) → ShortHead s x b
-read_head (m, l) (r, k) = record { model_byte = m; model_small = l; racks_byte = r; racks_small = k }
+pub read_head : {s : List ℕ} {x b : ℕ} → ((i : ℕ) → Fits w8 (get_or s i 0)) → x ≡ get_or s 0 0 → b ≡ get_or s 1 0 → ShortHead s x b
+read_head bytes m r =
+    record {
+      model_byte = m;
+      model_small = omega (arith, bytes 0);
+      racks_byte = r;
+      racks_small = omega (arith, bytes 1);
+    }
 
 -- the order passed 50, and its model is in the table
 pub record Known (s : List ℕ) (x m : ℕ) : Type 0 where

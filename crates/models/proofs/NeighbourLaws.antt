@@ -4,14 +4,14 @@
 --     side_relation      side neighbours are a relation on the grid's positions
 --     model_joins        two positions of a model's floor are joined exactly if they are side neighbours
 -- Assumes nothing.
-use Prim.Native.Nat.{ℕ, ◌+◌, ◌*◌, ◌/◌, ◌%◌, ◌≤◌, ◌<◌}
-use mathlib.Core.Path.{◌≡◌, refl, sym, ap, ap₂, subst, ◌∙◌}
-use mathlib.Core.Bool.{Bool, true, false, cond, ◌&&◌, ◌||◌, and_comm, or_comm, and-false}
+use Prim.Native.Nat.{ℕ, ◌+◌, ◌*◌, ◌/◌, ◌%◌, ◌≤◌}
+use mathlib.Core.Path.{◌≡◌, refl, sym, ap, ap₂, ◌∙◌}
+use mathlib.Core.Bool.{Bool, true, false, ◌&&◌, ◌||◌, and_comm, or_comm, and-false}
 use mathlib.Core.List.{List, [], ◌∷◌}
 use native.Mathlib.Decide.{ℕ_discrete}
 use native.Mathlib.Omega.{arith}
 use mir.Facts.{and_yes}
-use borrow.Author.Tests.{eq-eqb, ne_eqb, ltb-true, eqb-true}
+use borrow.Author.Tests.{eq-eqb, ne_eqb, ltb-true}
 use lib.Dec.{T, ltb, eqb}
 use Rattle.order.specs.Floor.{Floor, is_pair, joined}
 use Rattle.order.specs.EdgeSets.{IsRelation, edges_listed, is_edge, floor_from}
@@ -21,7 +21,7 @@ use Rattle.tables.proofs.TableLaws.{passed}
 use Rattle.models.specs.Grid.{rows_of, columns_of, unknown_model, to_right, to_below}
 use Rattle.models.specs.Grid.{edges_on, grid_edges, grid, model_floor, apart_by_one, side_by_side}
 use Rattle.models.proofs.Certificate.{from}
-use Rattle.models.proofs.GridLaws.{models_each, model_size, ModelSize}
+use Rattle.models.proofs.GridLaws.{models_each, model_size}
 
 turned-eqb : (a b : ℕ) → eqb a b ≡ eqb b a
 turned-eqb a b = elim (ℕ_discrete a b) [

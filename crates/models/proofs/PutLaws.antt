@@ -1,6 +1,5 @@
 -- Pairs written one after another, and an order's record made of them.
 --
---     right_none, right_one, below_none, below_one    the edges from a position, from what the code tests
 --     right_inside       a position with one on its right is not the grid's last
 --     put_nothing, put_one, room_one     no pair, and one
 --     put_pairs_append    some pairs and then others
@@ -12,16 +11,15 @@
 --     head_is            an order's head as bytes
 --     order_is           an order's record is its head and its pairs, packed: the edges, then the racks' places two by two
 -- Assumes nothing.
-use Prim.Native.Nat.{ℕ, suc, ◌+◌, ◌-◌, ◌*◌, ◌/◌, ◌%◌, ◌^◌, ◌≤◌, ◌<◌}
+use Prim.Native.Nat.{ℕ, suc, ◌+◌, ◌-◌, ◌*◌, ◌/◌, ◌%◌, ◌≤◌, ◌<◌}
 use mathlib.Core.Path.{◌≡◌, refl, sym, ap, ap₂, subst, ◌∙◌}
 use mathlib.Core.Bool.{Bool, true, false, cond}
 use mathlib.Core.List.{List, [], ◌∷◌, ◌++◌, append_assoc, append-nil}
 use native.Mathlib.Omega.{arith}
 use native.Mathlib.Nat.{add_assoc, add-zero, div-add-mod', div-lt_iff_lt-mul, mul-le-mul_right}
-use borrow.Author.Tests.{lt-ltb, le-ltb}
 use lib.ListN.{length, get_or, set, drop, length-append, length-drop, length-set}
 use lib.Seq.{drop-drop}
-use lib.Dec.{ltb, eqb}
+use lib.Dec.{eqb}
 use Rattle.field.specs.Bits.{PairAt, bits, bits_of, pairs, pair_bits, position_bits, to_bytes}
 use Rattle.field.specs.Bytes.{none, more, Bytes, BelowPairs}
 use Rattle.field.specs.Packing.{pack, put_pair}
@@ -32,23 +30,6 @@ use Rattle.field.proofs.PackingLaws.{bits_append, bits-split, added, added_is, p
 use Rattle.order.specs.Order.{Order, order_bits, order_record}
 use Rattle.models.specs.Grid.{to_right, to_below, edges_on, grid_edges}
 use Rattle.models.specs.Writing.{order_head, put_pairs, Room, Put}
-
-module _ (c p : ℕ) where
-  pub right_none : c ≤ p % c + 1 → to_right c p ≡ []
-  unfolding to_right
-  right_none h = rw (le-ltb (p % c + 1) c h) refl
-
-  pub right_one : p % c + 1 < c → to_right c p ≡ (p, p + 1) ∷ []
-  unfolding to_right
-  right_one h = rw (lt-ltb (p % c + 1) c h) refl
-
-  pub below_none : (n : ℕ) → n ≤ p + c → to_below n c p ≡ []
-  unfolding to_below
-  below_none n h = rw (le-ltb (p + c) n h) refl
-
-  pub below_one : (n : ℕ) → p + c < n → to_below n c p ≡ (p, p + c) ∷ []
-  unfolding to_below
-  below_one n h = rw (lt-ltb (p + c) n h) refl
 
 -- the row of p ends no later than the grid
 pub right_inside : (r c p : ℕ) → p < r * c → p % c + 1 < c → p + 1 < r * c

@@ -5,16 +5,16 @@
 --     short_of_read      so two that describe the same are the same bytes
 -- Assumes nothing.
 use Prim.Native.Nat.{ℕ, ◌+◌, ◌*◌}
-use mathlib.Core.Path.{◌≡◌, refl, sym, ap, ◌∙◌}
+use mathlib.Core.Path.{◌≡◌, sym, ap, ◌∙◌}
 use mathlib.Core.Bool.{false}
 use mathlib.Core.List.{List, ◌++◌}
 use native.Mathlib.Omega.{arith}
 use lib.ListN.{length, replicate, length-append}
 use lib.Seq.{take_all}
-use Rattle.field.specs.Bits.{bits, bits_of, field, positions, position_bits, pad, padded}
+use Rattle.field.specs.Bits.{bits, bits_of, position_bits, pad, padded}
 use Rattle.field.specs.Bytes.{Bytes}
 use Rattle.field.proofs.BitLaws.{Bits, below_append, bits_are, bits-field, length-bits, length-bits_of}
-use Rattle.field.proofs.RecordLaws.{length-positions, bits-positions, length-position_bits, position_bits_are}
+use Rattle.field.proofs.RecordLaws.{bits-positions, length-position_bits, position_bits_are}
 use Rattle.field.proofs.RecordLaws.{zeros_at, join, padded-by, up_to_byte, to_bytes-from}
 use Rattle.field.proofs.WholeBytes.{pad-after-whole}
 use Rattle.models.specs.ShortOrder.{ShortOrder, short_bits, short_record, model_code}

@@ -11,13 +11,13 @@
 -- Assumes nothing.
 use Prim.Native.Nat.{ℕ, ◌+◌, ◌≤◌}
 use mathlib.Core.Path.{◌≡◌, refl, sym, ap, subst, ◌∙◌}
-use mathlib.Core.Bool.{Bool, true, false, not}
+use mathlib.Core.Bool.{Bool, true, false}
 use mathlib.Core.List.{List, []}
 use mathlib.Core.Logic.{inl}
 use native.Mathlib.Omega.{arith}
 use lib.ListN.{length}
 use lib.Dec.{ltb}
-use Rattle.answers.specs.Answer.{Answer, accepted, refused, refuse}
+use Rattle.answers.specs.Answer.{accepted, refused, refuse}
 use Rattle.field.specs.Bytes.{Bytes}
 use Rattle.field.proofs.UnitLaws.{or_left, or_right}
 use Rattle.order.specs.Floor.{Floor, joined}
@@ -32,7 +32,7 @@ use Rattle.floor.specs.FloorAnswer.{Joins, bi_connected?, floor_answer}
 use Rattle.floor.specs.Sides.{FourSided, four_sided?}
 use Rattle.floor.specs.Plannable.{Plannable}
 use Rattle.floor.proofs.SidesLaws.{sides_same}
-use Rattle.answers.proofs.AnswerLaws.{holds-yes, holds_no}
+use Rattle.answers.proofs.AnswerLaws.{holds-yes}
 use Rattle.floor.proofs.FloorLaws.{ordered_off, owed_off, floor_over, plannable_is}
 use Rattle.models.specs.Grid.{unknown_model, model_floor}
 use Rattle.models.specs.ShortOrder.{model_code, short_starts, short_goals, short_of, wrong_short}

@@ -16,7 +16,7 @@ use mathlib.Core.List.{List, [], ◌∷◌, ◌++◌, append_assoc}
 use native.Mathlib.Omega.{arith}
 use lib.ListN.{length, take, drop, length-append, length-drop}
 use lib.Seq.{take-add, drop-drop}
-use Rattle.field.specs.Bits.{bits, bits_of, pairs, positions, pair_bits, position_bits}
+use Rattle.field.specs.Bits.{bits, bits_of, pairs, pair_bits, position_bits}
 use Rattle.field.specs.Bytes.{BelowPairs, none₂, more₂}
 use Rattle.field.specs.Packing.{pack}
 use Rattle.field.specs.Writing.{written}

@@ -8,13 +8,12 @@
 --     buffer_after s B       the buffer B afterwards
 --     answer_of v            the verdict v as an answer
 -- Assumes nothing.
-use Rattle.std.specs.Prelude.{ℕ, List, [], ◌∷◌, length, ltb}
-use Rattle.answers.specs.Answer.{Answer, accepted, refused_by, refuse}
+use Rattle.std.specs.Prelude.{ℕ, List, [], ◌∷◌, length, ltb, Result}
+use Rattle.answers.specs.Answer.{Answer, accepted, refuse, the_count, answer_by}
 use Rattle.field.specs.Writing.{left_by}
 use Rattle.order.specs.Order.{Order, order_record, wrong_racks}
 use Rattle.models.specs.Grid.{unknown_model, model_floor}
-use Rattle.models.specs.declared.ExpandVerdict.{ExpandVerdict}
-use Rattle.models.specs.declared.ExpandVerdict.TheVariants.{Accepted, Refused}
+use Rattle.answers.specs.declared.Refusal.{Refusal}
 use Rattle.models.specs.ShortOrder.{model_code, short_starts, short_goals, wrong_short}
 
 unfoldable pub full_order : List ℕ → Order
@@ -35,6 +34,5 @@ expand_answer s n =
 unfoldable pub buffer_after : List ℕ → List ℕ → List ℕ
 buffer_after s B = left_by (expand_answer s (length B)) (expanded s) B
 
-abbrev pub answer_of : ExpandVerdict → Answer
-answer_of (Accepted n) = accepted (n ∷ [])
-answer_of (Refused f place) = refused_by f place
+abbrev pub answer_of : Result ℕ Refusal → Answer
+answer_of = answer_by the_count

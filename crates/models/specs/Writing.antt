@@ -1,6 +1,7 @@
 -- How an order is written, part by part. Nothing here is part of a promise to a caller of `expand`: it stands between the functions.
 --
 --     SizeOf k r c           r and c are the rows and columns of model k, and what the arithmetic on them needs
+--     edge_if t p q          the edge from p to q, if t says that it is there
 --     tail_pairs r c racks m  what follows the head of an order on a grid of r rows and c columns, in pairs: the edges, and the m starts
 --                            and m goals that `racks` begins with
 --     order_head n e m        an order's head as bytes: n in 7 bits, e in 8, m in 7, two zero bits
@@ -8,7 +9,7 @@
 --     Room s j ps            s has room for them
 --     Put s j ps t r         t is s with ps so written, and r pairs stand in front of the next writer
 -- Assumes nothing.
-use Rattle.std.specs.Prelude.{ℕ, ◌+◌, ◌*◌, ◌/◌, ◌%◌, ◌≤◌, ◌≡◌, List, [], ◌∷◌, ◌++◌, length}
+use Rattle.std.specs.Prelude.{ℕ, ◌+◌, ◌*◌, ◌/◌, ◌%◌, ◌≤◌, ◌≡◌, Bool, cond, List, [], ◌∷◌, ◌++◌, length}
 use Rattle.field.specs.Bits.{pairs}
 use Rattle.field.specs.Packing.{put_pair}
 use Rattle.models.specs.Grid.{rows_of, columns_of, grid_edges, model_floor}
@@ -21,6 +22,9 @@ pub record SizeOf (k r c : ℕ) : Type 0 where
   pub few : r * c ≤ 64
   -- each row has one edge fewer than positions, and so has each column
   pub edges_are : length (model_floor k).edges + (r + c) ≡ 2 * (r * c)
+
+abbrev pub edge_if : Bool → ℕ → ℕ → List (ℕ × ℕ)
+edge_if there p q = cond there ((p, q) ∷ []) []
 
 -- starts and goals are 2 × m positions, so m pairs
 abbrev pub tail_pairs : ℕ → ℕ → List ℕ → ℕ → List (ℕ × ℕ)

@@ -3,20 +3,15 @@
 // `put_pairs` and `put_head` write any order's edges, racks and head.
 #![tactic(auto)]
 
-ghost use Rattle.std.specs.Prelude.{◌≡◌, not, false, ◌+◌, ◌*◌, ◌%◌, ◌≤◌, ◌<◌, length};
+ghost use Rattle.std.specs.Prelude.{◌≡◌, not, true, false, ◌+◌, ◌*◌, ◌%◌, ◌≤◌, ◌<◌, length};
 ghost use Rattle.field.specs.Bits.{pairs};
 ghost use Rattle.field.specs.Writing.{written};
-ghost use Rattle.models.specs.Grid.{unknown_model, to_right, to_below, grid_edges};
+ghost use Rattle.models.specs.Grid.{unknown_model, grid_edges};
 ghost use Rattle.models.specs.ShortOrder.{model_code, wrong_short};
 ghost use Rattle.models.specs.Expansion.{expanded, expand_answer, buffer_after, answer_of};
-ghost use Rattle.models.specs.Writing.{SizeOf, tail_pairs, order_head, Room, Put};
+ghost use Rattle.models.specs.Writing.{SizeOf, edge_if, tail_pairs, order_head, Room, Put};
 
-use answers::Fault;
-
-// "Five models are sold, as rows and columns": those of model k stand at k - 1.
-const ROWS: [usize; 5] = [2, 3, 4, 4, 8];
-
-const COLUMNS: [usize; 5] = [3, 4, 4, 5, 8];
+use answers::{Fault, Refusal};
 
 // A grid's size.
 #[derive(Clone, Copy)]
@@ -25,47 +20,48 @@ pub struct Size {
     pub columns: usize,
 }
 
-// The verdict on a short order: the length of the full record, or why there is none. specs/Expansion.antt gives it its number and values.
-#[derive(Clone, Copy)]
-pub enum ExpandVerdict {
-    Accepted(usize),
-    Refused(Fault, u32),
-}
+// "Five models are sold, as rows and columns": those of model k stand at k - 1.
+const SIZES: [Size; 5] = [
+    Size {
+        rows: 2,
+        columns: 3,
+    },
+    Size {
+        rows: 3,
+        columns: 4,
+    },
+    Size {
+        rows: 4,
+        columns: 4,
+    },
+    Size {
+        rows: 4,
+        columns: 5,
+    },
+    Size {
+        rows: 8,
+        columns: 8,
+    },
+];
 
 // The size of a known model.
 pub fn size_of(model: usize) -> Size
     requires { unknown_model model ≡ false }
     ensures { SizeOf model result.rows result.columns }
 {
-    Size {
-        rows: ROWS[model - 1],
-        columns: COLUMNS[model - 1],
-    }
+    SIZES[model - 1]
 }
 
-// Writes the edge from p to the position on its right, if there is one: how many pairs then stand there.
-fn put_right(tail: &mut [u8], j: usize, columns: usize, p: usize) -> usize
-    requires le_columns { (1 ≤ columns) × (p % columns + 1 < columns → p + 1 < 64) }
-    requires room { Room tail.old j (to_right columns p) }
-    ensures { Put tail.old j (to_right columns p) tail.new result }
+// Writes the edge from p to q, if it is there: how many pairs then stand there.
+fn put_edge(tail: &mut [u8], j: usize, there: bool, p: usize, q: usize) -> usize
+    requires below { there ≡ true → (p < 64) × (q < 64) }
+    requires room { Room tail.old j (edge_if there p q) }
+    ensures { Put tail.old j (edge_if there p q) tail.new result }
 {
-    if columns <= p % columns + 1 {
+    if !there {
         return j;
     }
-    recording::put_pair(tail, j, p, p + 1);
-    j + 1
-}
-
-// Writes the edge from p to the position below it, if there is one: how many pairs then stand there.
-fn put_below(tail: &mut [u8], j: usize, n: usize, columns: usize, p: usize) -> usize
-    requires n_bound { (n ≤ 64) × (columns ≤ 64) × (p < n) }
-    requires room { Room tail.old j (to_below n columns p) }
-    ensures { Put tail.old j (to_below n columns p) tail.new result }
-{
-    if n <= p + columns {
-        return j;
-    }
-    recording::put_pair(tail, j, p, p + columns);
+    recording::put_pair(tail, j, p, q);
     j + 1
 }
 
@@ -77,11 +73,9 @@ pub fn put_grid(tail: &mut [u8], rows: usize, columns: usize) -> usize
 {
     let n = rows * columns;
     let mut j = 0;
-    let mut p = 0;
-    while p < n {
-        let k = put_right(tail, j, columns, p);
-        j = put_below(tail, k, n, columns, p);
-        p += 1;
+    for p in 0..n {
+        j = put_edge(tail, j, p % columns + 1 < columns, p, p + 1);
+        j = put_edge(tail, j, p + columns < n, p, p + columns);
     }
     j
 }
@@ -92,13 +86,9 @@ pub fn put_pairs(tail: &mut [u8], j: usize, from: &[u8], m: usize)
     requires room { Room tail.old j (pairs from.now 0 m) }
     ensures { Put tail.old j (pairs from.now 0 m) tail.new (j + m) }
 {
-    let mut i = 0;
-    while i < m {
+    for i in 0..m {
         let pair = field::pair_at(from, i);
-        let a = pair.first;
-        let b = pair.second;
-        recording::put_pair(tail, j + i, a, b);
-        i += 1;
+        recording::put_pair(tail, j + i, pair.first, pair.second);
     }
 }
 
@@ -131,7 +121,7 @@ fn well_packed(short: &[u8]) -> bool
     if short.len() < 2 {
         return false;
     }
-    let b = field::wide(short[1]);
+    let b = usize::from(short[1]);
     let m = b / 2;
     if short.len() != 2 + (12 * m + 7) / 8 {
         return false;
@@ -146,33 +136,33 @@ fn well_packed(short: &[u8]) -> bool
 }
 
 // 50, 51, 14 and 52, of a short order and a buffer of `lent` bytes.
-fn judge(short: &[u8], lent: usize) -> ExpandVerdict
+fn judge(short: &[u8], lent: usize) -> Result<usize, Refusal>
     ensures { answer_of result ≡ expand_answer short.now lent }
 {
     if !well_packed(short) {
-        return ExpandVerdict::Refused(Fault::ShortOrder, 0);
+        return Err(Refusal(Fault::ShortOrder, 0));
     }
-    let model = field::wide(short[0]);
-    let m = field::wide(short[1]) / 2;
+    let model = usize::from(short[0]);
+    let m = usize::from(short[1]) / 2;
     if model == 0 {
-        return ExpandVerdict::Refused(Fault::ModelUnknown, 0);
+        return Err(Refusal(Fault::ModelUnknown, 0));
     }
     if 5 < model {
-        return ExpandVerdict::Refused(Fault::ModelUnknown, 0);
+        return Err(Refusal(Fault::ModelUnknown, 0));
     }
     let size = size_of(model);
     let n = size.rows * size.columns;
     let mut starts = [0u8; 64];
     let mut goals = [0u8; 64];
     if !order::racks_sound(&short[2..], n, 0, m, &mut starts, &mut goals) {
-        return ExpandVerdict::Refused(Fault::OrderRack, 0);
+        return Err(Refusal(Fault::OrderRack, 0));
     }
     let edges = 2 * n - (size.rows + size.columns);
     let length = 3 + (12 * (edges + m) + 7) / 8;
     if lent < length {
-        return ExpandVerdict::Refused(Fault::OrderBuffer, 0);
+        return Err(Refusal(Fault::OrderBuffer, 0));
     }
-    ExpandVerdict::Accepted(length)
+    Ok(length)
 }
 
 // Writes an accepted short order out as a full one.
@@ -181,8 +171,8 @@ fn write_out(short: &[u8], order: &mut [u8])
     requires short_in_bounds { length (expanded short.now) ≤ length order.old }
     ensures { order.new ≡ written order.old 0 (expanded short.now) }
 {
-    let model = field::wide(short[0]);
-    let m = field::wide(short[1]) / 2;
+    let model = usize::from(short[0]);
+    let m = usize::from(short[1]) / 2;
     let size = size_of(model);
     let rows = size.rows;
     let columns = size.columns;
@@ -191,14 +181,11 @@ fn write_out(short: &[u8], order: &mut [u8])
 }
 
 // 50, 51, 14 and 52: writes a short order out as a full one at the front of a buffer.
-pub fn expand(short: &[u8], buffer: &mut [u8]) -> ExpandVerdict
+pub fn expand(short: &[u8], buffer: &mut [u8]) -> Result<usize, Refusal>
     ensures answer { answer_of result ≡ expand_answer short.now (length buffer.old) }
     ensures buffer { buffer.new ≡ buffer_after short.now buffer.old }
 {
-    let verdict = judge(short, buffer.len());
-    let ExpandVerdict::Accepted(_) = verdict else {
-        return verdict;
-    };
+    let length = judge(short, buffer.len())?;
     write_out(short, buffer);
-    verdict
+    Ok(length)
 }

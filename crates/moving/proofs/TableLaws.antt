@@ -5,7 +5,6 @@
 --     table_went       so do moves
 --     table_other      beside a vacancy there is another
 --     table_rack       a rack stands at a position of the floor
---     Seeking, seeking_next, seeking_last    the state of `where_is`: the rack stands at no position before p
 -- Assumes nothing.
 use Prim.Native.Nat.{ℕ, ◌+◌, ◌≤◌, ◌<◌}
 use mathlib.Core.Path.{◌≡◌, refl, sym, ap, subst, ◌∙◌}
@@ -15,7 +14,7 @@ use native.Mathlib.Decide.{ℕ_discrete}
 use native.Mathlib.Omega.{arith}
 use Rattle.moving.specs.Went.{Same, Move, Went}
 use Rattle.moving.specs.Went.Went.{stay, real, stand_in}
-use Rattle.moving.specs.Table.{Table, StandsAt, Stands}
+use Rattle.moving.specs.Table.{Table, Stands}
 
 pub table_same : {n : ℕ} {h k : ℕ → ℕ} → Same h k → Table n h → Table n k
 table_same {n} {h} {k} s t =
@@ -181,16 +180,3 @@ table_rack {n} {h} t r some few =
   where
     clash : r ≡ 0 → ⊥
     clash e = omega arith
-
-abbrev pub Seeking : (ℕ → ℕ) → ℕ → ℕ → Type 0
-Seeking h r p = (q : ℕ) → q < p → h q ≢ r
-
-pub seeking_next : (h : ℕ → ℕ) (r p : ℕ) → h p ≢ r → Seeking h r p → Seeking h r (p + 1)
-seeking_next h r p other s q l = by_cases (ℕ_discrete q p) (λ e z. other (ap h (sym e) ∙ z)) (λ e. s q (omega arith))
-
-pub seeking_last : (h : ℕ → ℕ) (r p n : ℕ) → n ≤ p + 1 → p < n → Seeking h r p → Stands n r h → StandsAt n r h p
-seeking_last h r p n done l s (q, x) =
-    let b = x.inside in
-    by_cases (ℕ_discrete q p)
-    (λ e. record { inside = l; there = ap h (sym e) ∙ x.there })
-    (λ e. absurd (s q (omega arith) x.there))

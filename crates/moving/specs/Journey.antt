@@ -3,7 +3,6 @@
 -- plan's bytes behind its head.
 --
 --     relogged s j               the state s with j moves in its log
---     state_of h m c              the racks h, m of them real, and the counts c as one state; unlogged h m w    w moves written, and no log
 --     Packed old ws t            the bytes t are the moves ws in edition two, packed, and behind them what stood there before in `old`
 --     put_move t w m              the bytes t, which have w moves, with the move m behind them; packed_on t w ws    with the moves ws
 --     noted l j ms               the log l, which has j moves, with the moves ms behind them
@@ -34,16 +33,9 @@ use Rattle.sets.specs.Sets.{Has}
 use Rattle.graph.specs.Rows.{row, Edge}
 use Rattle.moving.specs.Went.{Went, Within}
 use Rattle.moving.specs.declared.State.{State}
-use Rattle.moving.specs.declared.Tally.{Tally}
 
 abbrev pub relogged : State → ℕ → State
 relogged s j = record { racks = s.racks; real = s.real; written = s.written; logged = j }
-
-abbrev pub state_of : List ℕ → ℕ → Tally → State
-state_of h m c = record { racks = h; real = m; written = c.written; logged = c.logged }
-
-abbrev pub unlogged : List ℕ → ℕ → ℕ → State
-unlogged h m w = record { racks = h; real = m; written = w; logged = 0 }
 
 -- Request (h): "The planner writes edition two"
 pub record Packed (old : List ℕ) (ws : List (ℕ × ℕ × ℕ)) (t : List ℕ) : Type 0 where

@@ -4,7 +4,7 @@
 --     StandsAt n r h p    rack r stands at position p of a floor of n
 --     Stands n r h        rack r stands on the floor
 -- Assumes nothing.
-use Rattle.std.specs.Prelude.{ℕ, ◌+◌, ◌-◌, ◌≤◌, ◌<◌, ◌≡◌, ◌≢◌, ◌⊎◌}
+use Rattle.std.specs.Prelude.{ℕ, ◌+◌, ◌≤◌, ◌<◌, ◌≡◌, ◌≢◌, ◌⊎◌}
 
 pub record Table (n : ℕ) (h : ℕ → ℕ) : Type 0 where
   pub one : (p q : ℕ) → h p ≢ 0 → h p ≡ h q → p ≡ q

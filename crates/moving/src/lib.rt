@@ -4,7 +4,7 @@
 
 ghost use Rattle.std.specs.Prelude.{◌≡◌, ◌≢◌, ◌+◌, ◌≤◌, ◌<◌};
 ghost use Rattle.graph.specs.Rows.{row};
-ghost use Rattle.moving.specs.Journey.{state_of, unlogged, Fits, Space, Moved};
+ghost use Rattle.moving.specs.Journey.{Fits, Space, Moved};
 ghost use Rattle.moving.specs.Journey.{Joins, JourneyOn};
 ghost use Rattle.moving.specs.OnePlace.{Movable, Passed};
 ghost use Rattle.moving.specs.Table.{Stands, StandsAt};
@@ -24,63 +24,34 @@ pub struct State {
     pub logged: usize,
 }
 
-// The two counts of a state. Where many moves are made one after another, the racks are lent beside them, so that no move copies the table.
-#[derive(Clone, Copy)]
-pub struct Tally {
-    pub written: usize,
-    pub logged: usize,
+// Moves the rack at a to b. The move is written with the rack's number; that of a stand-in is not written.
+pub fn move_rack(a: usize, b: usize, state: &mut State, tail: &mut [u8])
+    requires a_bound { (a < 64) × (b < 64) × (row state.old.racks a ≢ 0) }
+    requires space { Space state.old tail.old 1 }
+    ensures moved { Moved a b state.old tail.old state.new tail.new }
+    ensures logged { state.new.logged ≡ state.old.logged }
+{
+    let rack = state.racks[a];
+    state.racks[b] = rack;
+    state.racks[a] = 0;
+    let number = usize::from(rack);
+    if number <= state.real {
+        recording::put_listed(tail, true, state.written, a, b, number);
+        state.written += 1;
+    }
 }
 
-// Moves the rack at a to b. The move is written with the rack's number; that of a stand-in is not written. Yields how many moves the plan
-// has.
-pub fn move_rack(
-    a: usize,
-    b: usize,
-    real: usize,
-    racks: &mut [u8; 64],
-    tail: &mut [u8],
-    written: usize,
-) -> usize
-    requires a_bound { (a < 64) × (b < 64) × (row racks.old a ≢ 0) }
-    requires space { Space (unlogged racks.old real written) tail.old 1 }
-    ensures { Moved a b (unlogged racks.old real written) tail.old
-        (unlogged racks.new real result) tail.new }
+// Moves the rack at a to b, and logs the move. Where many moves are made one after another, the state is lent, so that no move copies it.
+pub fn step(a: usize, b: usize, state: &mut State, log: &mut Log, tail: &mut [u8])
+    requires movable { Movable a b (row state.old.racks) }
+    requires fits { Fits state.old log.old tail.old 1 }
+    ensures journey_on { JourneyOn (Joins a b) 1 state.old log.old tail.old state.new log.new tail.new }
+    ensures passed { Passed a b (row state.old.racks) (row state.new.racks) }
+    ensures logged_value { state.new.logged ≡ state.old.logged + 1 }
 {
-    let rack = racks[a];
-    racks[b] = rack;
-    racks[a] = 0;
-    let number = field::wide(rack);
-    if real < number {
-        return written;
-    }
-    recording::put_listed(tail, true, written, a, b, number);
-    written + 1
-}
-
-// Moves the rack at a to b, and logs the move.
-pub fn step(
-    a: usize,
-    b: usize,
-    real: usize,
-    racks: &mut [u8; 64],
-    log: &mut Log,
-    tail: &mut [u8],
-    tally: Tally,
-) -> Tally
-    requires movable { Movable a b (row racks.old) }
-    requires fits { Fits (state_of racks.old real tally) log.old tail.old 1 }
-    ensures journey_on { JourneyOn (Joins a b) 1 (state_of racks.old real tally) log.old tail.old
-        (state_of racks.new real result) log.new tail.new }
-    ensures passed { Passed a b (row racks.old) (row racks.new) }
-    ensures logged_value { result.logged ≡ tally.logged + 1 }
-{
-    let logged = tally.logged;
-    log[logged] = (a * 64 + b) as u16;
-    let written = move_rack(a, b, real, racks, tail, tally.written);
-    Tally {
-        written,
-        logged: logged + 1,
-    }
+    log[state.logged] = (a * 64 + b) as u16;
+    move_rack(a, b, state, tail);
+    state.logged += 1;
 }
 
 // Moves the rack at a to b, and logs the move.
@@ -91,19 +62,9 @@ pub fn make_move(a: usize, b: usize, state: State, log: &mut Log, tail: &mut [u8
     ensures passed { Passed a b (row state.racks) (row result.racks) }
     ensures logged_value { result.logged ≡ state.logged + 1 }
 {
-    let real = state.real;
-    let mut racks = state.racks;
-    let begun = Tally {
-        written: state.written,
-        logged: state.logged,
-    };
-    let made = step(a, b, real, &mut racks, log, tail, begun);
-    State {
-        racks,
-        real,
-        written: made.written,
-        logged: made.logged,
-    }
+    let mut state = state;
+    step(a, b, &mut state, log, tail);
+    state
 }
 
 // Where a rack stands.
@@ -112,12 +73,5 @@ pub fn where_is(racks: &[u8; 64], n: usize, rack: u8) -> usize
     requires stands { Stands n rack (row racks.now) }
     ensures { StandsAt n rack (row racks.now) result }
 {
-    let mut p: usize = 0;
-    while p + 1 < n {
-        if racks[p] == rack {
-            return p;
-        }
-        p += 1;
-    }
-    p
+    racks[..n].iter().position(|r| *r == rack).unwrap()
 }

@@ -6,10 +6,10 @@
 --     Left last j            the loop before edge j + 1, the edge before having the place `last`: what is left to judge decides
 --     left-first, left-next, left_none     how the loop begins, goes on and ends: the answer is yes
 --     not_right                            an edge without a place in the order of edges: the answer is no
---     first_is, second_is                  the positions of an edge, from its place
+--     first_is, second_is, place_below     the positions of an edge, from its place
 -- Assumes nothing.
-use Prim.Native.Nat.{ℕ, zero, suc, ◌+◌, ◌-◌, ◌*◌, ◌/◌, ◌%◌, ◌≤◌, ◌<◌}
-use mathlib.Core.Path.{◌≡◌, refl, sym, ap, ap₂, ◌∙◌}
+use Prim.Native.Nat.{ℕ, ◌+◌, ◌-◌, ◌*◌, ◌/◌, ◌%◌, ◌≤◌, ◌<◌}
+use mathlib.Core.Path.{◌≡◌, refl, sym, ap, ◌∙◌}
 use mathlib.Core.Bool.{Bool, true, false, not, ◌&&◌, ◌||◌, or-true, or-false, or_assoc}
 use mathlib.Core.List.{List, [], ◌∷◌}
 use native.Mathlib.Omega.{arith}
@@ -17,12 +17,15 @@ use native.Mathlib.Decide.{dec_le}
 use native.Mathlib.Nat.{lt_of_not-le, sub-zero}
 use borrow.Author.Tests.{le-leb, lt-leb, leb-false}
 use lib.Dec.{leb}
+use Rattle.std.specs.Prelude.{Some, None}
+use Rattle.answers.specs.Found.{found}
+use Rattle.answers.proofs.AnswerLaws.{found_some, some_found, none_found}
 use Rattle.field.specs.Bits.{field, pairs, PairAt}
 use Rattle.field.specs.Bytes.{BelowPairs, more₂}
 use Rattle.field.proofs.BitLaws.{field_lt}
 use Rattle.field.proofs.RecordLaws.{pairs_lt, pairs_next}
 use Rattle.field.proofs.UnitLaws.{or_left}
-use Rattle.order.specs.Floor.{Floor, some}
+use Rattle.order.specs.Floor.{some}
 use Rattle.order.proofs.EdgeLaws.{place, bad_is, precedes_is}
 use Rattle.order.specs.Order.{bad_edge, ascending, wrong_edges}
 use Rattle.order.specs.Readers.{next_place, NextEdge}
@@ -58,24 +61,28 @@ wrong_after_is n (e ∷ l) (more₂ h₀ h₁ b) = elim (dec_le e.1 e.0) [
 
 -- one edge judged behind an edge at the place `last`, from the facts that the tests leave
 module _ (s : List ℕ) (j n last a b : ℕ) (at : PairAt s (12 * j) a b) where
-  pub not_lower : b ≤ a → NextEdge s j n last 0
-  not_lower h = record { is = rw (← at.first_is, ← at.second_is) (unfold next_place in simp (le-leb b a h)); below = omega arith }
+  abbrev given : ℕ
+  given = next_place n last (field s (12 * j) 6) (field s (12 * j + 6) 6)
 
-  pub not_below : n ≤ b → NextEdge s j n last 0
-  not_below h = record { is = rw (← at.first_is, ← at.second_is) (unfold next_place in simp (le-leb n b h, or-true)); below = omega arith }
+  no_place : 0 ≡ given → NextEdge s j n last None
+  no_place is = record { is = ap found is; below = omega (arith, is) }
 
-  pub not_after : a * 64 + b ≤ last → NextEdge s j n last 0
-  not_after h =
-      record {
-        is = rw (← at.first_is, ← at.second_is) (unfold next_place in simp (le-leb (a * 64 + b) last h, or-true));
-        below = omega arith;
-      }
+  pub not_lower : b ≤ a → NextEdge s j n last None
+  not_lower h = no_place (rw (← at.first_is, ← at.second_is) (unfold next_place in simp (le-leb b a h)))
 
-  pub edge_right : a < b → b < n → last < a * 64 + b → NextEdge s j n last (a * 64 + b)
+  pub not_below : n ≤ b → NextEdge s j n last None
+  not_below h = no_place (rw (← at.first_is, ← at.second_is) (unfold next_place in simp (le-leb n b h, or-true)))
+
+  pub not_after : a * 64 + b ≤ last → NextEdge s j n last None
+  not_after h = no_place (rw (← at.first_is, ← at.second_is) (unfold next_place in simp (le-leb (a * 64 + b) last h, or-true)))
+
+  pub edge_right : a < b → b < n → last < a * 64 + b → NextEdge s j n last (Some (a * 64 + b))
   edge_right h k l =
+      let is : a * 64 + b ≡ given =
+      rw (← at.first_is, ← at.second_is) (unfold next_place in simp (lt-leb b a h, lt-leb n b k, lt-leb (a * 64 + b) last l)) in
       record {
-        is = rw (← at.first_is, ← at.second_is) (unfold next_place in simp (lt-leb b a h, lt-leb n b k, lt-leb (a * 64 + b) last l));
-        below = omega (arith, at.first_below, at.second_below);
+        is = found_some (a * 64 + b) (omega arith) ∙ ap found is;
+        below = omega (arith, is, at.first_below, at.second_below);
       }
 
 -- the loop over the e edges of s: at edge j, after an edge at the place `last`
@@ -88,7 +95,7 @@ module _ (s : List ℕ) (n e : ℕ) where
   unfolding Left
   left-first = rw (sub-zero e) (wrong_after_is n (pairs s 0 e) (pairs_lt s 0 e))
 
-  module _ (last j r : ℕ) (left : Left last j) (h : j < e) (judged : NextEdge s j n last r) where
+  module _ (last j : ℕ) (left : Left last j) (h : j < e) where
     abbrev a : ℕ
     a = field s (12 * j) 6
 
@@ -106,24 +113,33 @@ module _ (s : List ℕ) (n e : ℕ) where
     next = ap (wrong_after n last) (sym (pairs_next s j e h)) ∙ left
 
     -- an edge without a place is bad: one at the place 0 is not lower first
-    pub not_right : r ≡ 0 → false ≡ not (wrong_edges (record { positions = n; edges = pairs s 0 e }))
-    not_right z = by bad refl
+    pub not_right : NextEdge s j n last None → false ≡ not (wrong_edges (record { positions = n; edges = pairs s 0 e }))
+    not_right judged = by bad refl
       where
         by : (t : Bool) → bad ≡ t → false ≡ not (wrong_edges (record { positions = n; edges = pairs s 0 e }))
         by true y = ap not (rw y at next)
         by false y =
-            let first : a * 64 + b ≡ 0 = sym (judged.is ∙ (unfold next_place bad in rw y refl)) ∙ z in
+            let place_is : next_place n last a b ≡ a * 64 + b = unfold next_place bad in rw y refl in
+            let first : a * 64 + b ≡ 0 = sym place_is ∙ none_found (next_place n last a b) judged.is in
             let low : (leb b a || leb n b) ≡ false = or_left (leb b a || leb n b) (leb (a * 64 + b) last) (unfold bad in y) in
             absurd (omega (arith, leb-false b a (or_left (leb b a) (leb n b) low)))
 
     -- an edge with a place is right, and the place is its own
-    module _ (some-place : r ≡ 0 → ⊥) where
+    module _ (r : ℕ) (judged : NextEdge s j n last (Some r)) where
+      is_place : (r ≡ next_place n last a b) × (1 ≤ next_place n last a b)
+      is_place = some_found r (next_place n last a b) judged.is
+
+      pub place_below : r < 4096
+      place_below = omega (arith, is_place.0, judged.below)
+
       right : (bad ≡ false) × (r ≡ a * 64 + b)
       right = by bad refl
         where
           by : (t : Bool) → bad ≡ t → (bad ≡ false) × (r ≡ a * 64 + b)
-          by true y = absurd (some-place (judged.is ∙ (unfold next_place bad in rw y refl)))
-          by false y = (y, judged.is ∙ (unfold next_place bad in rw y refl))
+          by true y =
+              let none : next_place n last a b ≡ 0 = unfold next_place bad in rw y refl in
+              absurd (omega (arith, none, is_place.1))
+          by false y = (y, is_place.0 ∙ (unfold next_place bad in rw y refl))
 
       pub left-next : Left r (j + 1)
       unfolding Left rest

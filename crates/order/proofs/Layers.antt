@@ -1,6 +1,5 @@
 -- The order reader's layers: what each reader answers, from the lower reader's answer and its own test.
 --
---     passed_down                    a refusal of the reader below is the answer above
 --     HeadGave s n e m, head_gave    what an accepted head tells
 --     tail_there, tail_room          so there is a tail, and the units have room in it
 --     edges_wrong, edges_right       13
@@ -21,9 +20,8 @@ use native.Mathlib.Omega.{arith}
 use mathlib.Core.List.{List, [], ◌∷◌}
 use lib.ListN.{length, take, drop, replicate}
 use borrow.Author.Tests.{not-true, not-false}
-use Rattle.answers.specs.Answer.{Answer, accepted, refused, refuse, pass_up}
-use Rattle.answers.specs.declared.Fault.{Fault}
-use Rattle.answers.proofs.AnswerLaws.{refuse_not, refuse_else, pass_up-low, pass_up-high, pass_up_accepted, pass_up_refused}
+use Rattle.answers.specs.Answer.{Answer, accepted, refused, refused_by, refuse, pass_up}
+use Rattle.answers.proofs.AnswerLaws.{refuse_not, refuse_else, pass_up-low, pass_up-high, pass_up_accepted, handed_up}
 use Rattle.field.specs.Bits.{pairs, positions}
 use Rattle.field.proofs.BitLaws.{field_lt}
 use Rattle.order.specs.Floor.{Floor}
@@ -32,16 +30,11 @@ use Rattle.order.specs.Order.{wrong_positions, padding_set, wrong_edges, wrong_p
 use Rattle.order.proofs.OrderLaws.{RightHead, right_head}
 use Rattle.order.proofs.TailLaws
 use Rattle.order.specs.declared.Counts.{Counts}
-use Rattle.order.specs.declared.OrderVerdict.{OrderVerdict}
-use Rattle.order.specs.declared.OrderVerdict.TheVariants.{Accepted, Refused}
-use Rattle.order.specs.Verdict.{answer_of}
+use Rattle.std.specs.Prelude.{Result, IsErrAnd}
+use Rattle.answers.specs.declared.Refusal.{Refusal}
+use Rattle.order.specs.Verdict.{told as told_of, answer_of}
 use Rattle.order.specs.Readers.{head_answer, edges_answer, FilledRows, RacksJudged}
 use Rattle.order.specs.Tables.{joined_rows, rows_of, racks_at, unless_refused, decoded_rows, decoded_starts, decoded_goals}
-
--- v is the verdict of the reader below
-pub passed_down : {v : OrderVerdict} {below : Answer} {f : Fault} {place : ℕ} → answer_of v ≡ below → v ≡ Refused f place
-    → (above : Answer) → answer_of v ≡ pass_up below above
-passed_down told down above = told ∙ pass_up_refused _ above _ _ (sym told ∙ ap answer_of down)
 
 -- what the head reader's acceptance with n, e and m tells
 pub record HeadGave (s : List ℕ) (n e m : ℕ) : Type 0 where
@@ -64,9 +57,9 @@ head_of s v e =
       refuse_else (padding_set s) 12 0 (accepted (counts s)) v e₂,
     )
 
-head_accepted : (s : List ℕ) (n e m : ℕ) → accepted (n ∷ e ∷ m ∷ []) ≡ head_answer s → HeadGave s n e m
+pub head_gave : {s : List ℕ} {n e m : ℕ} → accepted (n ∷ e ∷ m ∷ []) ≡ head_answer s → HeadGave s n e m
 unfolding counts edge_count rack_count
-head_accepted s n e m a =
+head_gave {s} {n} {e} {m} a =
     let same = (head_of s (n ∷ e ∷ m ∷ []) (sym a)).1 in
     record {
       accepted_is = a;
@@ -77,10 +70,6 @@ head_accepted s n e m a =
       edges_below = field_lt s 7 8;
       racks_below = field_lt s 15 7;
     }
-
-pub head_gave : {s : List ℕ} {v : OrderVerdict} {c : Counts} → answer_of v ≡ head_answer s → v ≡ Accepted c
-    → HeadGave s c.positions c.edges c.racks
-head_gave told up = head_accepted _ _ _ _ (sym (ap answer_of up) ∙ told)
 
 module _ {s : List ℕ} {n e m : ℕ} (gave : HeadGave s n e m) where
   pub tail_there : 3 ≤ length s
@@ -160,7 +149,7 @@ order_is s =
 
 edges_head : (s : List ℕ) (n e m : ℕ) → accepted (n ∷ e ∷ m ∷ []) ≡ edges_answer s → HeadGave s n e m
 unfolding edges_answer
-edges_head s n e m a = head_accepted s n e m (ap accepted same ∙ sym head_is)
+edges_head s n e m a = head_gave (ap accepted same ∙ sym head_is)
   where
     low : (w : List ℕ) × (head_answer s ≡ accepted w)
     low = pass_up-low (head_answer s) (refuse (wrong_edges (floor_of s)) 13 0 (accepted (counts s))) (n ∷ e ∷ m ∷ []) (sym a)
@@ -184,16 +173,13 @@ pub record EdgesGave (s : List ℕ) (n e m : ℕ) : Type 0 where
   pub accepted_is : accepted (n ∷ e ∷ m ∷ []) ≡ edges_answer s
   pub head : HeadGave s n e m
 
--- v is the edge reader's verdict
-pub edges_down : (s : List ℕ) {v : OrderVerdict} {f : Fault} {place : ℕ} → answer_of v ≡ edges_answer s → v ≡ Refused f place
-    → answer_of v ≡ order_answer s
-edges_down s told down = passed_down told down _ ∙ sym (order_is s)
+-- r is what `?` makes of the edge reader's refusal e
+pub edges_down : (s : List ℕ) (r : Result Counts Refusal) (e : Refusal) → IsErrAnd r (λ x. x ≡ e)
+    → refused_by e.0 e.1 ≡ edges_answer s → answer_of r ≡ order_answer s
+edges_down s r e is down = handed_up told_of r e is down _ ∙ sym (order_is s)
 
-pub edges_gave : {s : List ℕ} {v : OrderVerdict} {c : Counts} → answer_of v ≡ edges_answer s → v ≡ Accepted c
-    → EdgesGave s c.positions c.edges c.racks
-edges_gave told up =
-    let a = sym (ap answer_of up) ∙ told in
-    record { accepted_is = a; head = edges_head _ _ _ _ a }
+pub edges_gave : {s : List ℕ} {n e m : ℕ} → accepted (n ∷ e ∷ m ∷ []) ≡ edges_answer s → EdgesGave s n e m
+edges_gave a = record { accepted_is = a; head = edges_head _ _ _ _ a }
 
 module _ {s : List ℕ} {n e m : ℕ} (told : EdgesGave s n e m) where
   gave : HeadGave s n e m

@@ -12,7 +12,7 @@ use Prim.Native.Nat.{ℕ, ◌+◌, ◌-◌, ◌*◌, ◌%◌, ◌^◌, ◌≤◌
 use mathlib.Core.Path.{◌≡◌, refl, sym, ap, ◌∙◌}
 use mathlib.Core.List.{List}
 use native.Mathlib.Omega.{arith}
-use native.Mathlib.Nat.{sub-zero, add-zero, add_comm}
+use native.Mathlib.Nat.{sub-zero, add-zero}
 use lib.Bits.{bit_or}
 use lib.ListN.{get_or, set}
 use Rattle.field.specs.Bits.{field, pairs, positions}

@@ -9,7 +9,7 @@
 --     unless_refused a l    the table l behind an acceptance, an empty one behind a refusal
 --     decoded_rows s, decoded_starts s, decoded_goals s    the three tables that decoding the order s leaves
 -- Assumes nothing.
-use Rattle.std.specs.Prelude.{ℕ, suc, ◌+◌, ◌*◌, ◌^◌, List, [], ◌∷◌, get_or, set, replicate}
+use Rattle.std.specs.Prelude.{ℕ, ◌+◌, ◌*◌, ◌^◌, List, [], ◌∷◌, get_or, set, replicate}
 use Rattle.std.specs.Int.Bits.{bit_or}
 use Rattle.answers.specs.Answer.{Answer, accepted, refused}
 use Rattle.order.specs.Floor.{Floor}

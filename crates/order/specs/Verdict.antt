@@ -1,12 +1,15 @@
--- The order reader's verdict as document 01's answer.
+-- The order reader's result as document 01's answer.
 --
+--     told c         the counts that are told
 --     answer_of v    the number and place of a refusal, the counts of an accepted order
 -- Assumes nothing.
-use Rattle.std.specs.Prelude.{[], ◌∷◌}
-use Rattle.answers.specs.Answer.{Answer, accepted, refused_by}
-use Rattle.order.specs.declared.OrderVerdict.{OrderVerdict}
-use Rattle.order.specs.declared.OrderVerdict.TheVariants.{Accepted, Refused}
+use Rattle.std.specs.Prelude.{ℕ, List, [], ◌∷◌, Result}
+use Rattle.answers.specs.Answer.{Answer, answer_by}
+use Rattle.answers.specs.declared.Refusal.{Refusal}
+use Rattle.order.specs.declared.Counts.{Counts}
 
-abbrev pub answer_of : OrderVerdict → Answer
-answer_of (Accepted c) = accepted (c.positions ∷ c.edges ∷ c.racks ∷ [])
-answer_of (Refused f place) = refused_by f place
+abbrev pub told : Counts → List ℕ
+told c = c.positions ∷ c.edges ∷ c.racks ∷ []
+
+abbrev pub answer_of : Result Counts Refusal → Answer
+answer_of = answer_by told

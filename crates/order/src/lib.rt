@@ -4,6 +4,7 @@
 #![tactic(auto)]
 
 ghost use Rattle.std.specs.Prelude.{◌≡◌, true, not, ◌+◌, ◌*◌, ◌≤◌, ◌<◌, length};
+ghost use Rattle.answers.specs.Found.{found};
 ghost use Rattle.field.specs.Bits.{pairs, positions};
 ghost use Rattle.order.specs.Order.{CountsOf, order_answer, wrong_edges, wrong_places};
 ghost use Rattle.order.specs.Readers.{head_answer, edges_answer, NextEdge, RacksJudged};
@@ -11,7 +12,7 @@ ghost use Rattle.order.specs.RecordLength.{whole_order_length};
 ghost use Rattle.order.specs.Tables.{racks_at};
 ghost use Rattle.order.specs.Verdict.{answer_of};
 
-use answers::Fault;
+use answers::{Fault, Refusal};
 
 // What an order's head says: n positions, e edges, m racks.
 #[derive(Clone, Copy)]
@@ -21,20 +22,13 @@ pub struct Counts {
     pub racks: usize,
 }
 
-// The verdict on an order: specs/Verdict.antt gives it document 01's number and values.
-#[derive(Clone, Copy)]
-pub enum OrderVerdict {
-    Accepted(Counts),
-    Refused(Fault, u32),
-}
-
 pub fn counts_of(order: &[u8]) -> Counts
     requires { 3 ≤ length order.now }
     ensures { CountsOf order.now result.positions result.edges result.racks }
 {
-    let a = field::wide(order[0]);
-    let b = field::wide(order[1]);
-    let c = field::wide(order[2]);
+    let a = usize::from(order[0]);
+    let b = usize::from(order[1]);
+    let c = usize::from(order[2]);
     Counts {
         positions: a / 2,
         edges: a % 2 * 128 + b / 2,
@@ -42,49 +36,50 @@ pub fn counts_of(order: &[u8]) -> Counts
     }
 }
 
-// The length of the order that the bytes begin with, by its counts alone; 0 where the bytes end before it does.
-pub fn record_length(bytes: &[u8]) -> usize
-    ensures { result ≡ whole_order_length bytes.now }
+// The length of the order that the bytes begin with, by its counts alone, if they do not end before it does.
+pub fn record_length(bytes: &[u8]) -> Option<usize>
+    ensures { result ≡ found (whole_order_length bytes.now) }
 {
     if bytes.len() < 3 {
-        return 0;
+        return None;
     }
     let counts = counts_of(bytes);
     let len = 3 + (12 * (counts.edges + counts.racks) + 7) / 8;
     if bytes.len() < len {
-        return 0;
+        return None;
     }
-    len
+    Some(len)
 }
 
 // 10 to 12. The length comes first: n and the spare bits are judged only where the counts give it.
-pub fn read_head(order: &[u8]) -> OrderVerdict
+pub fn read_head(order: &[u8]) -> Result<Counts, Refusal>
     ensures { answer_of result ≡ head_answer order.now }
 {
     if order.len() < 3 {
-        return OrderVerdict::Refused(Fault::OrderLength, 0);
+        return Err(Refusal(Fault::OrderLength, 0));
     }
     let counts = counts_of(order);
     let n = counts.positions;
     let units = 2 * (counts.edges + counts.racks);
     if !field::units_fit(order, units) {
-        return OrderVerdict::Refused(Fault::OrderLength, 0);
+        return Err(Refusal(Fault::OrderLength, 0));
     }
     if n == 0 {
-        return OrderVerdict::Refused(Fault::OrderPositions, 0);
+        return Err(Refusal(Fault::OrderPositions, 0));
     }
     if 64 < n {
-        return OrderVerdict::Refused(Fault::OrderPositions, 0);
+        return Err(Refusal(Fault::OrderPositions, 0));
     }
     if !field::units_clean(order, units) {
-        return OrderVerdict::Refused(Fault::OrderPadding, 0);
+        return Err(Refusal(Fault::OrderPadding, 0));
     }
-    OrderVerdict::Accepted(counts)
+    Ok(counts)
 }
 
-// Judges edge j + 1 of an order's tail behind an edge at the place `last`: its own place where it is below n, lower first and after that
-// edge, else 0. An edge's place in the order of edges is one number, since positions are below 64.
-pub fn next_edge(tail: &[u8], j: usize, n: usize, last: usize) -> usize
+// Judges edge j + 1 of an order's tail behind an edge at the place `last`: its own place, if it is below n, lower first and after that
+// edge.
+// An edge's place in the order of edges is one number, since positions are below 64.
+pub fn next_edge(tail: &[u8], j: usize, n: usize, last: usize) -> Option<usize>
     requires { 12 * j + 12 ≤ 8 * length tail.now }
     ensures { NextEdge tail.now j n last result }
 {
@@ -92,16 +87,16 @@ pub fn next_edge(tail: &[u8], j: usize, n: usize, last: usize) -> usize
     let a = edge.first;
     let b = edge.second;
     if b <= a {
-        return 0;
+        return None;
     }
     if n <= b {
-        return 0;
+        return None;
     }
     let place = a * 64 + b;
     if place <= last {
-        return 0;
+        return None;
     }
-    place
+    Some(place)
 }
 
 // Whether the e edges of an order's tail are below n, lower first and ascending.
@@ -110,37 +105,31 @@ fn edges_sound(tail: &[u8], n: usize, e: usize) -> bool
     ensures { result ≡ not (wrong_edges (record { positions = n; edges = pairs tail.now 0 e })) }
 {
     let mut last = 0;
-    let mut j = 0;
-    while j < e {
-        let place = next_edge(tail, j, n, last);
-        if place == 0 {
+    for j in 0..e {
+        let Some(place) = next_edge(tail, j, n, last) else {
             return false;
-        }
+        };
         last = place;
-        j += 1;
     }
     true
 }
 
 // 13, above 10 to 12. The edges are read from the part of the record that begins at its fourth byte.
-fn read_edges(order: &[u8]) -> OrderVerdict
+fn read_edges(order: &[u8]) -> Result<Counts, Refusal>
     ensures { answer_of result ≡ edges_answer order.now }
 {
-    let head = read_head(order);
-    let OrderVerdict::Accepted(counts) = head else {
-        return head;
-    };
+    let counts = read_head(order)?;
     let n = counts.positions;
     let e = counts.edges;
     if !edges_sound(&order[3..], n, e) {
-        return OrderVerdict::Refused(Fault::OrderEdge, 0);
+        return Err(Refusal(Fault::OrderEdge, 0));
     }
-    head
+    Ok(counts)
 }
 
 // Judges the m positions that stand `from` positions after the tail's first byte, whether they are below n and all different, and puts
-// racks 1 to
-// m there in the same pass: the table itself shows which positions are taken. Where they are right, it has the racks and nothing else.
+// racks 1 to m there in the same pass: the table itself shows which positions are taken. Where they are right, it has the racks and
+// nothing else.
 fn place_sound(tail: &[u8], n: usize, from: usize, m: usize, table: &mut [u8; 64]) -> bool
     requires n_bound { n ≤ 64 }
     requires m_bound { m < 128 }
@@ -148,9 +137,8 @@ fn place_sound(tail: &[u8], n: usize, from: usize, m: usize, table: &mut [u8; 64
     ensures value { result ≡ not (wrong_places n (positions tail.now (6 * from) m)) }
     ensures table_after { result ≡ true → table.new ≡ racks_at (positions tail.now (6 * from) m) }
 {
-    *table = [0u8; 64];
-    let mut i = 0;
-    while i < m {
+    *table = [0; 64];
+    for i in 0..m {
         let p = field::position_at(tail, from + i);
         if n <= p {
             return false;
@@ -159,7 +147,6 @@ fn place_sound(tail: &[u8], n: usize, from: usize, m: usize, table: &mut [u8; 64
             return false;
         }
         table[p] = (i + 1) as u8;
-        i += 1;
     }
     true
 }
@@ -185,20 +172,17 @@ pub fn racks_sound(
 }
 
 // 10 to 14: the verdict on any byte string as an order.
-pub fn read(order: &[u8]) -> OrderVerdict
+pub fn read(order: &[u8]) -> Result<Counts, Refusal>
     ensures { answer_of result ≡ order_answer order.now }
 {
-    let edges = read_edges(order);
-    let OrderVerdict::Accepted(counts) = edges else {
-        return edges;
-    };
+    let counts = read_edges(order)?;
     let n = counts.positions;
     let e = counts.edges;
     let m = counts.racks;
     let mut starts = [0u8; 64];
     let mut goals = [0u8; 64];
     if !racks_sound(&order[3..], n, e, m, &mut starts, &mut goals) {
-        return OrderVerdict::Refused(Fault::OrderRack, 0);
+        return Err(Refusal(Fault::OrderRack, 0));
     }
-    edges
+    Ok(counts)
 }

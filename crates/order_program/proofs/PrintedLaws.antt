@@ -39,14 +39,14 @@ module _ (s B : List ℕ) (lent : length B ≡ 1024) where
         next_is = accepted_is_length s (length B) l a ∙ sym (zero-add (length (expanded s)));
       })
 
-  pub refusal_text : (j number place r : ℕ) (B' out : List ℕ) → refused number place ≡ expand_answer s (length B) → B' ≡ buffer_after s B
-      → j ≡ number → Wrote B' 0 (refusal_line j place) out r → Wrote B 0 (order_text s) out r
+  pub refusal_text : (number place r : ℕ) (B' out : List ℕ) → refused number place ≡ expand_answer s (length B) → B' ≡ buffer_after s B
+      → Wrote B' 0 (refusal_line number place) out r → Wrote B 0 (order_text s) out r
   unfolding buffer_after order_text
-  refusal_text j number place r B' out a b e w =
+  refusal_text number place r B' out a b w =
       let text : expanded_text (expand_answer s 1024) (expanded s) ≡ refusal_line number place =
       ap (λ (x : Answer). expanded_text x (expanded s)) (sym (a ∙ answer_same)) in
       let same : B' ≡ B = b ∙ ap (λ (x : Answer). left_by x (expanded s) B) (sym a) in
-      wrote_as (ap (λ (k : ℕ). refusal_line k place) e ∙ sym text) (subst (λ (l : List ℕ). Wrote l 0 (refusal_line j place) out r) same w)
+      wrote_as (sym text) (subst (λ (l : List ℕ). Wrote l 0 (refusal_line number place) out r) same w)
 
 pub never_52 : (s : List ℕ) (place : ℕ) → expand_answer s 1024 ≡ refused 52 place → ⊥
 unfolding expand_answer

@@ -4,16 +4,12 @@
 ghost use Rattle.field.specs.Writing.{Wrote};
 ghost use Rattle.order_program.specs.Printed.{order_text};
 
-use models::ExpandVerdict;
-
 // Writes what the program prints at the front of `out`, leaves every byte behind it, and says how many bytes that is.
 pub fn order_program(input: &[u8], out: &mut [u8; 1024]) -> usize
     ensures { Wrote out.old 0 (order_text input.now) out.new result }
 {
     match models::expand(input, out) {
-        ExpandVerdict::Accepted(length) => length,
-        ExpandVerdict::Refused(fault, place) => {
-            writers::put_refusal(answers::number(fault), place, out, 0)
-        }
+        Ok(length) => length,
+        Err(refusal) => writers::put_refusal(refusal, out, 0),
     }
 }

@@ -6,13 +6,14 @@ ghost use Rattle.std.specs.Prelude.{◌<◌, ◌^◌, ◌≡◌, [], ◌∷◌};
 ghost use Rattle.answers.specs.Answer.{accepted, refused_by};
 ghost use Rattle.packing.specs.Packed.{packed, nothing, one_count, steps_and_moves, length_and_offset, start_goal_moves};
 
-use answers::Fault;
+use answers::Refusal;
 
 // A refusal as one number.
-pub fn refusal(fault: Fault, place: u32) -> u64
-    ensures { result ≡ packed nothing (refused_by fault place) }
+pub fn refusal(refusal: Refusal) -> u64
+    ensures { result ≡ packed nothing (refused_by refusal.0 refusal.1) }
 {
-    answers::number(fault) + (place as u64) * 256
+    let Refusal(fault, place) = refusal;
+    fault.number() + (place as u64) * 256
 }
 
 // One count.

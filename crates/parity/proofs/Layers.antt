@@ -7,7 +7,7 @@
 --     colourless, contrary, agreeing    not judged where two colours will not do; with two colours impossible, or not judged
 -- Assumes nothing.
 use Prim.Native.Nat.{ℕ, ◌+◌, ◌-◌, ◌≤◌}
-use mathlib.Core.Path.{◌≡◌, refl, sym, ap, ◌∙◌}
+use mathlib.Core.Path.{◌≡◌, refl, sym, ◌∙◌}
 use mathlib.Core.Bool.{Bool, true, false, not, false≢true}
 use mathlib.Core.List.{List, [], ◌∷◌}
 use mathlib.Core.Logic.{◌↔◌}
@@ -15,8 +15,10 @@ use native.Mathlib.Omega.{arith}
 use borrow.Author.Tests.{eq-eqb, ne_eqb}
 use lib.ListN.{length}
 use lib.Dec.{eqb}
-use Rattle.answers.specs.Answer.{Answer, accepted, refused, refuse, pass_up, holds}
-use Rattle.answers.proofs.AnswerLaws.{pass_up_accepted, holds-yes, holds_no}
+use Rattle.std.specs.Prelude.{Result, IsErrAnd}
+use Rattle.answers.specs.Answer.{Answer, accepted, refused, refused_by, refuse, holds}
+use Rattle.answers.specs.declared.Refusal.{Refusal}
+use Rattle.answers.proofs.AnswerLaws.{pass_up_accepted, holds-yes, holds_no, handed_up}
 use Rattle.order.specs.Order.{position_count, rack_count, floor_of, starts_of, goals_of, order_answer}
 use Rattle.order.specs.Tables.{racks_at, decoded_rows, decoded_starts, decoded_goals}
 use Rattle.decoding.proofs.TablesLaws.{decoded_starts_lem, decoded_goals_lem}
@@ -24,15 +26,16 @@ use Rattle.motion.specs.Arrangement.{Arrangement}
 use Rattle.motion.specs.Sound.{Sound}
 use Rattle.tables.specs.Accepted.{OrderGave}
 use Rattle.tables.proofs.AcceptedLaws.{gave_accepted}
-use Rattle.tables.proofs.Layers.{handed_up}
 use Rattle.graph.specs.Connected.{BiConnected}
 use Rattle.graph.specs.Rows.{Edge}
 use Rattle.floor.specs.FloorAnswer.{Joins, bi_connected?}
 use Rattle.floor.proofs.FloorRows.{filled_joins, joins_filled, filled_bi_connected}
-use Rattle.parity.specs.Colours.{TwoColours}
 use Rattle.parity.specs.Impossible.{Impossible}
 use Rattle.parity.specs.OneVacancy.{impossible?, judgement, vacancy_answer}
-use Rattle.parity.specs.Work.{Stands, is_in, ColouredBy, ContraryOn}
+use Rattle.parity.specs.Verdict.{told as told_of, answer_of}
+use Rattle.parity.specs.declared.Hope.{Hope}
+use Rattle.parity.specs.Colours.{TwoColours, Coloured}
+use Rattle.parity.specs.Work.{Stands, is_in, ContraryOn}
 use Rattle.parity.proofs.ColourLaws.{impossible_by}
 use Rattle.parity.proofs.VacancyLaws.{vacancy_below}
 
@@ -43,10 +46,11 @@ behind o =
     (refuse (not (holds (bi_connected? (floor_of o)))) 21 0
     (accepted (judgement (impossible? (floor_of o) (starts_of o) (goals_of o)) ∷ [])))
 
-pub order_refused : (o : List ℕ) (below r : Answer) (number place : ℕ) → below ≡ order_answer o → below ≡ refused number place
-    → r ≡ pass_up below (accepted (0 ∷ [])) → r ≡ vacancy_answer o
+-- r is what `?` makes of the order reader's refusal e
+pub order_refused : (o : List ℕ) (r : Result Hope Refusal) (e : Refusal) → IsErrAnd r (λ x. x ≡ e)
+    → refused_by e.0 e.1 ≡ order_answer o → answer_of r ≡ vacancy_answer o
 unfolding vacancy_answer
-order_refused o below r number place = handed_up (accepted (0 ∷ [])) (behind o)
+order_refused o r e is down = handed_up told_of r e is down (behind o)
 
 -- a test that says no of what would hold if it said yes
 never : {A : Type 0} {r : Bool} → r ≡ false → (r ≡ true) ↔ A → A → ⊥
@@ -125,11 +129,10 @@ module _ {o : List ℕ} {n e m : ℕ} (gave : OrderGave o n e m) where
             two u v (rw gave.positions_are lu) (rw gave.positions_are lv)
             (joins_filled gave filled u v j)
 
-        pub colourless : {t : Bool} {light : ℕ} → ColouredBy n (Edge g) t light → t ≡ false → accepted (0 ∷ []) ≡ vacancy_answer o
-        colourless by f =
-            not_told (λ i. never f by.decides (record { colour = i.colour; joins_both = to_rows i.colour i.joins_both }))
+        pub colourless : (Coloured n (Edge g) → ⊥) → accepted (0 ∷ []) ≡ vacancy_answer o
+        colourless none = not_told (λ i. none (record { colour = i.colour; joins_both = to_rows i.colour i.joins_both }))
 
-        module _ {t : Bool} {light : ℕ} (by : ColouredBy n (Edge g) t light) (y : t ≡ true) {h k : List ℕ} (hs : h ≡ decoded_starts o)
+        module _ {light : ℕ} (two : TwoColours n (Edge g) (is_in light)) {h k : List ℕ} (hs : h ≡ decoded_starts o)
             (ks : k ≡ decoded_goals o) {r : Bool} (on : ContraryOn n h k light r) where
           decided : (r ≡ true) ↔ Hopeless
           decided =
@@ -144,7 +147,7 @@ module _ {o : List ℕ} {n e m : ℕ} (gave : OrderGave o n e m) where
               (rw (← p) (vacancy_below S n s.sound s.one))
               (rw (← p) (vacancy_below G n g'.sound g'.one))
               (is_in light)
-              (from-rows (is_in light) (by.colours y)) in
+              (from-rows (is_in light) two) in
               (λ x. by_colours.1 (rw (← p) (d.0 x)), λ i. d.1 (rw p (by_colours.0 i)))
 
           pub contrary : r ≡ true → accepted (1 ∷ []) ≡ vacancy_answer o

@@ -4,7 +4,7 @@
 --                           position that is no more in `rest` is light with all that it is joined to dark, or the other way round
 --     painting_begin, painting_light, painting_dark    the state at the start, and after a turn
 --     painting_done         where nothing light or dark is left in `rest`, all positions are one or the other
---     painting_two, painting_none, painting_end    so there are two colours where no position is both, and else there are not
+--     painting_two, painting_none    so there are two colours where no position is both, and else there are not
 -- Assumes nothing.
 use Prim.Native.Nat.{ℕ, ◌<◌}
 use mathlib.Core.Path.{◌≡◌, refl, sym, ap, subst, ◌∙◌}
@@ -15,7 +15,6 @@ use native.Mathlib.Decide.{ℕ_discrete}
 use native.Mathlib.Omega.{arith}
 use borrow.Author.Tests.{eq-eqb, ne_eqb}
 use lib.Bits.{bit_and, bit_or}
-use lib.Dec.{eqb}
 use lib.ListN.{get_or}
 use Rattle.sets.specs.Sets.{bit, Has}
 use Rattle.sets.proofs.SetLaws.{has_none, has_and, has_or, has_some}
@@ -23,9 +22,8 @@ use Rattle.graph.specs.Walk.{Walk}
 use Rattle.graph.specs.Walk.Walk.{alone, step}
 use Rattle.graph.specs.Connected.{Below, Connected}
 use Rattle.graph.specs.Rows.{Edge, Rows}
-use Rattle.graph.proofs.Decision.{says-yes, says_no}
-use Rattle.parity.specs.Colours.{TwoColours}
-use Rattle.parity.specs.Work.{is_in, ColouredBy}
+use Rattle.parity.specs.Colours.{TwoColours, Coloured}
+use Rattle.parity.specs.Work.{is_in}
 use Rattle.parity.proofs.ColourLaws.{third_colour}
 
 -- the colours that the search gives out are those that any two colours have, up to their names
@@ -136,27 +134,16 @@ module _ (g : List ℕ) (n : ℕ) (some : 0 < n) (connected : Connected n (Edge 
     on : (p : ℕ) → Has light p → is_in light p ≡ true
     on p h = eq-eqb (bit light p) 1 h
 
-    by_light : TwoColours n (Edge g) (is_in light)
-    by_light a b la lb e same =
+    pub painting_two : TwoColours n (Edge g) (is_in light)
+    painting_two a b la lb e same =
         ⊎_elim
         (λ t. false≢true (sym (off b (t.1 b e)) ∙ sym same ∙ on a t.0))
         (λ t. false≢true (sym (off a t.0) ∙ same ∙ on b (t.1 b e)))
         (all-round a (painting_done a la))
 
-    pub painting_two : ColouredBy n (Edge g) true light
-    painting_two = record { decides = says-yes (record { colour = is_in light; joins_both = by_light }); colours = λ e. by_light }
-
-  pub painting_none : 0 < bit_and light dark → ColouredBy n (Edge g) false light
-  painting_none both =
-      let w = has_some (bit_and light dark) both in
+  pub painting_none : (bit_and light dark ≡ 0 → ⊥) → Coloured n (Edge g) → ⊥
+  painting_none both k =
+      let w = has_some (bit_and light dark) (omega arith) in
       let t = (has_and light dark w.0).0 w.1 in
-      record {
-        decides = says_no (λ k. let f = s.forced k.colour k.joins_both in f.other w.0 t.1 (f.as_first w.0 t.0));
-        colours = λ e. absurd (false≢true e);
-      }
-
-  pub painting_end : ColouredBy n (Edge g) (eqb (bit_and light dark) 0) light
-  painting_end =
-      by_cases (ℕ_discrete (bit_and light dark) 0)
-      (λ e. rw (eq-eqb (bit_and light dark) 0 e) (painting_two e))
-      (λ d. rw (ne_eqb (bit_and light dark) 0 d) (painting_none (omega arith)))
+      let f = s.forced k.colour k.joins_both in
+      f.other w.0 t.1 (f.as_first w.0 t.0)

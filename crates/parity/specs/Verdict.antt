@@ -2,12 +2,15 @@
 --
 --     answer_of v    1 for impossible, 0 for not judged, and the number and place of a refusal
 -- Assumes nothing.
-use Rattle.std.specs.Prelude.{[], ◌∷◌}
-use Rattle.answers.specs.Answer.{Answer, accepted, refused_by}
-use Rattle.parity.specs.declared.VacancyVerdict.{VacancyVerdict}
-use Rattle.parity.specs.declared.VacancyVerdict.TheVariants.{Impossible, NotJudged, Refused}
+use Rattle.std.specs.Prelude.{ℕ, List, [], ◌∷◌, Result}
+use Rattle.answers.specs.Answer.{Answer, answer_by}
+use Rattle.answers.specs.declared.Refusal.{Refusal}
+use Rattle.parity.specs.declared.Hope.{Hope}
+use Rattle.parity.specs.declared.Hope.TheVariants.{Impossible, NotJudged}
 
-abbrev pub answer_of : VacancyVerdict → Answer
-answer_of Impossible = accepted (1 ∷ [])
-answer_of NotJudged = accepted (0 ∷ [])
-answer_of (Refused f place) = refused_by f place
+abbrev pub told : Hope → List ℕ
+told Impossible = 1 ∷ []
+told NotJudged = 0 ∷ []
+
+abbrev pub answer_of : Result Hope Refusal → Answer
+answer_of = answer_by told

@@ -5,11 +5,11 @@
 --     Homes n h r          the table r is the table h turned round: at each number the position that has it, below 64
 --     Sent n h r s         the table s has at each position what r has at its number in h
 --     is_in s p             position p is in the set s, as a colour
---     ColouredBy n E t s   t says whether the positions fall into two colours, each edge joining both; if so, s is one of the colours
+--     ColouredBy n E r     r is the positions of one colour, where they fall into two, each edge joining both; else there is none
 --     Stands n A h         the table h has the racks of the arrangement A, which leaves one of at most 64 positions vacant
 --     ContraryOn n h k s r    r says whether the change is contrary by the colours of s, where h has the starts and k the goals
 -- Assumes nothing.
-use Rattle.std.specs.Prelude.{ℕ, ◌+◌, ◌≤◌, ◌<◌, ◌≡◌, Bool, true, List, ◌↔◌, length, get_or, eqb}
+use Rattle.std.specs.Prelude.{ℕ, ◌+◌, ◌≤◌, ◌<◌, ◌≡◌, Bool, true, List, ◌↔◌, length, get_or, eqb, Option, None, Some}
 use Rattle.sets.specs.Sets.{bit}
 use Rattle.order.specs.Tables.{racks_at}
 use Rattle.motion.specs.Arrangement.{Arrangement}
@@ -36,9 +36,9 @@ Sent n h r s = (p : ℕ) → p < n → get_or s p 0 ≡ get_or r (get_or h p 0) 
 abbrev pub is_in : ℕ → ℕ → Bool
 is_in s p = eqb (bit s p) 1
 
-pub record ColouredBy (n : ℕ) (E : ℕ → ℕ → Type 0) (t : Bool) (s : ℕ) : Type 0 where
-  pub decides : (t ≡ true) ↔ Coloured n E
-  pub colours : t ≡ true → TwoColours n E (is_in s)
+abbrev pub ColouredBy : ℕ → (ℕ → ℕ → Type 0) → Option ℕ → Type 0
+ColouredBy n E None = Coloured n E → ⊥
+ColouredBy n E (Some s) = TwoColours n E (is_in s)
 
 pub record Stands (n : ℕ) (A : Arrangement) (h : List ℕ) : Type 0 where
   pub few : n ≤ 64

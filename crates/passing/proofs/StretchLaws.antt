@@ -4,9 +4,7 @@
 --     moves-split                   moves read in two parts
 --     before_none, before-next, before-all     the moves before the first stretch, before the next one, and before the end
 --     room_few                      room for k moves is room for fewer
---     copied_none, copied_more      numbers copied one after another
---     read_arrived, read_left       what is copied out of a book's row are the tables that it has
---     row_written, row_kept         the row that is copied into a book, and the others
+--     row_written, row_kept         the row that is put into a book, and the others
 --     GoesOn first ms P             the pass P has the tables after the moves ms, and their window
 --     goes_on, goes_on_window, goes_on_latest    over the moves behind them it gives the tables, the window and the greatest step of all
 --     after-length, after_early     the tables have 64 entries, and no step in them is above the number of moves
@@ -16,19 +14,18 @@
 use Prim.Native.Nat.{ℕ, zero, suc, ◌+◌, ◌-◌, ◌*◌, ◌/◌, ◌≤◌, ◌<◌, min, max}
 use mathlib.Core.Path.{◌≡◌, refl, sym, ap, ◌∙◌}
 use mathlib.Core.Bool.{Bool, true, false}
-use mathlib.Core.Logic.{◌≢◌, by_cases, dite}
+use mathlib.Core.Logic.{◌≢◌}
 use mathlib.Core.List.{List, [], ◌∷◌, ◌++◌}
 use native.Mathlib.Omega.{arith}
-use native.Mathlib.Decide.{ℕ_discrete, dec_lt}
 use native.Mathlib.Nat.{zero-add, zero-mul, suc-mul, lt-mul-div-succ}
 use native.Mathlib.Numerals.{add-one}
-use lib.ListN.{length, get_or, set, take, drop, length-set, length-drop, length-replicate}
-use lib.Seq.{get_or-set_same, get_or-set_other, get_or-take, get_or-drop, length-take-le, ext_get_or}
+use lib.ListN.{length, set, take, drop, length-set, length-replicate}
+use lib.Seq.{get_or-set_same, get_or-set_other}
 use Rattle.field.specs.Listed.{move_size, listed_moves, moves_of, moves_at}
 use Rattle.field.proofs.ListedLaws.{size_none, size-next}
 use Rattle.motion.specs.LegalStep.{longest_train}
 use Rattle.window.specs.Filling.{Pass, started, passed, pass, Early, Due, due_none, due_more, empty_window, window_of, latest, turn_by}
-use Rattle.passing.specs.Stretches.{stretch_end, before, stretch, Copied, RowIn, after}
+use Rattle.passing.specs.Stretches.{stretch_end, before, stretch, RowIn, after}
 use Rattle.window.proofs.FillingLaws.{early_started, early_pass, Same, same-pass, same_window, pass_append}
 use Rattle.window.proofs.Passing.{note_outside}
 
@@ -89,58 +86,17 @@ module _ (e : Bool) (s : List ℕ) (k n : ℕ) where
   unfolding before
   before-all h = ap (moves_at e s 0) (end_all k n h)
 
--- numbers copied
-
-pub copied_none : (s : List ℕ) (i : ℕ) (t : List ℕ) (j : ℕ) → Copied 0 s i t j t
-copied_none s i t j = record { size = refl; there = λ p h. absurd (omega arith); ahead = λ q h. refl; behind = λ q h. refl }
-
-pub copied_more : (m : ℕ) (s : List ℕ) (i : ℕ) (t : List ℕ) (j : ℕ) (t' : List ℕ) → Copied m s i t j t' → j + m < length t
-    → Copied (m + 1) s i t j (set t' (j + m) (get_or s (i + m) 0))
-copied_more m s i t j t' c h = record {
-  size = length-set t' (j + m) _ ∙ c.size;
-  there = λ p k.
-      by_cases (ℕ_discrete p m) (λ e. rw e (get_or-set_same t' (j + m) _ 0 (omega (arith, c.size))))
-      (λ d. get_or-set_other t' (j + m) (j + p) _ 0 (λ e. d (omega arith)) ∙ c.there p (omega (arith, d)));
-  ahead = λ q k. get_or-set_other t' (j + m) q _ 0 (λ e. omega (arith, e)) ∙ c.ahead q k;
-  behind = λ q k. get_or-set_other t' (j + m) q _ 0 (λ e. omega (arith, e)) ∙ c.behind q (omega arith);
-}
-
 -- rows of a book
-module _ (b : List ℕ) (i : ℕ) (P : Pass) (arrivals : length P.arrived ≡ 64) (leavings : length P.left ≡ 64) (r : RowIn b i P)
-    (z row : List ℕ) (c : Copied 128 b (128 * i) z 0 row) (size : length row ≡ 128) where
-  pub read_arrived : take 64 row ≡ P.arrived
-  read_arrived =
-      let few : length (take 64 row) ≡ 64 = length-take-le 64 row (omega arith) in
-      ext_get_or 0 (take 64 row) P.arrived (few ∙ sym arrivals)
-      (λ p h.
-      let low : p < 64 = omega arith in
-      get_or-take 64 row p 0 low ∙ ap (λ (x : ℕ). get_or row x 0) (sym (zero-add p)) ∙ c.there p (omega arith) ∙ r.arrivals p low)
+module _ (b : List (List ℕ)) (i : ℕ) (row : List ℕ) where
+  pub row_written : (P : Pass) → i < length b → take 64 row ≡ P.arrived → drop 64 row ≡ P.left → RowIn (set b i row) i P
+  row_written P h x y =
+      let same = get_or-set_same b i row [] h in
+      record { arrivals = rw same x; leavings = rw same y }
 
-  pub read_left : drop 64 row ≡ P.left
-  read_left =
-      let few : length (drop 64 row) ≡ 64 = length-drop 64 row ∙ omega arith in
-      ext_get_or 0 (drop 64 row) P.left (few ∙ sym leavings)
-      (λ p h.
-      let low : p < 64 = omega arith in
-      get_or-drop 64 row p 0 ∙ ap (λ (x : ℕ). get_or row x 0) (sym (zero-add (64 + p))) ∙ c.there (64 + p) (omega arith) ∙ r.leavings p low)
-
-module _ (row b b' : List ℕ) (i : ℕ) (c : Copied 128 row 0 b (128 * (i + 1)) b') where
-  pub row_written : (P : Pass) → take 64 row ≡ P.arrived → drop 64 row ≡ P.left → RowIn b' (i + 1) P
-  row_written P x y = record {
-    arrivals = λ p h. c.there p (omega arith) ∙ rw (zero-add p) (sym (get_or-take 64 row p 0 h)) ∙ ap (λ (l : List ℕ). get_or l p 0) x;
-    leavings = λ p h.
-        c.there (64 + p) (omega arith) ∙ rw (zero-add (64 + p)) (sym (get_or-drop 64 row p 0)) ∙ ap (λ (l : List ℕ). get_or l p 0) y;
-  }
-
-  elsewhere : (j x : ℕ) → j ≢ i + 1 → x < 128 → get_or b' (128 * j + x) 0 ≡ get_or b (128 * j + x) 0
-  elsewhere j x d h =
-      dite (dec_lt j (i + 1)) (λ l. c.ahead (128 * j + x) (omega arith)) (λ l. c.behind (128 * j + x) (omega (arith, d)))
-
-  pub row_kept : (j : ℕ) (P : Pass) → j ≢ i + 1 → RowIn b j P → RowIn b' j P
-  row_kept j P d r = record {
-    arrivals = λ p h. elsewhere j p d (omega arith) ∙ r.arrivals p h;
-    leavings = λ p h. elsewhere j (64 + p) d (omega arith) ∙ r.leavings p h;
-  }
+  pub row_kept : (j : ℕ) (P : Pass) → j ≢ i → RowIn b j P → RowIn (set b i row) j P
+  row_kept j P d r =
+      let same = get_or-set_other b i j row [] d in
+      record { arrivals = rw same r.arrivals; leavings = rw same r.leavings }
 
 -- a pass that goes on
 

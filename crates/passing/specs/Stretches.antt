@@ -5,7 +5,6 @@
 --     stretch_end k n i         how many of k moves the first i of n stretches have
 --     before e s k n i         the moves before stretch i, of the k moves of the tail s in the edition e
 --     stretch e s k n i        the moves of stretch i
---     Copied m s i t j t'      t' is t with m numbers of s, those from i on, in the places from j on
 --     RowIn b i P              row i of the book b has the tables of the pass P
 --     after ms                 the pass over the moves ms
 --     Begun d                  no stretch was passed yet
@@ -13,7 +12,7 @@
 --     PlanPassed e s k n first d r w b' d'    a pass over the plan for the window of the steps after step `first` gives the window w,
 --                              the book b' and the due steps d', and the greatest step r, if no stretch was passed before
 -- Assumes nothing.
-use Rattle.std.specs.Prelude.{ℕ, zero, suc, ◌+◌, ◌-◌, ◌*◌, ◌/◌, ◌≤◌, ◌<◌, min, ◌≡◌, Bool, List, [], length, get_or}
+use Rattle.std.specs.Prelude.{ℕ, zero, suc, ◌+◌, ◌-◌, ◌*◌, ◌/◌, ◌≤◌, ◌<◌, min, ◌≡◌, Bool, List, [], length, get_or, take, drop}
 use Rattle.field.specs.Listed.{move_size, moves_at}
 use Rattle.window.specs.Filling.{Pass, started, pass, empty_window, window_of, latest, Due}
 
@@ -28,15 +27,9 @@ before e s k n i = moves_at e s 0 (stretch_end k n i)
 unfoldable pub stretch : Bool → List ℕ → ℕ → ℕ → ℕ → List (ℕ × ℕ)
 stretch e s k n i = moves_at e s (6 * (move_size e * stretch_end k n i)) (stretch_end k n (i + 1) - stretch_end k n i)
 
-pub record Copied (m : ℕ) (s : List ℕ) (i : ℕ) (t : List ℕ) (j : ℕ) (t' : List ℕ) : Type 0 where
-  pub size : length t' ≡ length t
-  pub there : (p : ℕ) → p < m → get_or t' (j + p) 0 ≡ get_or s (i + p) 0
-  pub ahead : (q : ℕ) → q < j → get_or t' q 0 ≡ get_or t q 0
-  pub behind : (q : ℕ) → j + m ≤ q → get_or t' q 0 ≡ get_or t q 0
-
-pub record RowIn (b : List ℕ) (i : ℕ) (P : Pass) : Type 0 where
-  pub arrivals : (p : ℕ) → p < 64 → get_or b (128 * i + p) 0 ≡ get_or P.arrived p 0
-  pub leavings : (p : ℕ) → p < 64 → get_or b (128 * i + (64 + p)) 0 ≡ get_or P.left p 0
+pub record RowIn (b : List (List ℕ)) (i : ℕ) (P : Pass) : Type 0 where
+  pub arrivals : take 64 (get_or b i []) ≡ P.arrived
+  pub leavings : drop 64 (get_or b i []) ≡ P.left
 
 unfoldable pub after : List (ℕ × ℕ) → Pass
 after ms = pass 0 (started empty_window) ms
@@ -44,8 +37,8 @@ after ms = pass 0 (started empty_window) ms
 pub record Begun (d : List ℕ) : Type 0 where
   pub none : (i : ℕ) → get_or d i 0 ≡ 0
 
-pub record Kept (e : Bool) (s : List ℕ) (k n first : ℕ) (b d : List ℕ) : Type 0 where
-  pub rows : length b ≡ 128 * n + 128
+pub record Kept (e : Bool) (s : List ℕ) (k n first : ℕ) (b : List (List ℕ)) (d : List ℕ) : Type 0 where
+  pub rows : length b ≡ n + 1
   pub stretches : length d ≡ n
   pub start : RowIn b 0 (after [])
   -- a stretch that was passed left the next one's row
@@ -53,7 +46,8 @@ pub record Kept (e : Bool) (s : List ℕ) (k n first : ℕ) (b d : List ℕ) : T
   pub due : (i : ℕ) → i < n
       → Due first (get_or d i 0) (after (before e s k n i)).arrived (after (before e s k n i)).left (stretch e s k n i)
 
-pub record PlanPassed (e : Bool) (s : List ℕ) (k n first : ℕ) (d : List ℕ) (r : ℕ) (w b' d' : List ℕ) : Type 0 where
+pub record PlanPassed (e : Bool) (s : List ℕ) (k n first : ℕ) (d : List ℕ) (r : ℕ) (w : List ℕ) (b' : List (List ℕ))
+    (d' : List ℕ) : Type 0 where
   pub window_is : w ≡ window_of (moves_at e s 0 k) first
   pub at_most : r ≤ latest (moves_at e s 0 k)
   pub at_first : Begun d → r ≡ latest (moves_at e s 0 k)

@@ -1,11 +1,10 @@
--- The verdict on a plan as document 01's answer.
+-- The result of reading a plan, or of checking one, as document 01's answer.
 --
---     answer_of v    the number and place of a refusal, the count of moves of an accepted plan
+--     answer_of r    the number and place of a refusal, the count of moves of an accepted plan
 -- Assumes nothing.
-use Rattle.std.specs.Prelude.{[], ◌∷◌}
-use Rattle.answers.specs.Answer.{Answer, accepted, refused_by}
-use Rattle.plan.specs.declared.PlanVerdict.{PlanVerdict}
+use Rattle.std.specs.Prelude.{ℕ, Result}
+use Rattle.answers.specs.Answer.{Answer, the_count, answer_by}
+use Rattle.answers.specs.declared.Refusal.{Refusal}
 
-abbrev pub answer_of : PlanVerdict → Answer
-answer_of (PlanVerdict.Accepted moves) = accepted (moves ∷ [])
-answer_of (PlanVerdict.Refused f place) = refused_by f place
+abbrev pub answer_of : Result ℕ Refusal → Answer
+answer_of = answer_by the_count

@@ -8,14 +8,7 @@ ghost use Rattle.plan.specs.Plan.{spare_bits, named};
 ghost use Rattle.plan.specs.Readers.{record_answer};
 ghost use Rattle.plan.specs.Verdict.{answer_of};
 
-use answers::Fault;
-
-// The verdict on a plan: specs/Verdict.antt gives it document 01's number and values.
-#[derive(Clone, Copy)]
-pub enum PlanVerdict {
-    Accepted(usize),
-    Refused(Fault, u32),
-}
+use answers::{Fault, Refusal};
 
 // Do a plan's moves name their racks? The spare bits tell the edition.
 pub fn names_racks(plan: &[u8]) -> bool
@@ -47,22 +40,22 @@ pub fn spare_bits(named: bool) -> usize
 }
 
 // 30 and 31.
-pub fn read_record(plan: &[u8]) -> PlanVerdict
+pub fn read_record(plan: &[u8]) -> Result<usize, Refusal>
     ensures { answer_of result ≡ record_answer plan.now }
 {
     if plan.len() < 3 {
-        return PlanVerdict::Refused(Fault::PlanLength, 0);
+        return Err(Refusal(Fault::PlanLength, 0));
     }
     let k = field::count_at_head(plan);
     let q = units(names_racks(plan), k);
     if !field::units_fit(plan, q) {
-        return PlanVerdict::Refused(Fault::PlanLength, 0);
+        return Err(Refusal(Fault::PlanLength, 0));
     }
     if field::spare_at_head(plan) > 1 {
-        return PlanVerdict::Refused(Fault::PlanPadding, 0);
+        return Err(Refusal(Fault::PlanPadding, 0));
     }
     if !field::pad_clear(plan, q) {
-        return PlanVerdict::Refused(Fault::PlanPadding, 0);
+        return Err(Refusal(Fault::PlanPadding, 0));
     }
-    PlanVerdict::Accepted(k)
+    Ok(k)
 }

@@ -5,14 +5,13 @@
 --                          one of the editions
 -- Assumes nothing.
 use Prim.Native.Nat.{ℕ}
-use mathlib.Core.List.{List, [], ◌∷◌}
+use mathlib.Core.List.{List}
 use mathlib.Core.Logic.{◌↔◌}
-use mathlib.Core.Path.{◌≡◌, refl, sym, ap, ◌∙◌}
+use mathlib.Core.Path.{◌≡◌, sym, ap, ◌∙◌}
 use Rattle.answers.specs.Answer.{accepted}
 use Rattle.field.specs.Bytes.{Bytes}
 use Rattle.field.proofs.BitLaws.{field_lt}
 use Rattle.order.specs.Order.{rack_count, floor_of, starts_of, goals_of, WellFormed}
-use Rattle.motion.specs.Arrangement.{Arrangement}
 use Rattle.motion.specs.Move.{after_move}
 use Rattle.motion.specs.Replay.{ended, replay_moves, listed, trace}
 use Rattle.motion.specs.StepSolutions.{moves_between}

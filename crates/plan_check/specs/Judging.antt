@@ -4,14 +4,14 @@
 --                                   edition whose moves name their racks or in the other
 --     fault_of v                     the number of a move that is not legal or names another rack, 0 for none
 -- Assumes nothing.
-use Rattle.std.specs.Prelude.{ℕ, ◌+◌, ◌*◌, Bool, List, [], ◌∷◌, replicate}
+use Rattle.std.specs.Prelude.{ℕ, ◌+◌, ◌*◌, Bool, List, [], ◌∷◌, replicate, Result, Ok, Err}
 use Rattle.answers.specs.Answer.{Answer, number_of}
 use Rattle.field.specs.Bits.{pairs, positions}
 use Rattle.field.specs.Listed.{listed_moves}
 use Rattle.order.specs.Tables.{marked, placed}
 use Rattle.tables.specs.Tables.{judged_on}
 use Rattle.tables.specs.MovesOn.{replay_on}
-use Rattle.plan_check.specs.declared.MoveVerdict.{MoveVerdict}
+use Rattle.answers.specs.declared.Fault.{Fault}
 
 unfoldable pub table_answer : List ℕ → ℕ → ℕ → List ℕ → Bool → ℕ → Answer
 table_answer s e m t named k =
@@ -19,6 +19,6 @@ table_answer s e m t named k =
     (replay_on (marked (replicate 4096 0) (pairs s 0 e)) (placed (replicate 64 0) 1 (positions s (6 * (2 * e)) m))
     (listed_moves named t 0 k))
 
-abbrev pub fault_of : MoveVerdict → ℕ
-fault_of MoveVerdict.Legal = 0
-fault_of (MoveVerdict.Illegal f) = number_of f
+abbrev pub fault_of : {X : Type 0} → Result X Fault → ℕ
+fault_of (Ok _) = 0
+fault_of (Err f) = number_of f

@@ -3,17 +3,13 @@
 
 ghost use Rattle.plan_program.specs.Printed.{Printed};
 
-use planner::PlannerVerdict;
-
 // Writes what the program prints at the front of `out`, leaves every byte behind it, and says how many bytes that is. The planner is lent
 // `out` itself, so that its record stands there already; on a refusal it left every byte as it was.
 pub fn plan_program(input: &[u8], out: &mut [u8; 65536]) -> usize
     ensures { Printed input.now out.old out.new result }
 {
     match choosing::make(input, out) {
-        PlannerVerdict::Planned(moves) => 3 + (18 * moves + 7) / 8,
-        PlannerVerdict::Refused(fault, place) => {
-            writers::put_refusal(answers::number(fault), place, out, 0)
-        }
+        Ok(moves) => 3 + (18 * moves + 7) / 8,
+        Err(refusal) => writers::put_refusal(refusal, out, 0),
     }
 }

@@ -1,7 +1,7 @@
 -- The planner's answers above the floor judge's: what it turns down, and what it leaves behind where it plans.
 --
 --     planner_refused            the floor judge's refusal is passed up
---     counted, gave              what the counts that the floor judge hands on are
+--     Judged o n e m, judged     what its acceptance tells, with the counts that it hands on
 --     tables                     what the order is decoded to, as the moves are made from it
 --     cube                       how large the products are
 --     planner_short, room        the buffer is too short, or it has room for the moves
@@ -9,7 +9,7 @@
 --     planner_made               head and moves are the record of the plan
 -- Assumes nothing.
 use Prim.Native.Nat.{ℕ, ◌+◌, ◌-◌, ◌*◌, ◌^◌, ◌≤◌, ◌<◌}
-use mathlib.Core.Path.{◌≡◌, refl, sym, ap, ap₂, subst, ◌∙◌}
+use mathlib.Core.Path.{◌≡◌, refl, sym, ap, subst, ◌∙◌}
 use mathlib.Core.Bool.{true}
 use mathlib.Core.List.{List, [], ◌∷◌, ◌++◌}
 use native.Mathlib.Nat.{mul-le-mul_right}
@@ -17,7 +17,10 @@ use native.Mathlib.Omega.{arith}
 use borrow.Author.Tests.{lt-ltb, le-ltb}
 use lib.Dec.{ltb}
 use lib.ListN.{length, take, drop, length-drop}
-use Rattle.answers.specs.Answer.{Answer, accepted, refused, refuse, pass_up}
+use Rattle.std.specs.Prelude.{Result, IsErrAnd}
+use Rattle.answers.specs.Answer.{Answer, accepted, refused, refused_by, refuse, pass_up, the_count}
+use Rattle.answers.specs.declared.Refusal.{Refusal}
+use Rattle.answers.proofs.AnswerLaws.{handed_on}
 use Rattle.recording.specs.Head.{head_bytes}
 use Rattle.recording.proofs.HeadLaws.{length-head_bytes, record_written}
 use Rattle.field.specs.Packing.{pack_positions}
@@ -26,7 +29,7 @@ use Rattle.field.specs.Listed.{move_size, all_units}
 use Rattle.field.proofs.ListedLaws.{length-units}
 use Rattle.field.proofs.RecordLaws.{rest_is}
 use Rattle.field.specs.Writing.{written}
-use Rattle.order.specs.Order.{position_count, floor_of, starts_of, goals_of, order_answer, counts}
+use Rattle.order.specs.Order.{position_count, floor_of, starts_of, goals_of, counts}
 use Rattle.order.specs.Tables.{decoded_rows, decoded_starts, decoded_goals}
 use Rattle.motion.specs.Replay.{listed}
 use Rattle.motion.proofs.Lawful.{replay_moves_ended}
@@ -37,46 +40,58 @@ use Rattle.plan.proofs.PlanRecord.{record_parts}
 use Rattle.plan.proofs.Listing.{length_listing, listing_fits}
 use Rattle.floor.specs.FloorAnswer.{floor_answer}
 use Rattle.floor.specs.Plannable.{Plannable}
-use Rattle.floor.proofs.FloorLaws.{plannable_is}
+use Rattle.floor.proofs.FloorLaws.{plannable, plannable_is}
 use Rattle.method.specs.Moves.{Solves, TablesOf, Moves}
-use Rattle.planner.specs.Planner.{refusals, PlanMade, turned_down, made}
+use Rattle.planner.specs.Planner.{refusals, PlanMade, turned_down, made, answer_of}
 
-pub counted : (o : List ℕ) → Plannable o → (a : Answer) → a ≡ pass_up (floor_answer o) (accepted (counts o)) → a ≡ order_answer o
-counted o can a handed =
-    handed ∙ ap (λ (b : Answer). pass_up b (accepted (counts o))) (plannable_is o can) ∙ sym can.right
+-- r is what `?` makes of the floor judge's refusal e
+pub planner_refused : (o B : List ℕ) (r : Result ℕ Refusal) (e : Refusal) → IsErrAnd r (λ x. x ≡ e) → refused_by e.0 e.1 ≡ floor_answer o
+    → PlanMade o B (answer_of r) B
+unfolding refusals
+planner_refused o B r e is told =
+    let n = position_count o in
+    let up : refusals o (length B) ≡ refused_by e.0 e.1 =
+    ap (λ (x : Answer). pass_up x (refuse (ltb (length B) (18 * (n * (n * n)) + 3)) 23 0 (accepted []))) (sym told) in
+    subst (λ (x : Answer). PlanMade o B x B) (sym (handed_on the_count r e is refl)) (turned_down up)
 
-module _ (o B : List ℕ) where
-  pub planner_refused : (a r : Answer) (k place : ℕ) → a ≡ floor_answer o → a ≡ refused k place → r ≡ pass_up a (accepted (0 ∷ []))
-      → PlanMade o B r B
-  unfolding refusals
-  planner_refused a r k place ea ek er =
-      let n = position_count o in
-      let up : refusals o (length B) ≡ refused k place =
-      ap (λ (x : Answer). pass_up x (refuse (ltb (length B) (18 * (n * (n * n)) + 3)) 23 0 (accepted []))) (sym ea ∙ ek) in
-      let down : r ≡ refused k place = er ∙ ap (λ (x : Answer). pass_up x (accepted (0 ∷ []))) ek in
-      subst (λ (x : Answer). PlanMade o B x B) (sym down) (turned_down up)
+pub record Judged (o : List ℕ) (n e m : ℕ) : Type 0 where
+  pub can : Plannable o
+  pub gave : OrderGave o n e m
 
-  module _ (can : Plannable o) (n e m : ℕ) (c : accepted (n ∷ e ∷ m ∷ []) ≡ order_answer o) where
-    pub gave : OrderGave o n e m
-    gave = order_gave o n e m c
+pub judged : {o : List ℕ} {n e m : ℕ} → accepted [] ≡ floor_answer o
+    → accepted (n ∷ e ∷ m ∷ []) ≡ pass_up (floor_answer o) (accepted (counts o)) → Judged o n e m
+judged {o} {n} {e} {m} accepts handed =
+    let can = plannable o [] (sym accepts) in
+    record {
+      can = can;
+      gave = order_gave o n e m (handed ∙ ap (λ (b : Answer). pass_up b (accepted (counts o))) (plannable_is o can) ∙ sym can.right);
+    }
 
-    positions_are : n ≡ position_count o
-    unfolding floor_of
-    positions_are = gave.positions_are
+module _ {o : List ℕ} {n e m : ℕ} (j : Judged o n e m) where
+  can : Plannable o
+  can = j.can
 
-    pub tables : (g h k : List ℕ) → g ≡ decoded_rows o → h ≡ decoded_starts o → k ≡ decoded_goals o → TablesOf o n e m g h k
-    tables g h k rows starts goals =
-        record { gave = gave; can = can; rows_are = rows; starts_are = starts; goals_are = goals }
+  gave : OrderGave o n e m
+  gave = j.gave
 
-    few : n ≤ 64
-    few = let f = gave.placed_well.few_positions in let p = gave.positions_are in omega arith
+  positions_are : n ≡ position_count o
+  unfolding floor_of
+  positions_are = gave.positions_are
 
-    pub square : n * n ≤ 4096
-    square = let s : n * n ≤ 64 * n = mul-le-mul_right n few in let f = few in omega arith
+  pub tables : (g h k : List ℕ) → g ≡ decoded_rows o → h ≡ decoded_starts o → k ≡ decoded_goals o → TablesOf o n e m g h k
+  tables g h k rows starts goals =
+      record { gave = gave; can = can; rows_are = rows; starts_are = starts; goals_are = goals }
 
-    pub cube : n * (n * n) ≤ 262144
-    cube = let s : n * (n * n) ≤ 64 * (n * n) = mul-le-mul_right (n * n) few in let q = square in omega arith
+  few : n ≤ 64
+  few = let f = gave.placed_well.few_positions in let p = gave.positions_are in omega arith
 
+  pub square : n * n ≤ 4096
+  square = let s : n * n ≤ 64 * n = mul-le-mul_right n few in let f = few in omega arith
+
+  pub cube : n * (n * n) ≤ 262144
+  cube = let s : n * (n * n) ≤ 64 * (n * n) = mul-le-mul_right (n * n) few in let q = square in omega arith
+
+  module _ (B : List ℕ) where
     answer_is : refusals o (length B) ≡ refuse (ltb (length B) (18 * (n * (n * n)) + 3)) 23 0 (accepted [])
     unfolding refusals
     answer_is = rw (plannable_is o can, positions_are) refl

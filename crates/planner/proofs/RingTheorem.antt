@@ -3,17 +3,15 @@
 --     ring-planned         where the racks stand in the same order, a list of moves leads from the starts to the goals
 --     ring-turned_down     the theorem
 -- Assumes nothing.
-use Prim.Native.Nat.{ℕ, ◌+◌, ◌≤◌, ◌<◌}
+use Prim.Native.Nat.{ℕ, ◌≤◌, ◌<◌}
 use mathlib.Core.Path.{◌≡◌, refl, sym, ap, subst, ◌∙◌}
-use mathlib.Core.List.{List, [], ◌∷◌}
+use mathlib.Core.List.{List}
 use mathlib.Core.Logic.{by_cases}
 use native.Mathlib.Decide.{ℕ_discrete, dec_lt}
 use native.Mathlib.Omega.{arith}
-use lib.Dec.{T}
-use lib.ListN.{length, get_or}
+use lib.ListN.{get_or}
 use Rattle.answers.specs.Answer.{accepted, refused}
-use Rattle.order.specs.Floor.{joined}
-use Rattle.order.specs.Order.{position_count, rack_count, edge_count, floor_of, starts_of, goals_of, counts, order_answer}
+use Rattle.order.specs.Order.{position_count, rack_count, edge_count, floor_of, starts_of, goals_of, counts}
 use Rattle.order.specs.Tables.{decoded_rows, decoded_starts, decoded_goals}
 use Rattle.motion.specs.Replay.{ended, replay_moves}
 use Rattle.motion.proofs.Lawful.{replay_moves_ended}

@@ -22,7 +22,7 @@ use Rattle.ring.specs.Circle.{Circle, next}
 use Rattle.ring.specs.Order.{Rack, SameOrder}
 use Rattle.graph.specs.Rows.{row}
 use Rattle.ring.specs.Standing.{OnCircle, StandAt}
-use Rattle.ring.proofs.CircleLaws.{next_below, circle-next, circle_one}
+use Rattle.ring.proofs.CircleLaws.{circle-next}
 use Rattle.moving.specs.OnePlace.{Passed}
 use Rattle.moving.specs.Went.{Move, Went}
 use Rattle.moving.specs.Went.Went.{stay, real}

@@ -4,15 +4,14 @@
 --     PlanMade o B a B'    for the order o and the buffer B the planner may answer a and leave B' behind
 --     answer_of v           the planner's verdict v as an answer
 -- Assumes nothing.
-use Rattle.std.specs.Prelude.{ℕ, ◌+◌, ◌*◌, ◌≡◌, true, List, [], ◌∷◌, length, ltb}
-use Rattle.answers.specs.Answer.{Answer, accepted, refused, refused_by, refuse, pass_up}
+use Rattle.std.specs.Prelude.{ℕ, ◌+◌, ◌*◌, ◌≡◌, true, List, [], ◌∷◌, length, ltb, Result}
+use Rattle.answers.specs.Answer.{Answer, accepted, refused, refuse, pass_up, the_count, answer_by}
 use Rattle.field.specs.Writing.{written}
 use Rattle.order.specs.Order.{position_count, starts_of}
 use Rattle.plan.specs.Plan.{plan_record}
 use Rattle.floor.specs.FloorAnswer.{floor_answer}
 use Rattle.method.specs.Moves.{Solves}
-use Rattle.planner.specs.declared.PlannerVerdict.{PlannerVerdict}
-use Rattle.planner.specs.declared.PlannerVerdict.TheVariants.{Planned, Refused}
+use Rattle.answers.specs.declared.Refusal.{Refusal}
 
 -- "planner 10 to 14 and 20 to 23"; 24 and then 26 come before 23, and are the floor judge's; 23: "plan buffer shorter than" the size of
 -- request (h): the planner "needs 18 × n × n × n + 3 bytes, and 23 uses that size"
@@ -30,6 +29,5 @@ pub data PlanMade (o B : List ℕ) : Answer → List ℕ → Type 0 where
   made : (ms : List (ℕ × ℕ)) → refusals o (length B) ≡ accepted [] → Solves o (position_count o) ms
       → PlanMade o B (accepted (length ms ∷ [])) (written B 0 (plan_record true (starts_of o) ms))
 
-abbrev pub answer_of : PlannerVerdict → Answer
-answer_of (Planned moves) = accepted (moves ∷ [])
-answer_of (Refused f place) = refused_by f place
+abbrev pub answer_of : Result ℕ Refusal → Answer
+answer_of = answer_by the_count

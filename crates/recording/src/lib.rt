@@ -21,18 +21,18 @@ pub fn put_position(s: &mut [u8], q: usize, p: usize)
         return;
     }
     if place == 1 {
-        let begun = field::wide(s[at]);
+        let begun = usize::from(s[at]);
         s[at] = (begun / 4 * 4 + p / 16) as u8;
         s[at + 1] = (p % 16 * 16) as u8;
         return;
     }
     if place == 2 {
-        let begun = field::wide(s[at + 1]);
+        let begun = usize::from(s[at + 1]);
         s[at + 1] = (begun / 16 * 16 + p / 4) as u8;
         s[at + 2] = (p % 4 * 64) as u8;
         return;
     }
-    let begun = field::wide(s[at + 2]);
+    let begun = usize::from(s[at + 2]);
     s[at + 2] = (begun / 64 * 64 + p) as u8;
 }
 
@@ -47,7 +47,7 @@ pub fn put_pair(s: &mut [u8], j: usize, a: usize, b: usize)
         s[at + 1] = (b % 16 * 16) as u8;
         return;
     }
-    let begun = field::wide(s[at + 1]);
+    let begun = usize::from(s[at + 1]);
     s[at + 1] = (begun / 16 * 16 + a / 4) as u8;
     s[at + 2] = (a % 4 * 64 + b) as u8;
 }

@@ -7,10 +7,9 @@
 --     rack_of_lem, first             a rack by its number; where there is a rack, there is rack 1
 --     few_ordered                two racks or fewer always stand in the same order
 --     order_kept, kept_order     the order is the same exactly where each rack keeps behind it those that it had behind it
---     Before, before-first, before-next, before_last    what holds of one rack after another
 -- Assumes nothing.
 use Prim.Native.Nat.{ℕ, ◌+◌, ◌-◌, ◌≤◌, ◌<◌}
-use mathlib.Core.Path.{◌≡◌, refl, sym, ap, subst, ◌∙◌}
+use mathlib.Core.Path.{◌≡◌, refl, sym, ap, subst}
 use mathlib.Core.Logic.{◌≢◌, ◌⊎◌, inl, inr, ⊎_elim, by_cases}
 use native.Mathlib.Decide.{ℕ_discrete, dec_le}
 use native.Mathlib.Omega.{arith}
@@ -153,16 +152,3 @@ module _ {n m : ℕ} {p g : ℕ → ℕ} (from : Places n m p) (to : Places n m 
       let u = turn_ahead n (g 1) (to.below 1 one) (g 1) (g r) (g q) (to.below 1 one) (to.below r hr) (to.below q hq)
       (same 1 r q one hr hq t) in
       ⊎_elim (λ s. s.1) (λ v. ⊎_elim (λ s. s.0) (λ s. omega (arith, s.0)) v) u)
-
--- The states of `keeps` and `same_order`: Q holds of the racks before q
-abbrev pub Before : ℕ → (ℕ → Type 0) → ℕ → Type 0
-Before m Q q = (r : ℕ) → Rack m r → r < q → Q r
-
-pub before-first : (m : ℕ) (Q : ℕ → Type 0) → Before m Q 1
-before-first m Q r h l = absurd (let s = h.some in let z : 0 < 0 = omega arith in omega arith)
-
-pub before-next : (m : ℕ) (Q : ℕ → Type 0) (q : ℕ) → Before m Q q → Q q → Before m Q (q + 1)
-before-next m Q q old new r h l = by_cases (ℕ_discrete r q) (λ e. subst Q (sym e) new) (λ d. old r h (omega arith))
-
-pub before_last : (m : ℕ) (Q : ℕ → Type 0) (q : ℕ) → Before m Q q → m < q → (r : ℕ) → Rack m r → Q r
-before_last m Q q all past r h = all r h (let t = h.most in omega arith)

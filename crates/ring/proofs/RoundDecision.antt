@@ -4,8 +4,7 @@
 --     rack?, in_turn?      a number is a rack's or not, three places come in turn or not
 --     same_order?          the racks stand in the same order or not
 -- Assumes nothing.
-use Prim.Native.Nat.{ℕ, suc, ◌+◌, ◌<◌}
-use mathlib.Core.Logic.{◌⊎◌}
+use Prim.Native.Nat.{ℕ, ◌+◌, ◌<◌}
 use native.Mathlib.Decide.{dec_le, dec_lt}
 use native.Mathlib.Omega.{arith}
 use Rattle.ring.specs.Order.{InTurn, Rack, SameOrder}

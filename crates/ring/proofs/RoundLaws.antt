@@ -6,7 +6,7 @@
 --     round-circle               a floor whose positions have two neighbours each, read round, is a circle
 --     ring_degree                a ring's positions have two neighbours each
 -- Assumes nothing.
-use Prim.Native.Nat.{ℕ, zero, suc, ◌+◌, ◌-◌, ◌≤◌, ◌<◌}
+use Prim.Native.Nat.{ℕ, zero, suc, ◌+◌, ◌≤◌, ◌<◌}
 use mathlib.Core.Path.{◌≡◌, refl, sym, subst, ◌∙◌}
 use mathlib.Core.Bool.{Bool, true, false, not, ◌&&◌}
 use mathlib.Core.List.{List, [], ◌∷◌}
@@ -23,7 +23,7 @@ use Rattle.graph.specs.EdgeCount.{edge_count}
 use Rattle.graph.specs.Rows.{Edge, Rows}
 use Rattle.graph.proofs.EdgeCountLaws.{row_sum_least_three, bi_connected_neighbours, ring_two}
 use Rattle.ring.specs.Circle.{Circle, onward, follow, round_of, edge_in, place_on}
-use Rattle.ring.proofs.CircleLaws.{Degree, Finds, way_circle}
+use Rattle.ring.proofs.CircleLaws.{Degree, way_circle}
 
 and_both : (a b : Bool) → a && b ≡ true → (a ≡ true) × (b ≡ true)
 and_both true true e = (refl, refl)

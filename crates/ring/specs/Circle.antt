@@ -9,7 +9,7 @@
 --     edge_in g a b        the test whether the rows g have an edge from a to b
 --     place_on l p         the place of the position p in the row l, places counted from 0
 -- Assumes nothing.
-use Rattle.std.specs.Prelude.{ℕ, zero, suc, ◌+◌, ◌-◌, ◌<◌, ◌≡◌, Bool, not, cond, ◌&&◌, List, [], ◌∷◌, ◌≢◌, eqb, get_or}
+use Rattle.std.specs.Prelude.{ℕ, zero, suc, ◌+◌, ◌-◌, ◌<◌, Bool, not, cond, ◌&&◌, List, [], ◌∷◌, ◌≢◌, eqb, get_or}
 use Rattle.sets.specs.Sets.{bit}
 use Rattle.sets.specs.First.{first_from}
 

@@ -20,13 +20,11 @@ pub fn circle(rows: &[u64; 64], n: usize) -> [u8; 64]
     let mut at = [0u8; 64];
     let mut last: usize = 0;
     let mut onward = rows[0];
-    let mut k: usize = 1;
-    while k < n {
+    for k in 1..n {
         let v = sets::lowest(onward);
         at[k] = v as u8;
         onward = sets::without(rows[v], last);
         last = v;
-        k += 1;
     }
     at
 }
@@ -62,12 +60,9 @@ pub fn places(circle: &[u8; 64], n: usize, racks: &[u8; 64]) -> [u8; 64]
     ensures by_index_2 { (q : ℕ) → row result q < n }
 {
     let mut place = [0u8; 64];
-    let mut i: usize = 0;
-    while i < n {
-        let p = circle[i] as usize;
-        let rack = racks[p] as usize;
+    for (i, &p) in circle[..n].iter().enumerate() {
+        let rack = racks[p as usize] as usize;
         place[rack] = i as u8;
-        i += 1;
     }
     place
 }
@@ -92,16 +87,8 @@ fn keeps(n: usize, m: usize, p: &[u8; 64], g: &[u8; 64], r: usize) -> bool
 {
     let from = distance(n, m, p, r);
     let to = distance(n, m, g, r);
-    let mut q: usize = 1;
-    while q <= m {
-        if from < distance(n, m, p, q) {
-            if distance(n, m, g, q) <= to {
-                return false;
-            }
-        }
-        q += 1;
-    }
-    true
+    // Not `1..=m`, here and below: the library has no law yet of `all` over such a range.
+    (1..m + 1).all(|q| distance(n, m, p, q) <= from || to < distance(n, m, g, q))
 }
 
 // Do the racks 1 to m stand in the same order round a circle of n places, by the places p and by the places g?
@@ -111,12 +98,5 @@ pub fn same_order(n: usize, m: usize, p: &[u8; 64], g: &[u8; 64]) -> bool
     requires places_2 { Places n m (row g.now) }
     ensures { (result ≡ true) ↔ SameOrder m (row p.now) (row g.now) }
 {
-    let mut r: usize = 1;
-    while r <= m {
-        if !keeps(n, m, p, g, r) {
-            return false;
-        }
-        r += 1;
-    }
-    true
+    (1..m + 1).all(|r| keeps(n, m, p, g, r))
 }

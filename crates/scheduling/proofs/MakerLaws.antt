@@ -11,7 +11,6 @@
 -- Assumes nothing.
 use Prim.Native.Nat.{ℕ, ◌+◌, ◌*◌, ◌^◌, ◌≤◌, ◌<◌}
 use mathlib.Core.Path.{◌≡◌, refl, sym, ap, ap₂, ◌∙◌}
-use mathlib.Core.Bool.{false}
 use mathlib.Core.List.{List, [], ◌∷◌, ◌++◌, Memᴰ}
 use native.Mathlib.Omega.{arith}
 use borrow.Author.Tests.{ltb-false}
@@ -26,23 +25,20 @@ use Rattle.field.specs.Bytes.{BelowPairs, none₂, more₂}
 use Rattle.order.specs.Floor.{Floor}
 use Rattle.field.specs.Writing.{left_by}
 use Rattle.field.proofs.WritingLaws.{written_front}
-use Rattle.order.specs.Order.{rack_count, floor_of, starts_of, goals_of, counts, order_answer, WellFormed}
+use Rattle.order.specs.Order.{floor_of, starts_of, goals_of, counts, order_answer}
 use Rattle.motion.specs.Arrangement.{Arrangement}
-use Rattle.motion.specs.Replay.{ended, replay_moves, replay_steps}
+use Rattle.motion.specs.Replay.{ended, replay_steps}
 use Rattle.motion.proofs.StepDecision.{legal_step?}
-use Rattle.motion.proofs.Lawful.{Leads, LeadsSteps, still, ◌then◌, replay_moves_ended, replay_steps_ended}
+use Rattle.motion.proofs.Lawful.{LeadsSteps, still, ◌then◌, replay_steps_ended}
 use Rattle.motion.specs.StepTests.{OnFloor}
 use Rattle.motion.proofs.LegalStepLaws.{legal_step_iff}
 use Rattle.motion.proofs.StepLimits.{step_size}
 use Rattle.motion.specs.Judgement.{judged}
 use Rattle.motion.proofs.JudgementLaws.{judged_accepted}
-use Rattle.tables.specs.Accepted.{WellPlaced}
-use Rattle.plan.specs.Plan.{move_count, plan_moves, wrong_plan_length, plan_answer}
+use Rattle.plan.specs.Plan.{move_count, plan_moves, plan_answer}
 use Rattle.plan.proofs.PlanRecord.{moves-counted}
 use Rattle.plan_check.proofs.Accepted.{PlanGave, plan_gave}
-use Rattle.timetable.specs.Timetable.{timetable_record, step_count, parts_of, steps_of, timetable_answer, move_total}
-use Rattle.timetable.specs.Reading.{total}
-use Rattle.timetable.proofs.ReadingLaws.{total-moves}
+use Rattle.timetable.specs.Timetable.{timetable_record, step_count, steps_of, timetable_answer, move_total}
 use Rattle.timetable.proofs.TimetableRecord.{Steps, no_steps, one_step, Packable, count_record, steps_of_record, record_well_packed}
 use Rattle.scheduling.specs.Making.{timed, greatest, made_steps}
 use Rattle.scheduling.proofs.Made.{Made, made}

@@ -14,15 +14,17 @@ use native.Mathlib.Omega.{arith}
 use borrow.Author.Tests.{lt-ltb, le-ltb}
 use lib.ListN.{length, take, drop}
 use lib.Dec.{ltb}
-use Rattle.answers.specs.Answer.{Answer, accepted, refused, refuse, pass_up}
-use Rattle.answers.proofs.AnswerLaws.{pass_up_accepted}
+use Rattle.std.specs.Prelude.{Result, IsErrAnd}
+use Rattle.answers.specs.declared.Refusal.{Refusal}
+use Rattle.answers.specs.Answer.{Answer, accepted, refused, refused_by, refuse, the_count}
+use Rattle.answers.proofs.AnswerLaws.{pass_up_accepted, pass_up_refused, handed_up}
 use Rattle.recording.specs.Head.{head_bytes}
 use Rattle.recording.proofs.HeadLaws.{length-head_bytes, front_written}
 use Rattle.field.specs.Listed.{moves_at}
 use Rattle.field.specs.Writing.{written, left_by, Fits}
 use Rattle.field.proofs.WritingLaws.{length-written}
 use Rattle.order.specs.Order.{floor_of, starts_of}
-use Rattle.plan.specs.Plan.{named, move_count, plan_moves, plan_answer}
+use Rattle.plan.specs.Plan.{named, plan_moves, plan_answer}
 use Rattle.plan_check.proofs.Accepted.{PlanGave, gave, count_is, count_below, tail-moves}
 use Rattle.plan.proofs.PlanRecord.{moves-counted}
 use Rattle.timetable.specs.Timetable.{timetable_record}
@@ -33,7 +35,7 @@ use Rattle.window.proofs.FillingLaws.{latest_few}
 use Rattle.scheduling.specs.Windows.{all_steps}
 use Rattle.scheduling.proofs.TabledSteps.{latest_rule, all_steps-made}
 use Rattle.scheduling.proofs.RecordBytes.{record_bytes}
-use Rattle.scheduling.specs.Maker.{made_of, maker_answer, buffer_after, made_count, steps_answer}
+use Rattle.scheduling.specs.Maker.{made_of, maker_answer, buffer_after, made_count, steps_answer, answer_of}
 use Rattle.scheduling.proofs.MakerLaws.{made_of_lem, made_packable}
 
 -- the greatest step that a pass over an accepted plan finds is the rule's
@@ -50,18 +52,13 @@ module _ (o p B : List ℕ) where
   unfolding buffer_after
   after_refusal n q e = sym (ap (λ (a : Answer). left_by a (timetable_record (made_of o p)) B) e)
 
-  pub maker_refused : (a r : Answer) (n q : ℕ) → a ≡ plan_answer o p → a ≡ refused n q → r ≡ pass_up a (accepted (0 ∷ []))
-      → (r ≡ maker_answer o p (length B)) × (B ≡ buffer_after o p B)
+  -- r is what `?` makes of the plan checker's refusal e
+  pub maker_refused : (r : Result ℕ Refusal) (e : Refusal) → IsErrAnd r (λ x. x ≡ e) → refused_by e.0 e.1 ≡ plan_answer o p
+      → (answer_of r ≡ maker_answer o p (length B)) × (B ≡ buffer_after o p B)
   unfolding maker_answer
-  maker_refused a r n q ea en er =
-      let below : plan_answer o p ≡ refused n q = sym ea ∙ en in
-      let up : maker_answer o p (length B) ≡ refused n q =
-      ap
-      (λ (x : Answer). pass_up x
-      (refuse (ltb (length B) (3 * move_count p + 3)) 44 0 (accepted (greatest (timed (starts_of o) [] (plan_moves p)) ∷ []))))
-      below in
-      let down : r ≡ refused n q = er ∙ ap (λ (x : Answer). pass_up x (accepted (0 ∷ []))) en in
-      (down ∙ sym up, after_refusal n q up)
+  maker_refused r e is below =
+      let up : maker_answer o p (length B) ≡ refused_by e.0 e.1 = sym (pass_up_refused (plan_answer o p) _ _ _ (sym below)) ∙ sym below in
+      (handed_up the_count r e is below _, after_refusal _ _ up)
 
   module _ (k : ℕ) (e : accepted (k ∷ []) ≡ plan_answer o p) where
     gives : PlanGave o p (k ∷ [])
@@ -145,12 +142,10 @@ module _ (o p B : List ℕ) where
             )
 
 module _ (o p : List ℕ) where
-  pub steps_refused : (a r : Answer) (n q : ℕ) → a ≡ plan_answer o p → a ≡ refused n q → r ≡ pass_up a (accepted (0 ∷ []))
-      → r ≡ steps_answer o p
+  pub steps_refused : (r : Result ℕ Refusal) (e : Refusal) → IsErrAnd r (λ x. x ≡ e) → refused_by e.0 e.1 ≡ plan_answer o p
+      → answer_of r ≡ steps_answer o p
   unfolding steps_answer
-  steps_refused a r n q ea en er =
-      er ∙ ap (λ (x : Answer). pass_up x (accepted (0 ∷ []))) en
-      ∙ ap (λ (x : Answer). pass_up x (accepted (made_count o p ∷ []))) (sym en ∙ ea)
+  steps_refused r e is below = handed_up the_count r e is below _
 
   pub steps_counted : (k : ℕ) (e : accepted (k ∷ []) ≡ plan_answer o p) (n : Bool) → n ≡ named p → (s : ℕ)
       → s ≡ latest (moves_at n (take (length p - 3) (drop 3 p)) 0 k) → accepted (s ∷ []) ≡ steps_answer o p

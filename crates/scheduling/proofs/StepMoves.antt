@@ -29,7 +29,7 @@ use lib.Seq.{ext_get_or}
 use borrow.Author.Tests.{eq-eqb, ne_eqb}
 use Rattle.order.specs.Floor.{Floor}
 use Rattle.motion.specs.Arrangement.{Arrangement, occupied, vacant}
-use Rattle.motion.proofs.ArrangementLaws.{occupied_rack, vacant-racks, occupied-vacant, occupied_or_vacant}
+use Rattle.motion.proofs.ArrangementLaws.{occupied_rack, vacant-racks, occupied-vacant}
 use Rattle.motion.specs.Move.{on_floor, legal_move, goes_to, after, after_move}
 use Rattle.motion.proofs.MoveLaws.{legal_parts, legal_apart, after-length, after-at, move-length, moved_rack, moved_other}
 use Rattle.motion.proofs.Untouched.{vacant-move}

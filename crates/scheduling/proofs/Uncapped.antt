@@ -8,10 +8,9 @@
 --     made-plainly         so the steps made are those of document 01's rule
 --     case_1_short, case_1_plainly    it is so of case 1's plan
 -- Assumes nothing.
-use Prim.Native.Nat.{ℕ, ◌≤◌, ◌+◌}
+use Prim.Native.Nat.{ℕ, ◌≤◌}
 use mathlib.Core.Path.{◌≡◌, refl, sym, ◌∙◌, ap}
 use mathlib.Core.List.{List, [], ◌∷◌}
-use native.Mathlib.Omega.{arith}
 use lib.Dec.{lit≤}
 use borrow.Author.Tests.{le-ltb}
 use Rattle.motion.specs.LegalStep.{longest_train}

@@ -2,13 +2,14 @@
 --
 --     WroteRows t s n at b next row                  the steps of the first rows of the window t are written into s
 --     rows-first, rows-length, rows_room, rows_more, rows_all    from row to row
---     filled_fit, filled_few, filled_steps, filled_room, filled_wrote    what a filled window has
---     counted-first, counted-later, counted-latest, counted_on, counted_last    the number of steps, known from the first window on
+--     filled_fit, filled_steps, filled_room, filled_wrote    what a filled window has
+--     counted-first, counted-later, passed-latest, counted_on, counted_last    the number of steps, known from the first window on
 --     WroteWindows ms s b at n                       the steps of the first n windows are written into s
 --     windows_none, windows-length, windows_room, windows_more, windows-all      from window to window
 -- Assumes nothing.
 use Prim.Native.Nat.{ℕ, zero, suc, ◌+◌, ◌-◌, ◌*◌, ◌/◌, ◌≤◌, ◌<◌, min, max}
 use mathlib.Core.Path.{◌≡◌, refl, sym, ap, ◌∙◌, subst}
+use mathlib.Core.Bool.{Bool}
 use mathlib.Core.List.{List, [], ◌∷◌, ◌++◌, append-nil}
 use native.Mathlib.Omega.{arith}
 use mathlib.Core.Logic.{dite}
@@ -19,7 +20,9 @@ use Rattle.field.specs.Bytes.{BelowPairs}
 use Rattle.field.specs.Writing.{written, Fits, Wrote}
 use Rattle.field.proofs.WritingLaws.{fits_next, wrote_none, wrote_then, wrote_length, fits_as, wrote_as}
 use Rattle.window.specs.Filling.{started, window_of, latest}
-use Rattle.passing.specs.Stretches.{Begun}
+use Rattle.field.specs.Listed.{moves_at}
+use Rattle.field.proofs.ListedLaws.{length-moves}
+use Rattle.passing.specs.Stretches.{Begun, PlanPassed}
 use Rattle.window.proofs.FillingLaws.{latest-some, entries-empty, entries-pass}
 use Rattle.scheduling.specs.Windows.{rows_of, window_steps, windows, all_steps, Counted}
 use lib.ListN.{length, length-append}
@@ -84,13 +87,9 @@ module _ (ms : List (ℕ × ℕ)) (first r : ℕ) (w : List ℕ) (er : r ≡ lat
   unfolding window_of
   filled_fit b = rw ew (entries-pass first _ b (unfold started in entries-empty))
 
-  module _ (n : ℕ) (e : n ≡ rows_of r first) where
-    pub filled_few : n ≤ 4096
-    unfolding rows_of
-    filled_few = omega (arith, e)
-
+  module _ (n : ℕ) (e : n ≡ min (r - first) 4096) where
     pub filled_steps : rows w 0 n ≡ window_steps ms first
-    unfolding window_steps
+    unfolding window_steps rows_of
     filled_steps = rw (e, er, ew) refl
 
     pub filled_room : (at : ℕ) (B : List ℕ) → Fits B at (steps_bytes (window_steps ms first)) → Fits B at (steps_bytes (rows w 0 n))
@@ -118,7 +117,7 @@ windows_most ms n (suc k) =
 -- how many steps there are is known from the first window on
 module _ (ms : List (ℕ × ℕ)) (d : List ℕ) (s n : ℕ) (c : Counted ms d s n) where
   -- the greater of s and what a pass finds
-  pub counted-latest : 0 < length ms → (r : ℕ) → r ≤ latest ms → (Begun d → r ≡ latest ms) → max s r ≡ latest ms
+  counted-latest : 0 < length ms → (r : ℕ) → r ≤ latest ms → (Begun d → r ≡ latest ms) → max s r ≡ latest ms
   counted-latest some r h new =
       dite (dec_lt 0 n) (λ k. omega (arith, c.later k))
       (λ k. let none = c.at_first (omega arith) in omega (arith, none.0, new none.1, latest-some ms some))
@@ -130,6 +129,12 @@ module _ (ms : List (ℕ × ℕ)) (d : List ℕ) (s n : ℕ) (c : Counted ms d s
   counted_last h =
       dite (dec_lt 0 n) (λ k. c.later k)
       (λ k. absurd (omega (arith, (c.at_first (omega arith)).0)))
+
+-- so is it after each pass
+pub passed-latest : (e : Bool) (t : List ℕ) (k first : ℕ) (d : List ℕ) (s n r : ℕ) {w d' : List ℕ} {b : List (List ℕ)} → 0 < k
+    → Counted (moves_at e t 0 k) d s n → PlanPassed e t k (length d) first d r w b d' → max s r ≡ latest (moves_at e t 0 k)
+passed-latest e t k first d s n r some c p =
+    counted-latest (moves_at e t 0 k) d s n c (omega (arith, length-moves e t 0 k)) r p.at_most p.at_first
 
 pub counted-first : (ms : List (ℕ × ℕ)) (d : List ℕ) → Begun d → Counted ms d 1 0
 counted-first ms d b = record { at_first = λ h. (refl, b); later = λ h. absurd (omega arith) }

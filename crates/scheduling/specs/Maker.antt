@@ -9,15 +9,14 @@
 --     Timetabled o p           the made record is at most 3 × k + 3 bytes long, and the timetable checker accepts it,
 --                              with s steps and k moves
 -- Assumes nothing.
-use Rattle.std.specs.Prelude.{ℕ, ◌+◌, ◌*◌, ◌≤◌, List, [], ◌∷◌, length, ltb, ◌≡◌}
-use Rattle.answers.specs.Answer.{Answer, accepted, refused_by, refuse, pass_up}
+use Rattle.std.specs.Prelude.{ℕ, ◌+◌, ◌*◌, ◌≤◌, List, [], ◌∷◌, length, ltb, ◌≡◌, Result}
+use Rattle.answers.specs.Answer.{Answer, accepted, refuse, pass_up, the_count, answer_by}
 use Rattle.field.specs.Writing.{left_by}
 use Rattle.order.specs.Order.{starts_of}
 use Rattle.plan.specs.Plan.{move_count, plan_moves, plan_answer}
 use Rattle.timetable.specs.Timetable.{timetable_record, timetable_answer}
 use Rattle.scheduling.specs.Making.{timed, greatest, made_steps}
-use Rattle.scheduling.specs.declared.MakerVerdict.{MakerVerdict}
-use Rattle.scheduling.specs.declared.MakerVerdict.TheVariants.{Accepted, Refused}
+use Rattle.answers.specs.declared.Refusal.{Refusal}
 
 unfoldable pub made_of : List ℕ → List ℕ → List (List (ℕ × ℕ))
 made_of o p = made_steps (starts_of o) (plan_moves p)
@@ -41,9 +40,8 @@ maker_answer o p n =
 unfoldable pub buffer_after : List ℕ → List ℕ → List ℕ → List ℕ
 buffer_after o p B = left_by (maker_answer o p (length B)) (timetable_record (made_of o p)) B
 
-abbrev pub answer_of : MakerVerdict → Answer
-answer_of (Accepted steps) = accepted (steps ∷ [])
-answer_of (Refused f place) = refused_by f place
+abbrev pub answer_of : Result ℕ Refusal → Answer
+answer_of = answer_by the_count
 
 -- "For every accepted plan the made record is at most 3 × k + 3 bytes long, and the timetable checker accepts it with
 -- exactly s steps and k moves."

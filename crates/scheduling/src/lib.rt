@@ -5,18 +5,18 @@
 #![tactic(auto)]
 
 ghost use Rattle.std.specs.Prelude.{◌≡◌, [], ◌∷◌, ◌+◌, ◌*◌, ◌^◌, ◌≤◌, ◌<◌, length};
-ghost use Rattle.answers.specs.Answer.{accepted, PassedUp};
-ghost use Rattle.field.specs.Listed.{move_size, moves_at};
+ghost use Rattle.answers.specs.Answer.{accepted};
+ghost use Rattle.field.specs.PlanMoves.{all_moves};
 ghost use Rattle.field.specs.Writing.{written, Fits, Wrote};
 ghost use Rattle.plan.specs.Verdict.{answer_of as plan_answer_of};
 ghost use Rattle.window.specs.Filling.{latest};
 ghost use Rattle.window.specs.Rows.{EntriesFit, Left, row_moves, rows, step_bytes, steps_bytes};
 ghost use Rattle.passing.specs.Stretches.{Begun, Kept};
-ghost use Rattle.scheduling.specs.Windows.{rows_of, window_steps, all_steps, Counted};
+ghost use Rattle.scheduling.specs.Windows.{window_steps, all_steps, Counted};
 ghost use Rattle.scheduling.specs.Maker.{maker_answer, buffer_after, steps_answer, answer_of};
 
-use answers::Fault;
-use plan::PlanVerdict;
+use answers::{Fault, Refusal};
+use field::Moves;
 
 // Writes the step that a row of the window holds from byte `at` on, and says where the next one begins. Only the entries of the positions
 // that its moves leave are read, the lowest first. The count is known last, and written last.
@@ -36,26 +36,13 @@ fn write_step(
     let mut rest = leaving[row];
     while rest != 0 {
         let p = sets::lowest(rest);
-        let entry = field::wide(window[base + p]);
+        let entry = usize::from(window[base + p]);
         recording::put_pair(&mut buffer[at + 1..], count, p, entry - 1);
         count += 1;
         rest = sets::without(rest, p);
     }
     buffer[at] = count as u8;
     at + 1 + (12 * count + 7) / 8
-}
-
-// How many of s steps a window of the 4096 steps after step `first` has.
-fn rows_of(s: usize, first: usize) -> usize
-    ensures { result ≡ rows_of s first }
-{
-    if s <= first {
-        return 0;
-    }
-    if 4096 < s - first {
-        return 4096;
-    }
-    s - first
 }
 
 // Writes the steps of the window's first n rows from byte `at` on, and says where the next step begins.
@@ -71,10 +58,8 @@ fn write_window(
     ensures { Wrote buffer.old at (steps_bytes (rows window.now 0 n)) buffer.new result }
 {
     let mut next = at;
-    let mut row = 0;
-    while row < n {
+    for row in 0..n {
         next = write_step(window, leaving, row, buffer, next);
-        row += 1;
     }
     next
 }
@@ -89,29 +74,28 @@ struct Progress {
 
 // Makes and writes the steps of the next window. How many steps there are in all is known from the first one on.
 fn make_window(
-    tail: &[u8],
-    named: bool,
-    k: usize,
-    book: &mut [u32],
+    moves: &Moves,
+    book: &mut [[u32; 128]],
     due: &mut [usize],
     buffer: &mut [u8],
     done: Progress,
 ) -> Progress
-    requires k_nonzero { (0 < k) × (k < 2 ^ 22) × (6 * (move_size named * k) ≤ 8 * length tail.now) × (4096 * done.windows < 2 ^ 22) }
-    requires due_nonzero { (0 < length due.old) × Kept named tail.now k (length due.old) (4096 * done.windows) book.old due.old }
-    requires counted { Counted (moves_at named tail.now 0 k) due.old done.steps done.windows
-        × Fits buffer.old done.next (steps_bytes (window_steps (moves_at named tail.now 0 k) (4096 * done.windows))) }
-    ensures windows_value { (result.windows ≡ done.windows + 1) × (result.steps ≡ latest (moves_at named tail.now 0 k))
-        × Kept named tail.now k (length due.old) (4096 * result.windows) book.new due.new }
+    requires k_nonzero { (0 < moves.now.count) × (4096 * done.windows < 2 ^ 22) }
+    requires due_nonzero { (0 < length due.old)
+        × Kept moves.now.named moves.now.tail.now moves.now.count (length due.old) (4096 * done.windows) book.old due.old }
+    requires counted { Counted (all_moves moves.now) due.old done.steps done.windows
+        × Fits buffer.old done.next (steps_bytes (window_steps (all_moves moves.now) (4096 * done.windows))) }
+    ensures windows_value { (result.windows ≡ done.windows + 1) × (result.steps ≡ latest (all_moves moves.now))
+        × Kept moves.now.named moves.now.tail.now moves.now.count (length due.old) (4096 * result.windows) book.new due.new }
     ensures wrote { Wrote buffer.old done.next
-        (steps_bytes (window_steps (moves_at named tail.now 0 k) (4096 * done.windows))) buffer.new result.next }
+        (steps_bytes (window_steps (all_moves moves.now) (4096 * done.windows))) buffer.new result.next }
 {
     let mut window = [0u8; 262144];
     let mut leaving = [0u64; 4096];
     let first = 4096 * done.windows;
-    let found = passing::pass_plan(tail, named, k, first, book, due, &mut window, &mut leaving);
-    let steps = window::later(done.steps, found);
-    let n = rows_of(steps, first);
+    let found = passing::pass_plan(moves, first, book, due, &mut window, &mut leaving);
+    let steps = done.steps.max(found);
+    let n = steps.saturating_sub(first).min(4096);
     let next = write_window(&window, &leaving, n, buffer, done.next);
     Progress {
         windows: done.windows + 1,
@@ -120,21 +104,20 @@ fn make_window(
     }
 }
 
-// Makes and writes all steps of the k moves of a plan's tail behind the record's head, window by window, and says how many they are. Until
+// Makes and writes all steps of a plan's moves behind the record's head, window by window, and says how many they are. Until
 // that is known it counts as 1, so that the first window is made.
 fn make_windows(
-    tail: &[u8],
-    named: bool,
-    k: usize,
-    book: &mut [u32],
+    moves: &Moves,
+    book: &mut [[u32; 128]],
     due: &mut [usize],
     buffer: &mut [u8],
 ) -> usize
-    requires k_nonzero { (0 < k) × (k < 2 ^ 22) × (6 * (move_size named * k) ≤ 8 * length tail.now)
-        × Fits buffer.old 3 (steps_bytes (all_steps (moves_at named tail.now 0 k))) }
-    requires due_nonzero { (0 < length due.old) × Begun due.old × Kept named tail.now k (length due.old) 0 book.old due.old }
-    ensures { (result ≡ latest (moves_at named tail.now 0 k))
-        × (buffer.new ≡ written buffer.old 3 (steps_bytes (all_steps (moves_at named tail.now 0 k)))) }
+    requires k_nonzero { (0 < moves.now.count)
+        × Fits buffer.old 3 (steps_bytes (all_steps (all_moves moves.now))) }
+    requires due_nonzero { (0 < length due.old) × Begun due.old
+        × Kept moves.now.named moves.now.tail.now moves.now.count (length due.old) 0 book.old due.old }
+    ensures { (result ≡ latest (all_moves moves.now))
+        × (buffer.new ≡ written buffer.old 3 (steps_bytes (all_steps (all_moves moves.now)))) }
 {
     let mut done = Progress {
         windows: 0,
@@ -142,7 +125,7 @@ fn make_windows(
         next: 3,
     };
     while 4096 * done.windows < done.steps {
-        done = make_window(tail, named, k, book, due, buffer, done);
+        done = make_window(moves, book, due, buffer, done);
     }
     done.steps
 }
@@ -151,69 +134,52 @@ fn make_windows(
 const ORDINARY: usize = 16384;
 
 // Makes and writes all steps, with a book of as many stretches as the plan's length is worth, and says how many they are.
-fn make_steps(tail: &[u8], named: bool, k: usize, buffer: &mut [u8]) -> usize
-    requires { (k < 2 ^ 22) × (6 * (move_size named * k) ≤ 8 * length tail.now)
-        × Fits buffer.old 3 (steps_bytes (all_steps (moves_at named tail.now 0 k))) }
-    ensures { (result ≡ latest (moves_at named tail.now 0 k))
-        × (buffer.new ≡ written buffer.old 3 (steps_bytes (all_steps (moves_at named tail.now 0 k)))) }
+fn make_steps(moves: &Moves, buffer: &mut [u8]) -> usize
+    requires { Fits buffer.old 3 (steps_bytes (all_steps (all_moves moves.now))) }
+    ensures { (result ≡ latest (all_moves moves.now))
+        × (buffer.new ≡ written buffer.old 3 (steps_bytes (all_steps (all_moves moves.now)))) }
 {
-    if k == 0 {
+    if moves.count == 0 {
         return 0;
     }
-    if k <= ORDINARY {
-        let mut book = [0u32; 256];
+    if moves.count <= ORDINARY {
+        let mut book = [[0u32; 128]; 2];
         let mut due = [0usize; 1];
-        return make_windows(tail, named, k, &mut book, &mut due, buffer);
+        return make_windows(moves, &mut book, &mut due, buffer);
     }
-    let mut book = [0u32; 16512];
+    let mut book = [[0u32; 128]; 129];
     let mut due = [0usize; 128];
-    make_windows(tail, named, k, &mut book, &mut due, buffer)
-}
-
-// The verdict of the timetable maker: specs/Maker.antt gives it document 01's number and values.
-#[derive(Clone, Copy)]
-pub enum MakerVerdict {
-    Accepted(usize),
-    Refused(Fault, u32),
-}
-
-// The plan checker's verdict as the timetable maker's: the same fault at the same place, or no steps yet.
-fn passed_up(plan: PlanVerdict) -> MakerVerdict
-    ensures { PassedUp plan_answer_of plan (accepted (0 ∷ [])) (answer_of result) }
-{
-    match plan {
-        PlanVerdict::Accepted(_) => MakerVerdict::Accepted(0),
-        PlanVerdict::Refused(fault, place) => MakerVerdict::Refused(fault, place),
-    }
+    make_windows(moves, &mut book, &mut due, buffer)
 }
 
 // How many steps the timetable of a plan for an order has, which is not written: the plan checker's numbers, or that count.
-pub fn count_steps(order: &[u8], plan: &[u8]) -> MakerVerdict
+pub fn count_steps(order: &[u8], plan: &[u8]) -> Result<usize, Refusal>
     ensures { answer_of result ≡ steps_answer order.now plan.now }
 {
-    let below = plan_check::check(order, plan);
-    let PlanVerdict::Accepted(k) = below else {
-        return passed_up(below);
+    let k = plan_check::check(order, plan)?;
+    let moves = Moves {
+        tail: &plan[3..],
+        named: plan::names_racks(plan),
+        count: k,
     };
-    let named = plan::names_racks(plan);
-    let steps = passing::latest_step(&plan[3..], named, k);
-    MakerVerdict::Accepted(steps)
+    Ok(passing::latest_step(&moves))
 }
 
 // Makes the timetable of a plan for an order and writes it at the front of the buffer: the plan checker's numbers, then 44.
-pub fn make(order: &[u8], plan: &[u8], buffer: &mut [u8]) -> MakerVerdict
+pub fn make(order: &[u8], plan: &[u8], buffer: &mut [u8]) -> Result<usize, Refusal>
     ensures result_value { answer_of result ≡ maker_answer order.now plan.now (length buffer.old) }
     ensures buffer_after { buffer.new ≡ buffer_after order.now plan.now buffer.old }
 {
-    let below = plan_check::check(order, plan);
-    let PlanVerdict::Accepted(k) = below else {
-        return passed_up(below);
-    };
+    let k = plan_check::check(order, plan)?;
     if buffer.len() < 3 * k + 3 {
-        return MakerVerdict::Refused(Fault::TimetableBuffer, 0);
+        return Err(Refusal(Fault::TimetableBuffer, 0));
     }
-    let named = plan::names_racks(plan);
-    let s = make_steps(&plan[3..], named, k, buffer);
+    let moves = Moves {
+        tail: &plan[3..],
+        named: plan::names_racks(plan),
+        count: k,
+    };
+    let s = make_steps(&moves, buffer);
     recording::put_head(buffer, s, 0);
-    MakerVerdict::Accepted(s)
+    Ok(s)
 }

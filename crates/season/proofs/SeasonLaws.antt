@@ -1,6 +1,7 @@
 -- How a season is gone through, pair by pair.
 --
 --     no_order, no_timetable, pair_found    what finding a pair tells, by where it stops
+--     order_room, within                    and that it stays inside
 --     count_accepted, count_refused         the totals with one pair more, by the checker's verdict
 --     within_accepted, within_refused       and how large they can be
 --     parallelism_of                        the quotient, where there are steps
@@ -11,7 +12,7 @@
 -- Assumes nothing.
 use Prim.Native.Nat.{ℕ, zero, suc, ◌+◌, ◌-◌, ◌*◌, ◌/◌, ◌^◌, ◌≤◌, ◌<◌}
 use mathlib.Core.Path.{◌≡◌, refl, sym, ap, ap₂, subst, ◌∙◌}
-use mathlib.Core.Bool.{true, false, ◌||◌, or-true}
+use mathlib.Core.Bool.{true, false, or-true}
 use mathlib.Core.List.{List, [], ◌∷◌}
 use native.Mathlib.Numerals.{add-one}
 use native.Mathlib.Decide.{dec_le}
@@ -21,7 +22,10 @@ use borrow.Author.Tests.{eq-eqb, ne_eqb}
 use lib.ListN.{length, take, drop, length-drop}
 use lib.Seq.{drop-drop}
 use lib.Dec.{eqb}
+use Rattle.std.specs.Prelude.{None, Some}
 use Rattle.answers.specs.Answer.{Answer, accepted, refused}
+use Rattle.answers.specs.Found.{found}
+use Rattle.answers.proofs.AnswerLaws.{some_found, none_found}
 use Rattle.field.proofs.RecordLaws.{rest_is}
 use Rattle.order.specs.RecordLength.{whole_order_length}
 use Rattle.order.proofs.RecordLengthLaws.{order_length_found}
@@ -30,7 +34,7 @@ use Rattle.timetable.specs.Timetable.{timetable_answer}
 use Rattle.timetable.proofs.RecordLengthLaws.{timetable-length_found}
 use Rattle.season.specs.Season.{pair_order, behind_order, pair_timetable, behind_pair, cut_short, no_totals, counted, parallelism}
 use Rattle.season.specs.Season.{reported, season_from, season_answer}
-use Rattle.season.specs.Pair.{PairAt, Within}
+use Rattle.season.specs.Pair.{PairEnds, Within}
 use Rattle.season.specs.declared.Totals.{Totals}
 
 -- the part of a byte string from byte k on, as a part `&s[k..]` has it
@@ -50,50 +54,51 @@ timetable_inside s = elim (dec_le 1 (whole_timetable_length s)) [
 ]
 
 module _ (s : List ℕ) where
-  none_found : cut_short s ≡ true → PairAt s 0 0
-  none_found c = record {
-    cut = λ _. c;
-    whole = λ h. absurd (omega arith);
-    order_ends = λ h. absurd (omega arith);
-    timetable_ends = λ h. absurd (omega arith);
-    ordered = omega arith;
-    inside = omega arith;
-  }
+  pub no_order : None ≡ found (whole_order_length s) → cut_short s ≡ true
+  unfolding cut_short
+  no_order e = rw (eq-eqb (whole_order_length s) 0 (none_found _ e)) refl
 
-  pub no_order : (a : ℕ) → a ≡ whole_order_length s → a ≡ 0 → PairAt s 0 0
-  no_order a is z = none_found (unfold cut_short in rw (eq-eqb (whole_order_length s) 0 (sym is ∙ z)) refl)
+  module _ (a : ℕ) (is : Some a ≡ found (whole_order_length s)) where
+    order_ends : a ≡ whole_order_length s
+    order_ends = (some_found _ _ is).0
 
-  module _ (a t : ℕ) (is : a ≡ whole_order_length s) (ends : t ≡ whole_timetable_length (from a s)) where
+    pub order_room : a ≤ length s
+    order_room = rw order_ends (order_inside s)
+
     rest : from a s ≡ behind_order s
     unfolding behind_order
-    rest = rest_is a s ∙ ap (λ (k : ℕ). drop k s) is
+    rest = rest_is a s ∙ ap (λ (k : ℕ). drop k s) order_ends
 
-    length_is : t ≡ whole_timetable_length (behind_order s)
-    length_is = ends ∙ ap whole_timetable_length rest
+    pub no_timetable : None ≡ found (whole_timetable_length (from a s)) → cut_short s ≡ true
+    unfolding cut_short
+    no_timetable e =
+        let none : whole_timetable_length (behind_order s) ≡ 0 = ap whole_timetable_length (sym rest) ∙ none_found _ e in
+        rw (eq-eqb (whole_timetable_length (behind_order s)) 0 none) (or-true (eqb (whole_order_length s) 0))
 
-    pub no_timetable : t ≡ 0 → PairAt s 0 0
-    no_timetable z =
-        none_found
-        (unfold cut_short in
-        rw (eq-eqb (whole_timetable_length (behind_order s)) 0 (sym length_is ∙ z)) (or-true (eqb (whole_order_length s) 0)))
+    module _ (t : ℕ) (ends : Some t ≡ found (whole_timetable_length (from a s))) where
+      length_is : t ≡ whole_timetable_length (behind_order s)
+      length_is = (some_found _ _ ends).0 ∙ ap whole_timetable_length rest
 
-    pub within : a + t ≤ length s
-    within = omega (arith, order_inside s, timetable_inside (from a s), ap length (rest_is a s), length-drop a s)
+      pub within : a + t ≤ length s
+      within = omega (arith, order_room, (some_found _ _ ends).0, timetable_inside (from a s), ap length (rest_is a s), length-drop a s)
 
-    pub pair_found : (a ≡ 0 → ⊥) → (t ≡ 0 → ⊥) → PairAt s a (a + t)
-    pair_found some more = record {
-      cut = λ z. absurd (some z);
-      whole = λ _. unfold cut_short in
-          rw (
-            ne_eqb (whole_order_length s) 0 (λ z. some (is ∙ z)),
-            ne_eqb (whole_timetable_length (behind_order s)) 0 (λ z. more (length_is ∙ z)),
-          )
-          refl;
-      order_ends = λ _. is;
-      timetable_ends = λ _. ap (λ (k : ℕ). a + k) length_is;
-      ordered = omega arith;
-      inside = within;
-    }
+      pub pair_found : PairEnds s a (a + t)
+      pair_found =
+          let some = (some_found _ _ is).1 in
+          let more = (some_found _ _ ends).1 in
+          record {
+            some = omega (arith, order_ends);
+            whole = unfold cut_short in
+                rw (
+                  ne_eqb (whole_order_length s) 0 (λ z. omega (arith, order_ends)),
+                  ne_eqb (whole_timetable_length (behind_order s)) 0 (λ z. omega (arith, length_is, (some_found _ _ ends).0)),
+                )
+                refl;
+            order_ends = order_ends;
+            timetable_ends = ap (λ (k : ℕ). a + k) length_is;
+            ordered = omega arith;
+            inside = within;
+          }
 
 module _ (t : Totals) {answer : Answer} where
   pub count_accepted : {n m : ℕ} → accepted (n ∷ m ∷ []) ≡ answer
@@ -150,15 +155,15 @@ season_next k q t [] h c = absurd (omega arith)
 season_next k q t (b ∷ s) h c = rw c refl
 
 -- the parts of a pair that was found
-module _ (s : List ℕ) {a e : ℕ} (p : PairAt s a e) (n : 0 < a) where
+module _ (s : List ℕ) {a e : ℕ} (p : PairEnds s a e) where
   behind_order_lem : drop a s ≡ behind_order s
-  behind_order_lem = unfold behind_order in ap (λ (k : ℕ). drop k s) (p.order_ends n)
+  behind_order_lem = unfold behind_order in ap (λ (k : ℕ). drop k s) p.order_ends
 
   size : e - a ≡ whole_timetable_length (behind_order s)
-  size = let ends = p.timetable_ends n in omega arith
+  size = let ends = p.timetable_ends in omega arith
 
   pub order_is : take a s ≡ pair_order s
-  order_is = unfold pair_order in ap (λ (k : ℕ). take k s) (p.order_ends n)
+  order_is = unfold pair_order in ap (λ (k : ℕ). take k s) p.order_ends
 
   pub timetable_is : take (e - a) (drop a s) ≡ pair_timetable s
   timetable_is = unfold pair_timetable in ap₂ take size behind_order_lem
@@ -220,33 +225,33 @@ module _ {s : List ℕ} {t : Totals} {q at : ℕ} (l : Left s t q at) where
           let k : 65535 - q ≡ suc (65535 - (q + 1)) = omega arith in
           subst (λ (k : ℕ). season_from k q t (drop at s) ≡ season_answer s) k l.answers
 
-      module _ {a e : ℕ} (p : PairAt (from at s) a e) where
-        there : PairAt (drop at s) a e
-        there = subst (λ (r : List ℕ). PairAt r a e) (rest_is at s) p
+      pub cut : cut_short (from at s) ≡ true → refused 46 (q + 1) ≡ season_answer s
+      cut z =
+          ap (refused 46) (add-one q)
+          ∙ sym (season_cut (65535 - (q + 1)) q t (drop at s) some (ap cut_short (sym (rest_is at s)) ∙ z))
+          ∙ turn
 
-        pub cut : a ≡ 0 → refused 46 (q + 1) ≡ season_answer s
-        cut z =
-            ap (refused 46) (add-one q)
-            ∙ sym (season_cut (65535 - (q + 1)) q t (drop at s) some (there.cut z))
-            ∙ turn
+      module _ {a e : ℕ} (p : PairEnds (from at s) a e) where
+        there : PairEnds (drop at s) a e
+        there = subst (λ (r : List ℕ). PairEnds r a e) (rest_is at s) p
 
-        pub next : (r : Totals) → Within (q + 1) r → 0 < a
+        pub next : (r : Totals) → Within (q + 1) r
             → r ≡ counted t (timetable_answer (take a (from at s)) (take (e - a) (drop a (from at s)))) → Left s r (q + 1) (at + e)
-        next r w n is = record {
+        next r w is = record {
           few = let f = l.few in omega arith;
           inside = omega (arith, there.inside, length-drop at s);
           within = w;
           answers =
               ap (λ (k : ℕ). season_from (65535 - (q + 1)) k r (drop (at + e) s)) (add-one q)
               ∙ ap₂ (season_from (65535 - (q + 1)) (suc q)) same behind
-              ∙ sym (season_next (65535 - (q + 1)) q t (drop at s) some (there.whole n))
+              ∙ sym (season_next (65535 - (q + 1)) q t (drop at s) some there.whole)
               ∙ turn;
         }
           where
             same : r ≡ counted t (timetable_answer (pair_order (drop at s)) (pair_timetable (drop at s)))
             same =
                 (rw (rest_is at s) at is)
-                ∙ ap₂ (λ (x y : List ℕ). counted t (timetable_answer x y)) (order_is (drop at s) there n) (timetable_is (drop at s) there n)
+                ∙ ap₂ (λ (x y : List ℕ). counted t (timetable_answer x y)) (order_is (drop at s) there) (timetable_is (drop at s) there)
 
             behind : drop (at + e) s ≡ behind_pair (drop at s)
-            behind = sym (drop-drop e at s) ∙ behind_is (drop at s) there n
+            behind = sym (drop-drop e at s) ∙ behind_is (drop at s) there

@@ -12,18 +12,16 @@
 --     ended_or s t a              the answer a, unless s has no bytes: then the report on the totals t
 --     season_from k q t s         the answer for the pairs that s begins with, behind q pairs of the totals t, where k more may come
 --     season_answer s             the answer for the season s: 46 and 47 with a pair's number, else accepted with the report
---     told_by p, answer_of v       the parallelism p as such a list, and the verdict v as an answer
+--     told_by p, told r, answer_of v    the parallelism p as such a list, what the report r tells, and the result v as an answer
 -- Assumes nothing.
-use Rattle.std.specs.Prelude.{ℕ, zero, suc, ◌+◌, ◌*◌, ◌/◌, Bool, ◌||◌, List, [], ◌∷◌, get_or, take, drop, eqb}
-use Rattle.answers.specs.Answer.{Answer, accepted, refused, refused_by, refuse}
+use Rattle.std.specs.Prelude.{ℕ, zero, suc, ◌+◌, ◌*◌, ◌/◌, Bool, ◌||◌, List, [], ◌∷◌, get_or, take, drop, eqb, Option, None, Some, Result}
+use Rattle.answers.specs.Answer.{Answer, accepted, refused, refuse, answer_by}
 use Rattle.order.specs.RecordLength.{whole_order_length}
 use Rattle.timetable.specs.RecordLength.{whole_timetable_length}
 use Rattle.timetable.specs.Timetable.{timetable_answer}
 use Rattle.season.specs.declared.Totals.{Totals}
-use Rattle.season.specs.declared.SeasonVerdict.{SeasonVerdict}
-use Rattle.season.specs.declared.SeasonVerdict.TheVariants.{Report, Refused}
-use Rattle.season.specs.declared.Parallelism.{Parallelism}
-use Rattle.season.specs.declared.Parallelism.TheVariants.{NoSteps, Thousandths}
+use Rattle.answers.specs.declared.Refusal.{Refusal}
+use Rattle.season.specs.declared.Summary.{Summary}
 
 -- "An order ends where its counts say and a timetable after its last step; the next pair follows directly." Whatever else is wrong with
 -- them does not matter here.
@@ -82,10 +80,12 @@ season_from (suc k) q t s =
 unfoldable pub season_answer : List ℕ → Answer
 season_answer s = season_from 65535 0 no_totals s
 
-abbrev pub told_by : Parallelism → List ℕ
-told_by NoSteps = []
-told_by (Thousandths n) = n ∷ []
+abbrev pub told_by : Option ℕ → List ℕ
+told_by None = []
+told_by (Some n) = n ∷ []
 
-abbrev pub answer_of : SeasonVerdict → Answer
-answer_of (Report t p) = accepted (t.accepted ∷ t.refused ∷ t.steps ∷ t.moves ∷ told_by p)
-answer_of (Refused f place) = refused_by f place
+abbrev pub told : Summary → List ℕ
+told r = r.totals.accepted ∷ r.totals.refused ∷ r.totals.steps ∷ r.totals.moves ∷ told_by r.parallelism
+
+abbrev pub answer_of : Result Summary Refusal → Answer
+answer_of = answer_by told

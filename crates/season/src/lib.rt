@@ -7,8 +7,7 @@ ghost use Rattle.timetable.specs.Timetable.{timetable_answer};
 ghost use Rattle.season.specs.Season.{counted, season_answer, parallelism, answer_of, told_by};
 ghost use Rattle.season.specs.Pair.{PairAt, Within};
 
-use answers::Fault;
-use timetable::TimetableVerdict;
+use answers::{Fault, Refusal};
 
 // How many pairs a season may have.
 const MOST: u32 = 65535;
@@ -22,18 +21,11 @@ pub struct Totals {
     pub moves: u64,
 }
 
-// Moves divided by steps, in thousandths rounded down.
+// The report on a season: its totals, and their moves divided by steps, in thousandths rounded down, if there are steps.
 #[derive(Clone, Copy)]
-pub enum Parallelism {
-    NoSteps,
-    Thousandths(u64),
-}
-
-// The verdict on a season: its report, or why there is none. specs/Season.antt gives it its number and values.
-#[derive(Clone, Copy)]
-pub enum SeasonVerdict {
-    Report(Totals, Parallelism),
-    Refused(Fault, u32),
+pub struct Summary {
+    pub totals: Totals,
+    pub parallelism: Option<u64>,
 }
 
 // Where the order and the timetable of a pair end.
@@ -43,28 +35,16 @@ struct Ends {
     timetable: usize,
 }
 
-// The pair that the bytes begin with; 0 and 0 where they end before it does.
-fn find_pair(bytes: &[u8]) -> Ends
-    ensures { PairAt bytes.now result.order result.timetable }
+// The pair that the bytes begin with, if they do not end before it does.
+fn find_pair(bytes: &[u8]) -> Option<Ends>
+    ensures { PairAt bytes.now result }
 {
-    let order = order::record_length(bytes);
-    if order == 0 {
-        return Ends {
-            order: 0,
-            timetable: 0,
-        };
-    }
-    let length = timetable::record_length(&bytes[order..]);
-    if length == 0 {
-        return Ends {
-            order: 0,
-            timetable: 0,
-        };
-    }
-    Ends {
+    let order = order::record_length(bytes)?;
+    let length = timetable::record_length(&bytes[order..])?;
+    Some(Ends {
         order,
         timetable: order + length,
-    }
+    })
 }
 
 // The totals of `pairs` pairs and one more.
@@ -75,34 +55,32 @@ fn count_pair(totals: Totals, pairs: u32, order: &[u8], timetable: &[u8]) -> Tot
     ensures within_2 { Within (pairs + 1) result }
 {
     match timetable_check::check(order, timetable) {
-        TimetableVerdict::Accepted { steps, moves } => Totals {
+        Ok(counts) => Totals {
             accepted: totals.accepted + 1,
-            refused: totals.refused,
-            steps: totals.steps + (steps as u64),
-            moves: totals.moves + (moves as u64),
+            steps: totals.steps + (counts.steps as u64),
+            moves: totals.moves + (counts.moves as u64),
+            ..totals
         },
-        TimetableVerdict::Refused(_, _) => Totals {
-            accepted: totals.accepted,
+        Err(_) => Totals {
             refused: totals.refused + 1,
-            steps: totals.steps,
-            moves: totals.moves,
+            ..totals
         },
     }
 }
 
 // Moves divided by steps.
-fn divide(steps: u64, moves: u64) -> Parallelism
+fn divide(steps: u64, moves: u64) -> Option<u64>
     requires { 1000 * moves < 2 ^ 64 }
     ensures { told_by result ≡ parallelism steps moves }
 {
     if steps == 0 {
-        return Parallelism::NoSteps;
+        return None;
     }
-    Parallelism::Thousandths(1000 * moves / steps)
+    Some(1000 * moves / steps)
 }
 
 // The report on any byte string as a season, or 46 or 47.
-pub fn report(bytes: &[u8]) -> SeasonVerdict
+pub fn report(bytes: &[u8]) -> Result<Summary, Refusal>
     ensures { answer_of result ≡ season_answer bytes.now }
 {
     let mut totals = Totals {
@@ -115,18 +93,23 @@ pub fn report(bytes: &[u8]) -> SeasonVerdict
     let mut at: usize = 0;
     while at < bytes.len() {
         if pairs == MOST {
-            return SeasonVerdict::Refused(Fault::SeasonPairs, MOST);
+            return Err(Refusal(Fault::SeasonPairs, MOST));
         }
         let rest = &bytes[at..];
-        let ends = find_pair(rest);
-        let order = ends.order;
-        let timetable = ends.timetable;
-        if order == 0 {
-            return SeasonVerdict::Refused(Fault::SeasonCut, pairs + 1);
-        }
-        totals = count_pair(totals, pairs, &rest[..order], &rest[order..timetable]);
-        at += timetable;
+        let Some(ends) = find_pair(rest) else {
+            return Err(Refusal(Fault::SeasonCut, pairs + 1));
+        };
+        totals = count_pair(
+            totals,
+            pairs,
+            &rest[..ends.order],
+            &rest[ends.order..ends.timetable],
+        );
+        at += ends.timetable;
         pairs += 1;
     }
-    SeasonVerdict::Report(totals, divide(totals.steps, totals.moves))
+    Ok(Summary {
+        totals,
+        parallelism: divide(totals.steps, totals.moves),
+    })
 }

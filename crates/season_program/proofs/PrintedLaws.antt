@@ -11,7 +11,7 @@
 --     report_text_lem, refusal_text       the two ways in which the program ends
 -- Assumes nothing.
 use Prim.Native.Nat.{ℕ, ◌^◌, ◌≤◌, ◌<◌}
-use mathlib.Core.Path.{◌≡◌, refl, sym, ap, ◌∙◌}
+use mathlib.Core.Path.{◌≡◌, refl, ap}
 use mathlib.Core.List.{List, [], ◌∷◌, ◌++◌}
 use native.Mathlib.Omega.{arith}
 use lib.ListN.{length, get_or, length-append}
@@ -22,9 +22,10 @@ use Rattle.field.proofs.WritingLaws.{fits_front, fits_next, wrote_then, fits_as,
 use Rattle.writers.specs.Lines.{decimal, refusal_line}
 use Rattle.writers.proofs.DecimalLaws.{length-decimal}
 use Rattle.writers.proofs.LineLaws.{newline_is, refused_is}
-use Rattle.season.specs.Season.{season_answer}
-use Rattle.season.specs.declared.Totals.{Totals}
-use Rattle.season_program.specs.Printed.{count_line, quotient_text, count_lines, parallelism_line, report_text, answer_text, season_text}
+use Rattle.season.specs.Season.{told, season_answer}
+use Rattle.season.specs.declared.Summary.{Summary}
+use Rattle.season_program.specs.Printed.{count_line, quotient_text, count_lines, parallelism_line}
+use Rattle.season_program.specs.Printed.{report_text, report_lines, answer_text, season_text}
 
 pub none_is : 110 ∷ 111 ∷ 110 ∷ 101 ∷ [] ≡ ascii "none"
 unfolding ascii
@@ -202,12 +203,10 @@ pub report_fits : (out : List ℕ) → 160 ≤ length out → (a r k m : ℕ) (p
 report_fits out room a r k m p ha hr hk hm hp = record { room = omega (arith, report_short a r k m p ha hr hk hm hp) }
 
 -- the two ways in which the program ends
-pub report_text_lem : (s : List ℕ) (t : Totals) (p : List ℕ) → accepted (t.accepted ∷ t.refused ∷ t.steps ∷ t.moves ∷ p) ≡ season_answer s
-    → report_text t.accepted t.refused t.steps t.moves p ≡ season_text s
+pub report_text_lem : (s : List ℕ) (r : Summary) → accepted (told r) ≡ season_answer s → report_lines r ≡ season_text s
 unfolding season_text answer_text
-report_text_lem s t p e = ap answer_text e
+report_text_lem s r e = ap answer_text e
 
-pub refusal_text : (s : List ℕ) (j number place : ℕ) → j ≡ number → refused number place ≡ season_answer s
-    → refusal_line j place ≡ season_text s
+pub refusal_text : (s : List ℕ) (number place : ℕ) → refused number place ≡ season_answer s → refusal_line number place ≡ season_text s
 unfolding season_text answer_text
-refusal_text s j number place n e = ap (λ (k : ℕ). refusal_line k place) n ∙ ap answer_text e
+refusal_text s number place e = ap answer_text e

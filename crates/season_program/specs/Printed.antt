@@ -6,6 +6,7 @@
 --     count_lines a r s m  the first four lines, for a pairs accepted and r refused, s steps and m moves
 --     parallelism_line p   the last line, for the parallelism p
 --     report_text a r s m p    all five
+--     report_lines r       those of the report r
 --     answer_text a        the text for the answer a: the five lines, or the line of a refusal
 --     season_text s        the text for the input s
 -- Assumes nothing.
@@ -13,7 +14,8 @@ use Rattle.std.specs.Prelude.{ℕ, List, [], ◌∷◌, ◌++◌, get_or, drop}
 use Rattle.answers.specs.Answer.{Answer, accepted, refused}
 use Rattle.answers.specs.Ascii.{ascii}
 use Rattle.writers.specs.Lines.{decimal, refusal_line}
-use Rattle.season.specs.Season.{season_answer}
+use Rattle.season.specs.Season.{told_by, season_answer}
+use Rattle.season.specs.declared.Summary.{Summary}
 
 unfoldable pub count_line : List ℕ → ℕ → List ℕ
 count_line word n = word ++ (decimal n ++ ascii "\n")
@@ -34,6 +36,9 @@ parallelism_line p = ascii "parallelism " ++ (quotient_text p ++ ascii "\n")
 
 unfoldable pub report_text : ℕ → ℕ → ℕ → ℕ → List ℕ → List ℕ
 report_text a r s m p = count_lines a r s m ++ parallelism_line p
+
+abbrev pub report_lines : Summary → List ℕ
+report_lines r = report_text r.totals.accepted r.totals.refused r.totals.steps r.totals.moves (told_by r.parallelism)
 
 -- an accepted season's counts are the pairs accepted and refused, the steps, the moves and, if there is one, the parallelism
 unfoldable pub answer_text : Answer → List ℕ

@@ -4,9 +4,9 @@
 
 ghost use Rattle.field.specs.Writing.{Fits, Wrote};
 ghost use Rattle.season.specs.Season.{told_by};
-ghost use Rattle.season_program.specs.Printed.{count_line, quotient_text, count_lines, parallelism_line, report_text, season_text};
+ghost use Rattle.season_program.specs.Printed.{count_line, quotient_text, count_lines, parallelism_line, report_lines, season_text};
 
-use season::{Parallelism, SeasonVerdict, Totals};
+use season::{Summary, Totals};
 
 // The line of a count: its word with a space, and the number.
 fn put_count(word: &[u8], n: u64, out: &mut [u8], at: usize) -> usize
@@ -19,13 +19,13 @@ fn put_count(word: &[u8], n: u64, out: &mut [u8], at: usize) -> usize
 }
 
 // The parallelism.
-fn put_quotient(p: Parallelism, out: &mut [u8], at: usize) -> usize
+fn put_quotient(p: Option<u64>, out: &mut [u8], at: usize) -> usize
     requires { Fits out.old at (quotient_text (told_by p)) }
     ensures { Wrote out.old at (quotient_text (told_by p)) out.new result }
 {
     match p {
-        Parallelism::NoSteps => writers::put_bytes(b"none", out, at),
-        Parallelism::Thousandths(n) => writers::put_decimal(n as usize, out, at),
+        None => writers::put_bytes(b"none", out, at),
+        Some(n) => writers::put_decimal(n as usize, out, at),
     }
 }
 
@@ -41,7 +41,7 @@ fn put_counts(t: Totals, out: &mut [u8], at: usize) -> usize
 }
 
 // The line of the parallelism.
-fn put_parallelism(p: Parallelism, out: &mut [u8], at: usize) -> usize
+fn put_parallelism(p: Option<u64>, out: &mut [u8], at: usize) -> usize
     requires { Fits out.old at (parallelism_line (told_by p)) }
     ensures { Wrote out.old at (parallelism_line (told_by p)) out.new result }
 {
@@ -51,13 +51,12 @@ fn put_parallelism(p: Parallelism, out: &mut [u8], at: usize) -> usize
 }
 
 // The five lines.
-fn put_report(t: Totals, p: Parallelism, out: &mut [u8], at: usize) -> usize
-    requires { Fits out.old at (report_text t.accepted t.refused t.steps t.moves (told_by p)) }
-    ensures { Wrote out.old at (report_text t.accepted t.refused t.steps t.moves (told_by p))
-        out.new result }
+fn put_report(report: Summary, out: &mut [u8], at: usize) -> usize
+    requires { Fits out.old at (report_lines report) }
+    ensures { Wrote out.old at (report_lines report) out.new result }
 {
-    let at = put_counts(t, out, at);
-    put_parallelism(p, out, at)
+    let at = put_counts(report.totals, out, at);
+    put_parallelism(report.parallelism, out, at)
 }
 
 // Writes what the program prints at the front of `out`, leaves every byte behind it, and says how many bytes that is.
@@ -65,9 +64,7 @@ pub fn season_program(input: &[u8], out: &mut [u8; 256]) -> usize
     ensures { Wrote out.old 0 (season_text input.now) out.new result }
 {
     match season::report(input) {
-        SeasonVerdict::Report(totals, parallelism) => put_report(totals, parallelism, out, 0),
-        SeasonVerdict::Refused(fault, place) => {
-            writers::put_refusal(answers::number(fault), place, out, 0)
-        }
+        Ok(report) => put_report(report, out, 0),
+        Err(refusal) => writers::put_refusal(refusal, out, 0),
     }
 }

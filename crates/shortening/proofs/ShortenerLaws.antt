@@ -19,8 +19,10 @@ use borrow.Author.Tests.{lt-ltb, le-ltb}
 use lib.Dec.{ltb}
 use lib.ListN.{length, get_or, take, drop, length-append, length-drop}
 use lib.Seq.{length-take-le}
-use Rattle.answers.specs.Answer.{Answer, accepted, refused, refuse, pass_up}
-use Rattle.answers.proofs.AnswerLaws.{refuse_else, pass_up-high, pass_up_refused, pass_up_accepted}
+use Rattle.std.specs.Prelude.{Result, IsErrAnd}
+use Rattle.answers.specs.declared.Refusal.{Refusal}
+use Rattle.answers.specs.Answer.{Answer, accepted, refused, refused_by, refuse, the_count}
+use Rattle.answers.proofs.AnswerLaws.{refuse_else, pass_up-high, pass_up_refused, pass_up_accepted, handed_up}
 use Rattle.field.specs.Bits.{field}
 use Rattle.recording.specs.Head.{head_bytes}
 use Rattle.field.specs.Listed.{move_size, rack_field, listed_moves, all_units, ListedFit}
@@ -43,7 +45,7 @@ use Rattle.plan_check.proofs.Replayed.{listed_fits}
 use Rattle.shortening.specs.Rule.{shortened}
 use Rattle.cancelling.specs.Stack.{Passes, begun, next, laid}
 use Rattle.cancelling.specs.Looking.{listed_of, Shortened}
-use Rattle.shortening.specs.Shortener.{shortened_of, shortener_answer, buffer_after}
+use Rattle.shortening.specs.Shortener.{shortened_of, shortener_answer, buffer_after, answer_of}
 use Rattle.cancelling.proofs.LookingLaws.{bytes_fewer}
 use Rattle.shortening.proofs.RuleLaws.{shortened_rule, shortens_length}
 use Rattle.shortening.proofs.RemovalLaws.{shortens_leads}
@@ -74,13 +76,14 @@ module _ (o p B : List ℕ) where
   unfolding buffer_after
   after_refusal n q e = sym (ap (λ (a : Answer). left_by a (plan_record (named p) (starts_of o) (shortened_of o p)) B) e)
 
-  pub shortener_refused : (a r : Answer) (n q : ℕ) → a ≡ plan_answer o p → a ≡ refused n q → r ≡ pass_up a (accepted (0 ∷ []))
-      → (r ≡ shortener_answer o p (length B)) × (B ≡ buffer_after o p B)
+  -- r is what `?` makes of the plan checker's refusal e
+  pub shortener_refused : (r : Result ℕ Refusal) (e : Refusal) → IsErrAnd r (λ x. x ≡ e) → refused_by e.0 e.1 ≡ plan_answer o p
+      → (answer_of r ≡ shortener_answer o p (length B)) × (B ≡ buffer_after o p B)
   unfolding shortener_answer
-  shortener_refused a r n q ea en er =
-      let up : shortener_answer o p (length B) ≡ refused n q = sym (pass_up_refused (plan_answer o p) _ n q (sym ea ∙ en)) ∙ sym ea ∙ en in
-      let down : r ≡ refused n q = er ∙ ap (λ (x : Answer). pass_up x (accepted (0 ∷ []))) en in
-      (down ∙ sym up, after_refusal n q up)
+  shortener_refused r e is below =
+      let up : shortener_answer o p (length B) ≡ refused_by e.0 e.1 =
+      sym (pass_up_refused (plan_answer o p) _ _ _ (sym below)) ∙ sym below in
+      (handed_up the_count r e is below _, after_refusal _ _ up)
 
   module _ (k : ℕ) (e : accepted (k ∷ []) ≡ plan_answer o p) where
     gives : PlanGave o p (k ∷ [])

@@ -6,14 +6,13 @@
 --     buffer_after o p B        the buffer B afterwards
 --     answer_of v               the shortener's verdict v as an answer
 -- Assumes nothing.
-use Rattle.std.specs.Prelude.{ℕ, List, [], ◌∷◌, length, ltb}
-use Rattle.answers.specs.Answer.{Answer, accepted, refused_by, refuse, pass_up}
+use Rattle.std.specs.Prelude.{ℕ, List, [], ◌∷◌, length, ltb, Result}
+use Rattle.answers.specs.Answer.{Answer, accepted, refuse, pass_up, the_count, answer_by}
 use Rattle.field.specs.Writing.{left_by}
 use Rattle.order.specs.Order.{starts_of}
 use Rattle.plan.specs.Plan.{named, plan_moves, plan_record, plan_answer}
 use Rattle.shortening.specs.Rule.{shortened}
-use Rattle.shortening.specs.declared.ShortenerVerdict.{ShortenerVerdict}
-use Rattle.shortening.specs.declared.ShortenerVerdict.TheVariants.{Accepted, Refused}
+use Rattle.answers.specs.declared.Refusal.{Refusal}
 
 unfoldable pub shortened_of : List ℕ → List ℕ → List (ℕ × ℕ)
 shortened_of o p = shortened (starts_of o) (plan_moves p)
@@ -30,6 +29,5 @@ shortener_answer o p n =
 unfoldable pub buffer_after : List ℕ → List ℕ → List ℕ → List ℕ
 buffer_after o p B = left_by (shortener_answer o p (length B)) (plan_record (named p) (starts_of o) (shortened_of o p)) B
 
-abbrev pub answer_of : ShortenerVerdict → Answer
-answer_of (Accepted moves) = accepted (moves ∷ [])
-answer_of (Refused f place) = refused_by f place
+abbrev pub answer_of : Result ℕ Refusal → Answer
+answer_of = answer_by the_count

@@ -16,8 +16,9 @@
 use Prim.Native.Nat.{ℕ, suc, ◌+◌, ◌-◌, ◌≤◌, ◌<◌}
 use mathlib.Core.Path.{◌≡◌, refl, sym, ap, subst, ◌∙◌}
 use mathlib.Core.List.{List}
-use mathlib.Core.Bool.{true, false, false≢true}
 use mathlib.Core.Logic.{◌↔◌, ◌≢◌, ◌⊎◌, inl, inr, ⊎_elim, by_cases}
+use Rattle.std.proofs.Common.{Some, None}
+use Rattle.std.proofs.lemmas.Option.{none-some}
 use native.Mathlib.Decide.{ℕ_discrete, dec_lt}
 use native.Mathlib.Omega.{arith}
 use Rattle.sets.specs.Sets.{Has}
@@ -242,7 +243,7 @@ module _ {n : ℕ} {g : List ℕ} {h at : ℕ → ℕ} {held free vacant p size 
 pub cleared : {n : ℕ} {g : List ℕ} {at : ℕ → ℕ} {held free vacant p size : ℕ} {s s' : State} {l t l' t' : List ℕ}
     (f : Found n g (row s.racks) at held free vacant p size) (some : 0 < size) → JourneyAlong at size s l t s' l' t'
     → Shifted at size (row s.racks) (row s'.racks) → s'.logged ≡ s.logged + (size - 1)
-    → Outcome (Unheld n held) g p s l t (record { state = s'; found = true; moves = size - 1 }) l' t'
+    → Outcome (Unheld n held) g p s l t (record { state = s'; moves = Some (size - 1) }) l' t'
 cleared {g = g} {free = free} {size = size} f some along shifted logged =
     let journey = journey_in_less (λ q. (f.free_is q).0) (along g free (way_inside f some) (way_joined f some)) in
     by_nearest
@@ -280,13 +281,13 @@ module _ {P Q : ℕ → Type 0} {g : List ℕ} {p : ℕ} {s : State} {l t : List
 -- what is told
 module _ {P : ℕ → Type 0} {g : List ℕ} {p : ℕ} {s : State} {l t : List ℕ} where
   pub outcome_told : {r : Clearing} {l' t' : List ℕ} {d : ℕ} → Outcome P g p s l t r l' t' → Distance (Edge g) P (row s.racks) p d
-      → (r.found ≡ true) × (r.moves ≡ d)
-  outcome_told (by_nearest x) y = (refl, distance_one x.distance y)
+      → r.moves ≡ Some d
+  outcome_told (by_nearest x) y = ap Some (distance_one x.distance y)
   outcome_told (no_way none) y = absurd (distance_way y none)
 
   pub outcome_none : {r : Clearing} {l' t' : List ℕ} → Outcome P g p s l t r l' t'
-      → (r.found ≡ false) ↔ NoWay (Edge g) P (row s.racks) p
-  outcome_none (by_nearest x) = (λ e. absurd (false≢true (sym e)), λ none. absurd (distance_way x.distance none))
+      → (r.moves ≡ None) ↔ NoWay (Edge g) P (row s.racks) p
+  outcome_none (by_nearest x) = (λ e. absurd (none-some _ (sym e)), λ none. absurd (distance_way x.distance none))
   outcome_none (no_way none) = (λ e. none, λ n. refl)
 
   pub outcome_held : {r : Clearing} {l' t' : List ℕ} → Outcome P g p s l t r l' t' → (q : ℕ) → (P q → ⊥)

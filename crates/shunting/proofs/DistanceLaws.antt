@@ -13,20 +13,16 @@
 --     free_within       where all is held but a region, the free positions are those of the region
 -- Assumes nothing.
 use Prim.Native.Nat.{ℕ, zero, suc, ◌-◌, ◌≤◌, ◌<◌}
-use mathlib.Core.Path.{◌≡◌, refl, sym, ap, subst, ◌∙◌}
-use mathlib.Core.Bool.{cond}
-use mathlib.Core.Logic.{◌↔◌, ◌≢◌, ◌⊎◌, inl, inr, ⊎_elim, by_cases}
+use mathlib.Core.Path.{◌≡◌, sym, ap, ◌∙◌}
+use mathlib.Core.Logic.{◌↔◌, ◌≢◌, ⊎_elim, by_cases}
 use native.Mathlib.Decide.{ℕ_discrete, dec_lt}
 use native.Mathlib.Omega.{arith}
-use borrow.Author.Tests.{lt-ltb, le-ltb}
-use lib.Dec.{ltb}
 use Rattle.sets.specs.Sets.{Has}
 use Rattle.sets.proofs.SetLaws.{has_or_not}
 use Rattle.sets.proofs.CountLaws.{pigeonhole}
 use Rattle.graph.specs.Walk.{Walk, Symmetric}
 use Rattle.graph.specs.Walk.Walk.{alone, step}
-use Rattle.graph.proofs.WalkLaws.{walk_some, walk_alone, walk_first, walk_last, walk_inside, walk_reverse}
-use Rattle.graph.specs.Connected.{Except, Below}
+use Rattle.graph.proofs.WalkLaws.{walk_some, walk_alone, walk_last, walk_inside, walk_reverse}
 pub use Rattle.graph.proofs.FewLaws.{at_most_below, at_most_less, at_most_more, at_most_except}
 use Rattle.graph.proofs.FewLaws.{walk_few}
 use Rattle.shunting.specs.Distance.{Unheld, WayFrom, NoWay, Distance, Reaches, AtMost}

@@ -18,7 +18,7 @@
 --     BroughtBy P g a b s l t s' l' t'    the rack at a is brought to b: by a shortest way, in just so many moves
 --     Brought P a b h k      the rack that stood at a stands at b, a position of P is vacant, and nothing outside P moved
 -- Assumes nothing.
-use Rattle.std.specs.Prelude.{ℕ, suc, ◌+◌, ◌*◌, ◌<◌, ◌≡◌, true, false, List, [], ◌∷◌, ◌↔◌, ◌≢◌, length}
+use Rattle.std.specs.Prelude.{ℕ, suc, ◌+◌, ◌*◌, ◌<◌, ◌≡◌, Some, None, List, [], ◌∷◌, ◌↔◌, ◌≢◌, length}
 use Rattle.sets.specs.Sets.{Has}
 use Rattle.graph.specs.Walk.{Walk}
 use Rattle.graph.specs.Connected.{Except}
@@ -58,8 +58,8 @@ pub record Clears (P : ℕ → Type 0) (g : List ℕ) (p : ℕ) (s : State) (l t
 -- "and that number is reported. [..] If no vacancy has a way, the answer says so and nothing moves; it says so only then."
 pub data Outcome (P : ℕ → Type 0) (g : List ℕ) (p : ℕ) (s : State) (l t : List ℕ) : Clearing → List ℕ → List ℕ → Type 0 where
   by_nearest : {s' : State} {l' t' : List ℕ} (x : Clears P g p s l t s' l' t')
-      → Outcome P g p s l t (record { state = s'; found = true; moves = x.moves }) l' t'
-  no_way : NoWay (Edge g) P (row s.racks) p → Outcome P g p s l t (record { state = s; found = false; moves = 0 }) l t
+      → Outcome P g p s l t (record { state = s'; moves = Some x.moves }) l' t'
+  no_way : NoWay (Edge g) P (row s.racks) p → Outcome P g p s l t (record { state = s; moves = None }) l t
 
 pub record Bringable (P : ℕ → Type 0) (a b : ℕ) (h : ℕ → ℕ) : Type 0 where
   pub leaves : P a

@@ -14,30 +14,19 @@ ghost use Rattle.shunting.specs.Distance.{Unheld, Reaches};
 ghost use Rattle.shunting.specs.Cleared.{VacantBelow, Inside, RoomToClear, Clears, Outcome};
 ghost use Rattle.shunting.specs.Cleared.{Bringable, RoomToBring, BroughtBy, Brought};
 
-use moving::{Log, State, Tally};
-
-// The vacant positions below p, and p where it is vacant.
-fn with_vacancy(vacant: u64, racks: &[u8; 64], p: usize) -> u64
-    requires p_bound { p < 64 }
-    requires vacant_below { VacantBelow p (row racks.now) vacant }
-    ensures { VacantBelow (p + 1) (row racks.now) result }
-{
-    if racks[p] != 0 {
-        return vacant;
-    }
-    sets::with(vacant, p)
-}
+use moving::{Log, State};
 
 // The vacant positions of a floor of n.
+#[tactic(auto, using(crate::proofs::ClearLaws::vacant_held, crate::proofs::ClearLaws::vacant_more))]
 pub fn vacancies(racks: &[u8; 64], n: usize) -> u64
     requires { n ≤ 64 }
     ensures { VacantBelow n (row racks.now) result }
 {
     let mut vacant: u64 = 0;
-    let mut p: usize = 0;
-    while p < n {
-        vacant = with_vacancy(vacant, racks, p);
-        p += 1;
+    for p in 0..n {
+        if racks[p] == 0 {
+            vacant = sets::with(vacant, p);
+        }
     }
     vacant
 }
@@ -53,33 +42,20 @@ fn shift(at: &[u8; 64], size: usize, state: State, log: &mut Log, tail: &mut [u8
     ensures shifted { Shifted (row at.now) size (row state.racks) (row result.racks) }
     ensures logged_value { result.logged ≡ state.logged + (size - 1) }
 {
-    let real = state.real;
-    let mut racks = state.racks;
-    let mut tally = Tally {
-        written: state.written,
-        logged: state.logged,
-    };
-    let mut i = size - 1;
-    while 0 < i {
-        i -= 1;
+    let mut state = state;
+    for i in (0..size - 1).rev() {
         let a = at[i] as usize;
         let b = at[i + 1] as usize;
-        tally = moving::step(a, b, real, &mut racks, log, tail, tally);
+        moving::step(a, b, &mut state, log, tail);
     }
-    State {
-        racks,
-        real,
-        written: tally.written,
-        logged: tally.logged,
-    }
+    state
 }
 
-// How clearing a position went: the state afterwards, whether a vacancy has a way to it, and how many moves were made.
+// How clearing a position went: the state afterwards, and how many moves were made; none are told where no vacancy has a way to it.
 #[derive(Clone, Copy)]
 pub struct Clearing {
     pub state: State,
-    pub found: bool,
-    pub moves: usize,
+    pub moves: Option<usize>,
 }
 
 // Clears p by the nearest vacancy: of the ways from a vacancy to p that avoid the held positions, both ends included, a shortest is taken,
@@ -99,25 +75,16 @@ pub fn clear(
     ensures { Outcome (Unheld n held) rows.now p state log.old tail.old
         result log.new tail.new }
 {
-    let racks = state.racks;
-    let vacant = vacancies(&racks, n);
+    let vacant = vacancies(&state.racks, n);
     let free = sets::minus(sets::below(n), held);
-    let route = graph::search(rows, free, vacant, p);
-    let at = route.at;
-    let size = route.size;
-    if size == 0 {
-        return Clearing {
-            state,
-            found: false,
-            moves: 0,
-        };
-    }
-    let moves = size - 1;
-    let moved = shift(&at, size, state, log, tail);
+    let Some(route) = graph::search(rows, free, vacant, p) else {
+        return Clearing { state, moves: None };
+    };
+    let moves = route.size - 1;
+    let moved = shift(&route.at, route.size, state, log, tail);
     Clearing {
         state: moved,
-        found: true,
-        moves,
+        moves: Some(moves),
     }
 }
 
@@ -164,18 +131,18 @@ pub fn bring(
         result log.new tail.new }
     ensures brought { Brought (Has region) from to (row state.racks) (row result.racks) }
 {
-    let route = graph::search(rows, region, sets::only(to), from);
+    let Some(route) = graph::search(rows, region, sets::only(to), from) else {
+        unreachable!();
+    };
     let at = route.at;
     let size = route.size;
     let mut state = state;
-    let mut k: usize = 1;
-    while k < size {
+    for k in 1..size {
         let a = at[k - 1] as usize;
         let b = at[k] as usize;
         let free = sets::without(region, a);
         state = clear_within(rows, n, free, b, state, log, tail);
         state = moving::make_move(a, b, state, log, tail);
-        k += 1;
     }
     state
 }

@@ -2,20 +2,22 @@
 --
 --     placed-count         m racks leave n - m positions vacant
 --     fill_next            one vacancy more, the lowest, is filled
---     Filling, filling_begin, filling_some, filling_step, filling_all, filling_end    the state of `fill`: r racks stand, with stand-ins
+--     Filling, filling_begin, filling_some, filling_step, filling_next, filling_all, filling_end    the state of `fill`: r racks stand,
+-- with
+--                          stand-ins
 -- Assumes nothing.
 use Prim.Native.Nat.{ℕ, zero, suc, ◌+◌, ◌-◌, ◌^◌, ◌≤◌, ◌<◌}
 use mathlib.Core.Path.{◌≡◌, refl, sym, ap, subst, ◌∙◌}
 use mathlib.Core.List.{List, [], ◌∷◌}
 use mathlib.Core.Logic.{◌↔◌, ◌≢◌, ◌⊎◌, inl, inr, ⊎_elim, by_cases}
-use native.Mathlib.Decide.{ℕ_discrete, dec_le}
+use native.Mathlib.Decide.{ℕ_discrete}
 use native.Mathlib.Omega.{arith}
 use lib.Bits.{bit_or}
 use lib.Count.{ones}
 use lib.ListN.{length, set, length-set}
 use lib.Seq.{get_or-set_same, get_or-set_other}
 use Rattle.sets.specs.Sets.{Has}
-use Rattle.sets.proofs.SetLaws.{has_or, has_only, has_none, has_or_not}
+use Rattle.sets.proofs.SetLaws.{has_or, has_only, has_none}
 use Rattle.sets.proofs.CountLaws.{ones_least, ones_most, ones_push, ones_pair, ones_third, ones_subset}
 use Rattle.graph.specs.Rows.{row}
 use Rattle.moving.specs.Table.{Table}
@@ -122,9 +124,11 @@ pub record Filling (n m : ℕ) (h k : List ℕ) (r v : ℕ) : Type 0 where
 
 module _ {n m : ℕ} {h : List ℕ} where
   pub filling_begin : (v : ℕ) → length h ≡ 64 → m + 2 ≤ n → Placed n m (row h) → ((p : ℕ) → Has v p ↔ ((p < n) × (row h p ≡ 0)))
-      → Filling n m h h m v
+      → Filling n m h h (m + 1 - 1) v
   filling_begin v long room placed vacant =
-      record {
+      let same : m ≡ m + 1 - 1 = omega arith in
+      subst (λ (i : ℕ). Filling n m h h i v) same
+      (record {
         long = long;
         from = omega arith;
         room = room;
@@ -133,7 +137,7 @@ module _ {n m : ℕ} {h : List ℕ} where
         count = placed-count placed v vacant;
         filled = record { kept = λ p held. refl; added = λ p e. inl e };
         is = (let none : 0 ≡ m - m = omega arith in sym (fill_none h m) ∙ ap (λ (c : ℕ). fill_from m c h) none);
-      }
+      })
 
   pub filling_some : {k : List ℕ} {r v : ℕ} → Filling n m h k r v → 0 < v
   filling_some {v = v} f =
@@ -146,7 +150,7 @@ module _ {n m : ℕ} {h : List ℕ} where
       omega arith)
       (λ e. omega arith)
 
-  pub filling_step : (k : List ℕ) (r v w p : ℕ) → n ≤ 64 → r + 2 < n → Has v p → ((q : ℕ) → Has v q → p ≤ q)
+  filling_step : (k : List ℕ) (r v w p : ℕ) → n ≤ 64 → r + 2 < n → Has v p → ((q : ℕ) → Has v q → p ≤ q)
       → ((q : ℕ) → Has w q ↔ (Has v q × (q ≢ p)))
       → Filling n m h k r v → Filling n m h (set k p (r + 1)) (r + 1) w
   filling_step k r v w p small more on lowest less f =
@@ -238,6 +242,16 @@ module _ {n m : ℕ} {h : List ℕ} where
         λ y. by_cases (ℕ_discrete q p) (λ e. inr e) (λ e. inl ((less q).1 (y, e))),
         λ y. ⊎_elim (λ z. ((less q).0 z).0) (λ e. subst (Has v) (sym e) on) y,
       )
+
+  -- r is the next stand-in
+  pub filling_next : (k : List ℕ) (r v w p : ℕ) → n ≤ 64 → 0 < r → r < n - 1 → Has v p → ((q : ℕ) → Has v q → p ≤ q)
+      → ((q : ℕ) → Has w q ↔ (Has v q × (q ≢ p)))
+      → Filling n m h k (r - 1) v → Filling n m h (set k p r) (r + 1 - 1) w
+  filling_next k r v w p small some more on lowest less f =
+      let up : r - 1 + 1 ≡ r = omega arith in
+      let same : r ≡ r + 1 - 1 = omega arith in
+      subst (λ (i : ℕ). Filling n m h (set k p r) i w) same
+      (subst (λ (i : ℕ). Filling n m h (set k p i) i w) up (filling_step k (r - 1) v w p small (omega arith) on lowest less f))
 
   pub filling_all : (k : List ℕ) (r v : ℕ) → n ≤ r + 2 → Filling n m h k r v → k ≡ with_stand_ins n m h
   filling_all k r v done f =

@@ -19,7 +19,7 @@ use native.Mathlib.Omega.{arith}
 use lib.Dec.{T}
 use lib.ListN.{length, get_or}
 use Rattle.order.specs.Floor.{Floor, joined}
-use Rattle.motion.specs.Arrangement.{Arrangement, occupied, vacant, rack_at}
+use Rattle.motion.specs.Arrangement.{Arrangement, occupied, rack_at}
 use Rattle.motion.proofs.ArrangementLaws.{occupied_rack, vacant-racks, occupied_or_vacant, rack_at_finds, rack_at_none}
 use Rattle.motion.specs.Move.{legal_move, after_move}
 use Rattle.motion.proofs.MoveLaws.{on_floor_parts, legal_parts, move-length, moved_rack, moved_other}

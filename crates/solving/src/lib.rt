@@ -37,9 +37,8 @@ fn shift_goal(
     ensures shift { Shift n rows.now x next goal.now result back.new }
     ensures tail_unchanged { tail.new ≡ tail.old }
 {
-    let racks = *goal;
     let aim = State {
-        racks,
+        racks: *goal,
         real: 0,
         written: 0,
         logged: 0,
@@ -61,11 +60,9 @@ pub fn fill(n: usize, m: usize, racks: &mut [u8; 64])
     ensures racks_after { racks.new ≡ with_stand_ins n m racks.old }
 {
     let mut vacant = shunting::vacancies(racks, n);
-    let mut r = m;
-    while r + 2 < n {
+    for stand_in in m + 1..n - 1 {
         let p = sets::lowest(vacant);
-        r += 1;
-        racks[p] = r as u8;
+        racks[p] = stand_in as u8;
         vacant = sets::without(vacant, p);
     }
 }
@@ -113,19 +110,16 @@ pub fn solve(
     ensures same { Same (row result.racks) (row goal.now) }
 {
     let circle = base_ring::circle_of(breakdown, n);
-    let at = circle.at;
     let mut back = [0u16; moving::LOG];
     let shifted = shift_goal(
         rows,
         n,
-        at[0] as usize,
-        at[1] as usize,
+        circle.at[0] as usize,
+        circle.at[1] as usize,
         goal,
         &mut back,
         tail,
     );
-    let racks = shifted.racks;
-    let settled = settle(rows, n, breakdown, circle, &racks, state, tail);
-    let logged = shifted.logged;
-    turning::undo(0, logged, settled, &back, tail)
+    let settled = settle(rows, n, breakdown, circle, &shifted.racks, state, tail);
+    turning::undo(0, shifted.logged, settled, &back, tail)
 }

@@ -4,13 +4,13 @@
 --     origins_entered, origins_other   what the row has where a move enters, and where none does
 --     row_iff                     which moves the row has; row-ascends: they ascend
 --     row-turned                  of a step that enters no position twice they are its moves, turned round
---     Noting w₀ d c w j           after move j the rest of the moves decides the row; noting_first, noting_next, noting_last
+--     Noting d w₀ w j             after move j the rest of the moves decides the row; noting_first, noting_next, noting_last
 --     origins_low                 a row of moves of positions below 64 is low
---     Listing w d k p             the table d has the k moves of the row w for the positions below p, and is long enough
+--     Listing w all d k p         the table d begins with the k moves of the row w for the positions below p, and is long enough
 --     listing_first, listing_none, listing_more, listing_last
 -- Assumes nothing.
 use Prim.Native.Nat.{ℕ, zero, suc, ◌+◌, ◌-◌, ◌*◌, ◌/◌, ◌%◌, ◌≤◌, ◌<◌}
-use mathlib.Core.Path.{◌≡◌, refl, sym, ap, ap₂, ◌∙◌, subst}
+use mathlib.Core.Path.{◌≡◌, refl, sym, ap, ◌∙◌, subst}
 use mathlib.Core.Bool.{not}
 use mathlib.Core.List.Pairwise
 use mathlib.Core.List.{List, [], ◌∷◌, ◌++◌, Memᴰ}
@@ -18,12 +18,11 @@ use mathlib.Core.List.{append-nil, append_assoc}
 use mathlib.Core.Logic.{◌↔◌, ◌≢◌, ⊎_elim}
 use native.Mathlib.Omega.{arith}
 use native.Mathlib.Bridge.{le_prop}
-use native.Mathlib.Nat.{add-zero, zero-add}
 use native.Mathlib.Numerals.{add-one}
 use borrow.Author.Tests.{eq-eqb, ne_eqb}
 use lib.Dec.{T, T_not}
-use lib.ListN.{length, get_or, set, replicate, length-set, length-replicate}
-use lib.Seq.{get_or-set_same, get_or-set_other}
+use lib.ListN.{length, get_or, set, take, replicate, length-set, length-replicate}
+use lib.Seq.{get_or-set_same, get_or-set_other, take-suc-set}
 use Rattle.field.specs.Bytes.{BelowPairs, none₂, more₂}
 use Rattle.motion.specs.StepTests.{Ascends, EnteredOnce}
 use Rattle.motion.specs.TurnedStep.{turned, turned_step}
@@ -34,8 +33,8 @@ use Rattle.motion.proofs.StepOfLaws.{ascending-same}
 use Rattle.motion.proofs.TurnedStepLaws.{turned_iff, turned-ascends}
 use Rattle.motion.proofs.Test.{decided, equal?}
 use Rattle.tables.proofs.TableLaws.{zeros_at}
-use Rattle.chains.specs.StepOn.{entries}
-use Rattle.chains.proofs.Moves.{Left, left-first, left-next, left_last, entries_from, entries-first, entries_at, entries_last}
+use Rattle.chains.specs.StepOn.{moves_of}
+use Rattle.chains.proofs.Moves.{Left, left-first, left-next, left_last, moves_from, moves_at, moves_none}
 use Rattle.stepping.specs.Judging.{origins_of, OriginsLow, row_moves}
 
 -- the row
@@ -199,39 +198,31 @@ module _ {ms : List (ℕ × ℕ)} (small : BelowPairs 64 ms) (once : EnteredOnce
 
 -- the loops
 
-module _ (d : List ℕ) (c : ℕ) (w₀ : List ℕ) where
+module _ (d w₀ : List ℕ) where
   abbrev pub Noting : List ℕ → ℕ → Type 0
-  Noting w j = Left origins_of (entries_from d c) (entries d 0 c) w₀ w j
+  Noting w j = Left origins_of (moves_from d) (moves_of d) w₀ w j
 
   pub noting_first : Noting w₀ 0
-  noting_first = left-first origins_of (entries_from d c) (entries d 0 c) w₀ (entries-first d c)
+  noting_first = left-first origins_of (moves_from d) (moves_of d) w₀ refl
 
-  pub noting_next : (w : List ℕ) (j a b : ℕ) → Noting w j → j < c → a ≡ get_or d j 0 / 64 % 64 → b ≡ get_or d j 0 % 64
+  pub noting_next : (w : List ℕ) (j a b : ℕ) → Noting w j → j < length d → a ≡ get_or d j 0 / 64 % 64 → b ≡ get_or d j 0 % 64
       → Noting (set w b (a + 1)) (j + 1)
   unfolding origins_of
   noting_next w j a b k h ea eb =
-      left-next origins_of (entries_from d c) (entries d 0 c) w₀ w j a b k (entries_at d c j a b h ea eb) (set w b (a + 1)) (λ ms. refl)
+      left-next origins_of (moves_from d) (moves_of d) w₀ w j a b k (moves_at d j a b h ea eb) (set w b (a + 1)) (λ ms. refl)
 
-  pub noting_last : (w : List ℕ) (j : ℕ) → Noting w j → c ≤ j → w ≡ origins_of w₀ (entries d 0 c)
+  pub noting_last : (w : List ℕ) (j : ℕ) → Noting w j → length d ≤ j → w ≡ origins_of w₀ (moves_of d)
   unfolding origins_of
-  noting_last w j k h = left_last origins_of (entries_from d c) (entries d 0 c) w₀ w j k (entries_last d c j h)
+  noting_last w j k h = left_last origins_of (moves_from d) (moves_of d) w₀ w j k (moves_none d j h)
 
--- a table's entries as they are added
-entries_last_one : (d : List ℕ) (j k : ℕ)
-    → entries d j (suc k) ≡ entries d j k ++ ((get_or d (j + k) 0 / 64 % 64, get_or d (j + k) 0 % 64) ∷ [])
-unfolding entries
-entries_last_one d j zero = rw (add-zero j) refl
-entries_last_one d j (suc k) =
-    let on : j + 1 + k ≡ j + suc k = omega arith in
-    ap (λ (l : List (ℕ × ℕ)). (get_or d j 0 / 64 % 64, get_or d j 0 % 64) ∷ l)
-    (entries_last_one d (j + 1) k
-    ∙ ap (λ (i : ℕ). entries d (j + 1) k ++ ((get_or d i 0 / 64 % 64, get_or d i 0 % 64) ∷ [])) on)
+moves_append : (d e : List ℕ) → moves_of (d ++ e) ≡ moves_of d ++ moves_of e
+unfolding moves_of
+moves_append [] e = refl
+moves_append (x ∷ d) e = ap (λ (ms : List (ℕ × ℕ)). (x / 64 % 64, x % 64) ∷ ms) (moves_append d e)
 
-entries-set : (d : List ℕ) (q x j k : ℕ) → j + k ≤ q → entries (set d q x) j k ≡ entries d j k
-unfolding entries
-entries-set d q x j zero h = refl
-entries-set d q x j (suc k) h =
-    rw (get_or-set_other d q j x 0 (λ e. omega arith), entries-set d q x (j + 1) k (omega arith)) refl
+one_move : (x p q : ℕ) → x / 64 % 64 ≡ p → x % 64 ≡ q → moves_of (x ∷ []) ≡ (p, q) ∷ []
+unfolding moves_of
+one_move x p q first second = rw (first, second) refl
 
 -- the moves of the row in all, and those listed
 module _ (w : List ℕ) (all : List (ℕ × ℕ)) where
@@ -239,10 +230,10 @@ module _ (w : List ℕ) (all : List (ℕ × ℕ)) where
     pub long : length d ≡ 64
     pub few : k ≤ p
     pub within : p ≤ 64
-    pub left : entries d 0 k ++ row_moves w p (64 - p) ≡ all
+    pub left : moves_of (take k d) ++ row_moves w p (64 - p) ≡ all
 
   pub listing_first : (d : List ℕ) → length d ≡ 64 → row_moves w 0 64 ≡ all → Listing d 0 0
-  unfolding entries
+  unfolding moves_of
   listing_first d n e = record { long = n; few = omega arith; within = omega arith; left = e }
 
   module _ (d : List ℕ) (k p : ℕ) (l : Listing d k p) (h : p < 64) where
@@ -256,7 +247,8 @@ module _ (w : List ℕ) (all : List (ℕ × ℕ)) where
           few = omega (arith, l.few);
           within = omega arith;
           left =
-              ap (λ (r : List (ℕ × ℕ)). entries d 0 k ++ r) (sym (ap (row_moves w p) one_more ∙ row_none w p (64 - (p + 1)) e)) ∙ l.left;
+              ap (λ (r : List (ℕ × ℕ)). moves_of (take k d) ++ r) (sym (ap (row_moves w p) one_more ∙ row_none w p (64 - (p + 1)) e))
+              ∙ l.left;
         }
 
     pub listing_more : (x : ℕ) → get_or w p 0 ≡ x + 1 → x < 64 → Listing (set d k (p * 64 + x)) (k + 1) (p + 1)
@@ -264,15 +256,12 @@ module _ (w : List ℕ) (all : List (ℕ × ℕ)) where
         let d' = set d k (p * 64 + x) in
         let few = l.few in
         let long = l.long in
-        let value : get_or d' k 0 ≡ p * 64 + x = get_or-set_same d k (p * 64 + x) 0 (omega arith) in
-        let first : get_or d' k 0 / 64 % 64 ≡ p = omega arith in
-        let second : get_or d' k 0 % 64 ≡ get_or w p 0 - 1 = omega arith in
-        let added : entries d' 0 (k + 1) ≡ entries d' 0 k ++ ((get_or d' k 0 / 64 % 64, get_or d' k 0 % 64) ∷ []) =
-        ap (entries d' 0) (add-one k)
-        ∙ entries_last_one d' 0 k
-        ∙ ap (λ (i : ℕ). entries d' 0 k ++ ((get_or d' i 0 / 64 % 64, get_or d' i 0 % 64) ∷ [])) (zero-add k) in
-        let more : entries d' 0 (k + 1) ≡ entries d 0 k ++ ((p, get_or w p 0 - 1) ∷ []) =
-        added ∙ ap₂ ◌++◌ (entries-set d k (p * 64 + x) 0 k (omega arith)) (λ j. (first j, second j) ∷ []) in
+        let first : (p * 64 + x) / 64 % 64 ≡ p = omega arith in
+        let second : (p * 64 + x) % 64 ≡ get_or w p 0 - 1 = omega arith in
+        let added : take (k + 1) d' ≡ take k d ++ ((p * 64 + x) ∷ []) = rw (add-one k) (take-suc-set d k (p * 64 + x) (omega arith)) in
+        let one = one_move (p * 64 + x) p (get_or w p 0 - 1) first second in
+        let more : moves_of (take (k + 1) d') ≡ moves_of (take k d) ++ ((p, get_or w p 0 - 1) ∷ []) =
+        ap moves_of added ∙ moves_append (take k d) ((p * 64 + x) ∷ []) ∙ ap (λ (ms : List (ℕ × ℕ)). moves_of (take k d) ++ ms) one in
         let rest = row_moves w (p + 1) (64 - (p + 1)) in
         record {
           long = length-set d k (p * 64 + x) ∙ long;
@@ -280,17 +269,17 @@ module _ (w : List ℕ) (all : List (ℕ × ℕ)) where
           within = omega arith;
           left =
               ap (λ (r : List (ℕ × ℕ)). r ++ rest) more
-              ∙ append_assoc (entries d 0 k) ((p, get_or w p 0 - 1) ∷ []) rest
-              ∙ ap (λ (r : List (ℕ × ℕ)). entries d 0 k ++ r)
+              ∙ append_assoc (moves_of (take k d)) ((p, get_or w p 0 - 1) ∷ []) rest
+              ∙ ap (λ (r : List (ℕ × ℕ)). moves_of (take k d) ++ r)
               (sym (ap (row_moves w p) one_more ∙ row-some w p (64 - (p + 1)) (λ z. omega arith)))
               ∙ l.left;
         }
 
-  pub listing_last : (d : List ℕ) (k p : ℕ) → Listing d k p → 64 ≤ p → (k ≤ 64) × (entries d 0 k ≡ all)
+  pub listing_last : (d : List ℕ) (k p : ℕ) → Listing d k p → 64 ≤ p → (k ≤ length d) × (moves_of (take k d) ≡ all)
   listing_last d k p l h =
       let none : 64 - p ≡ 0 = omega arith in (
-        omega (arith, l.few, l.within),
-        sym (append-nil (entries d 0 k))
-            ∙ ap (λ (r : List (ℕ × ℕ)). entries d 0 k ++ r) (sym (ap (row_moves w p) none ∙ row_end w p))
+        omega (arith, l.few, l.within, l.long),
+        sym (append-nil (moves_of (take k d)))
+            ∙ ap (λ (r : List (ℕ × ℕ)). moves_of (take k d) ++ r) (sym (ap (row_moves w p) none ∙ row_end w p))
             ∙ l.left,
       )

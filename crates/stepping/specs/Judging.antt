@@ -11,7 +11,7 @@
 --     row_moves w p k      the moves that the row w has for the k positions from p on, ascending: where it has x + 1 for a position,
 --                         one from there to x
 -- Assumes nothing.
-use Rattle.std.specs.Prelude.{ℕ, zero, suc, ◌+◌, ◌-◌, ◌≤◌, ◌≡◌, Bool, not, cond, ◌&&◌, List, [], ◌∷◌, ltb, eqb}
+use Rattle.std.specs.Prelude.{ℕ, zero, suc, ◌+◌, ◌-◌, ◌≤◌, ◌≡◌, Bool, cond, ◌&&◌, List, [], ◌∷◌, ltb, eqb}
 use Rattle.std.specs.Prelude.{length, get_or, set, replicate}
 use Rattle.answers.specs.Answer.{accepted}
 use Rattle.order.specs.Floor.{Floor}

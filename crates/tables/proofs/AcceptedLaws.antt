@@ -6,7 +6,7 @@
 --     gave_accepted      and that it accepted
 -- Assumes nothing.
 use Prim.Native.Nat.{ℕ, ◌+◌, ◌*◌, ◌≤◌}
-use mathlib.Core.Path.{◌≡◌, refl, sym, ap, ◌∙◌}
+use mathlib.Core.Path.{◌≡◌, refl, sym, ◌∙◌}
 use mathlib.Core.Bool.{false, ◌&&◌}
 use mathlib.Core.List.{List, [], ◌∷◌}
 use mathlib.Core.Logic.{⊎_elim, ◌≢◌}
@@ -22,10 +22,6 @@ use Rattle.field.proofs.UnitLaws.{or_left, or_right, fitting}
 use Rattle.order.specs.Floor.{some}
 use Rattle.order.specs.Order.{position_count, edge_count, rack_count, floor_of, starts_of, goals_of, order_of, repeats, wrong_places}
 use Rattle.order.specs.Order.{wrong_racks, wrong_length, unit_count, counts, order_answer, WellFormed}
-use Rattle.order.specs.declared.Counts.{Counts}
-use Rattle.order.specs.declared.OrderVerdict.{OrderVerdict}
-use Rattle.order.specs.declared.OrderVerdict.TheVariants.{Accepted}
-use Rattle.order.specs.Verdict.{answer_of}
 use Rattle.order.proofs.OrderLaws.{right_order, formed_head, well_formed}
 use Rattle.order.proofs.TailLaws.{tail_room}
 use Rattle.motion.specs.Arrangement.{occupied, vacant}
@@ -131,9 +127,8 @@ order_gave o n e m a =
       room = tail_room o e m es ms fit;
     }
 
-pub order_accepted : {o : List ℕ} {v : OrderVerdict} {c : Counts} → answer_of v ≡ order_answer o → v ≡ Accepted c
-    → OrderGave o c.positions c.edges c.racks
-order_accepted told up = order_gave _ _ _ _ (sym (ap answer_of up) ∙ told)
+pub order_accepted : {o : List ℕ} {n e m : ℕ} → accepted (n ∷ e ∷ m ∷ []) ≡ order_answer o → OrderGave o n e m
+order_accepted told = order_gave _ _ _ _ told
 
 pub gave_accepted : {o : List ℕ} {n e m : ℕ} → OrderGave o n e m → accepted (n ∷ e ∷ m ∷ []) ≡ order_answer o
 unfolding counts floor_of

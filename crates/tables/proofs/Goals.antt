@@ -2,7 +2,7 @@
 --
 --     Left i                                before rack i + 1, what is left to look up decides
 --     left-first, left-next, left_none      how the loop begins, goes on and ends: no rack is misplaced
---     found                                 or with the lowest that is
+--     rack_found                            or with the lowest that is
 -- Assumes nothing.
 use Prim.Native.Nat.{ℕ, suc, ◌+◌, ◌-◌, ◌*◌, ◌≤◌, ◌<◌}
 use mathlib.Core.Path.{◌≡◌, refl, sym, ap, ◌∙◌}
@@ -14,6 +14,9 @@ use native.Mathlib.Numerals.{add-one}
 use borrow.Author.Tests.{eq-eqb, ne_eqb}
 use lib.ListN.{get_or}
 use lib.Dec.{eqb}
+use Rattle.std.specs.Prelude.{Some, None}
+use Rattle.answers.specs.Found.{found}
+use Rattle.answers.proofs.AnswerLaws.{found_some}
 use Rattle.field.specs.Bits.{field, positions}
 use Rattle.field.proofs.RecordLaws.{positions-next}
 use Rattle.tables.specs.Tables.{misplaced_on, MisplacedOn}
@@ -32,10 +35,11 @@ module _ (s : List ℕ) (from m : ℕ) (h : List ℕ) where
     unfolding Left misplaced_on
     next = rw (here, e) (ap (misplaced_on (suc i) h) (sym (positions-next s from i m k)) ∙ left)
 
-    pub found : (w ≡ i + 1 → ⊥) → MisplacedOn h (positions s (6 * from) m) m (i + 1)
-    found d =
+    pub rack_found : (w ≡ i + 1 → ⊥) → MisplacedOn h (positions s (6 * from) m) m (Some (i + 1))
+    rack_found d =
         let one : i + 1 ≡ suc i = add-one i in
-        record { is = one ∙ rw (ne_eqb w (suc i) (λ c. d (c ∙ sym one))) at next; at_most = omega arith }
+        let is : i + 1 ≡ misplaced_on 1 h (positions s (6 * from) m) = one ∙ rw (ne_eqb w (suc i) (λ c. d (c ∙ sym one))) at next in
+        record { is = found_some (i + 1) (omega arith) ∙ ap found is; at_most = omega (arith, is) }
 
     pub left-next : w ≡ i + 1 → Left (i + 1)
     unfolding Left
@@ -44,8 +48,9 @@ module _ (s : List ℕ) (from m : ℕ) (h : List ℕ) where
         let again = rw (eq-eqb w (suc i) (c ∙ one)) at next in
         ap (λ (r : ℕ). misplaced_on (suc r) h (positions s (6 * (from + (i + 1))) (m - (i + 1)))) one ∙ again
 
-  pub left_none : (i : ℕ) → Left i → m ≤ i → MisplacedOn h (positions s (6 * from) m) m 0
+  pub left_none : (i : ℕ) → Left i → m ≤ i → MisplacedOn h (positions s (6 * from) m) m None
   unfolding Left misplaced_on positions
   left_none i left k =
       let none : m - i ≡ 0 = omega arith in
-      record { is = rw none at left; at_most = omega arith }
+      let is : 0 ≡ misplaced_on 1 h (positions s (6 * from) m) = rw none at left in
+      record { is = ap found is; at_most = omega (arith, is) }

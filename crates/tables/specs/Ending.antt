@@ -3,11 +3,11 @@
 --
 --     end_of r h      how the replay ended: stopped with the fault and the place that r has, or at the table h
 -- Assumes nothing.
-use Rattle.std.specs.Prelude.{ℕ, List}
+use Rattle.std.specs.Prelude.{ℕ, List, Result, Ok, Err}
 use Rattle.answers.specs.Answer.{number_of}
 use Rattle.motion.specs.Replay.{Replayed, ended, stopped}
-use Rattle.tables.specs.declared.Replay.{Replay}
+use Rattle.answers.specs.declared.Refusal.{Refusal}
 
-abbrev pub end_of : Replay → List ℕ → Replayed
-end_of Replay.Ended h = ended h
-end_of (Replay.Stopped f place) h = stopped (number_of f) place
+abbrev pub end_of : {X : Type 0} → Result X Refusal → List ℕ → Replayed
+end_of (Ok _) h = ended h
+end_of (Err r) h = stopped (number_of r.0) r.1

@@ -12,8 +12,9 @@
 --     MisplacedOn h G m r      r is that rack, where the goals G are those of racks 1 to m, so that it is at most m
 --     judged_on l G counts x    the answer for a replay on tables that ended as x, as Judgement has it for arrangements
 -- Assumes nothing.
-use Rattle.std.specs.Prelude.{ℕ, suc, ◌+◌, ◌*◌, ◌≤◌, ◌≡◌, Bool, not, cond, List, [], ◌∷◌, get_or, set, eqb}
+use Rattle.std.specs.Prelude.{ℕ, suc, ◌+◌, ◌*◌, ◌≤◌, ◌≡◌, Bool, not, cond, List, [], ◌∷◌, Option, get_or, set, eqb}
 use Rattle.answers.specs.Answer.{Answer, accepted, refused, refuse}
+use Rattle.answers.specs.Found.{found}
 use Rattle.motion.specs.Move.{fault_by, misnamed}
 use Rattle.motion.specs.Replay.{Replayed, ended, stopped}
 
@@ -48,9 +49,9 @@ unfoldable pub misplaced_on : ℕ → List ℕ → List ℕ → ℕ
 misplaced_on r h [] = 0
 misplaced_on r h (g ∷ G) = cond (eqb (get_or h g 0) r) (misplaced_on (suc r) h G) r
 
-pub record MisplacedOn (h G : List ℕ) (m r : ℕ) : Type 0 where
-  pub is : r ≡ misplaced_on 1 h G
-  pub at_most : r ≤ m
+pub record MisplacedOn (h G : List ℕ) (m : ℕ) (r : Option ℕ) : Type 0 where
+  pub is : r ≡ found (misplaced_on 1 h G)
+  pub at_most : misplaced_on 1 h G ≤ m
 
 unfoldable pub judged_on : ℕ → List ℕ → List ℕ → Replayed → Answer
 judged_on off goals counts (stopped number place) = refused number place

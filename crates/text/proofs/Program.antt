@@ -2,10 +2,10 @@
 --
 --     end_within                           the order ends within the input
 --     order_is, plan_is                    the parts of the input, as the code cuts them
---     refused_text, refusal_told           a refusal's line
+--     refused_text                         a refusal's line
 --     record_is                            the timetable at the front of the buffer, and where it ends
 --     made-packed, made_fits, made_text    it can be printed, and its text is the program's
---     refusal_text, part-within, part-packed, part_fits, part_text    the same, of what the program knows
+--     refusal_text, part_there, part-within, part-packed, part_fits, part_text    the same, of what the program knows
 -- Assumes nothing.
 use Prim.Native.Nat.{ℕ, ◌-◌, ◌≤◌}
 use mathlib.Core.Path.{◌≡◌, refl, sym, ap, ap₂, ◌∙◌, subst}
@@ -13,18 +13,18 @@ use mathlib.Core.List.{List, [], ◌∷◌, ◌++◌}
 use native.Mathlib.Omega.{arith}
 use lib.ListN.{length, take, drop, replicate, length-append, length-replicate}
 use lib.Seq.{take_at}
-use Rattle.answers.specs.declared.Fault.{Fault}
+use Rattle.answers.specs.declared.Refusal.{Refusal}
+use Rattle.answers.specs.Found.{found}
+use Rattle.answers.proofs.AnswerLaws.{some_found, none_found}
+use Rattle.std.specs.Prelude.{Result, Ok, Err, Some, None}
 use Rattle.answers.specs.Answer.{Answer, accepted, refused, number_of}
 use Rattle.field.proofs.RecordLaws.{rest_is}
-use Rattle.field.specs.Writing.{Fits, Wrote}
-use Rattle.field.proofs.WritingLaws.{wrote_as}
+use Rattle.field.specs.Writing.{Fits}
 use Rattle.timetable.specs.Timetable.{timetable_record, steps_of}
 use Rattle.timetable.specs.Reading.{WellPacked}
 use Rattle.timetable.specs.RecordLength.{whole_timetable_length}
 use Rattle.timetable.proofs.RecordLengthLaws.{timetable-length_found}
 use Rattle.timetable.proofs.TimetableRecord.{record_well_packed, steps_of_record}
-use Rattle.scheduling.specs.declared.MakerVerdict.{MakerVerdict}
-use Rattle.scheduling.specs.declared.MakerVerdict.TheVariants.{Accepted, Refused}
 use Rattle.scheduling.specs.Maker.{made_of, maker_answer, buffer_after, answer_of}
 use Rattle.scheduling.proofs.MakerLaws.{MakerGave, maker_gave, maker_record, made_packable}
 use Rattle.scheduling.specs.Maker.{Timetabled}
@@ -79,6 +79,9 @@ module _ (s o p B : List ℕ) (eo : o ≡ order_part s) (ep : p ≡ plan_part s)
     end_is : whole_timetable_length b ≡ length (timetable_record (made_of o p))
     end_is = (timetable-length_found b).only (timetable_record (made_of o p)) rest begins packed.length_right
 
+    pub there : whole_timetable_length b ≡ 0 → ⊥
+    there z = (timetable-length_found b).none z (timetable_record (made_of o p)) rest begins packed.length_right
+
     pub end_fits : whole_timetable_length b ≤ length b
     end_fits = omega (arith, end_is, ap length begins, length-append (timetable_record (made_of o p)) rest)
 
@@ -109,31 +112,33 @@ lent : length buffer ≡ 65536
 lent = length-replicate {A = ℕ} 65536 0
 
 -- what the program knows: the order of its input s ends at byte e, and the maker gave the verdict v
-module _ (s : List ℕ) {e : ℕ} (h : e ≡ order_end s) {v : MakerVerdict}
+module _ (s : List ℕ) {e : ℕ} (h : e ≡ order_end s) {v : Result ℕ Refusal}
     (said : answer_of v ≡ maker_answer (take e s) (take (length s - e) (drop e s)) (length buffer)) where
-  pub refusal_text : {f : Fault} {place : ℕ} → v ≡ Refused f place → refusal_line (number_of f) place ≡ program_text s
+  pub refusal_text : {r : Refusal} → v ≡ Err r → refusal_line (number_of r.0) r.1 ≡ program_text s
   refusal_text t =
       refused_text s _ _ buffer (order_is s e h) (plan_is s e h) lent _ _ (ap answer_of (sym t) ∙ said)
 
-  -- it accepted, left b in its buffer, and a timetable of n bytes stands at the front of b
-  module _ {k : ℕ} (t : v ≡ Accepted k) {b : List ℕ}
-      (left : b ≡ buffer_after (take e s) (take (length s - e) (drop e s)) buffer) {n : ℕ}
-      (found : n ≡ whole_timetable_length b) where
+  -- it accepted, and left b in its buffer
+  module _ {k : ℕ} (t : v ≡ Ok k) {b : List ℕ} (left : b ≡ buffer_after (take e s) (take (length s - e) (drop e s)) buffer) where
     told : accepted (k ∷ []) ≡ maker_answer (take e s) (take (length s - e) (drop e s)) (length buffer)
     told = ap answer_of (sym t) ∙ said
 
-    pub part-within : n ≤ length b
-    part-within = rw found (end_fits s _ _ _ (order_is s e h) (plan_is s e h) lent _ told b left)
+    pub part_there : None ≡ found (whole_timetable_length b) → ⊥
+    part_there f = there s _ _ _ (order_is s e h) (plan_is s e h) lent _ told b left (none_found _ f)
 
-    pub part-packed : WellPacked (take n b)
-    part-packed = made-packed s _ _ _ (order_is s e h) (plan_is s e h) lent _ told b left n found
+    -- a timetable of n bytes stands at its front
+    module _ {n : ℕ} (f : Some n ≡ found (whole_timetable_length b)) where
+      ends : n ≡ whole_timetable_length b
+      ends = (some_found _ _ f).0
 
-    pub part_fits : (out : List ℕ) → length out ≡ 524288 → Fits out 0 (timetable_text (steps_of (take n b)))
-    part_fits = made_fits s _ _ _ (order_is s e h) (plan_is s e h) lent _ told b left n found
+      pub part-within : n ≤ length b
+      part-within = rw ends (end_fits s _ _ _ (order_is s e h) (plan_is s e h) lent _ told b left)
 
-    pub part_text : timetable_text (steps_of (take n b)) ≡ program_text s
-    part_text = made_text s _ _ _ (order_is s e h) (plan_is s e h) lent _ told b left n found
+      pub part-packed : WellPacked (take n b)
+      part-packed = made-packed s _ _ _ (order_is s e h) (plan_is s e h) lent _ told b left n ends
 
--- the line, of its number by another name
-pub refusal_told : (q : ℕ) {s t : List ℕ} {r n m : ℕ} → n ≡ m → Wrote s 0 (refusal_line n q) t r → Wrote s 0 (refusal_line m q) t r
-refusal_told q e w = wrote_as (ap (λ (k : ℕ). refusal_line k q) e) w
+      pub part_fits : (out : List ℕ) → length out ≡ 524288 → Fits out 0 (timetable_text (steps_of (take n b)))
+      part_fits = made_fits s _ _ _ (order_is s e h) (plan_is s e h) lent _ told b left n ends
+
+      pub part_text : timetable_text (steps_of (take n b)) ≡ program_text s
+      part_text = made_text s _ _ _ (order_is s e h) (plan_is s e h) lent _ told b left n ends

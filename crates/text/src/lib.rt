@@ -3,19 +3,13 @@
 #![tactic(auto)]
 
 ghost use Rattle.std.specs.Prelude.{◌≡◌, false, ◌*◌, ◌≤◌, length, get_or};
-ghost use Rattle.answers.specs.Answer.{number_of};
 ghost use Rattle.field.specs.Bits.{pairs};
 ghost use Rattle.field.specs.Writing.{Fits, Wrote};
 ghost use Rattle.timetable.specs.Timetable.{step_length, step_count, step_moves, steps_of, wrong_timetable_length};
 ghost use Rattle.timetable.specs.Reading.{WellPacked};
-ghost use Rattle.writers.specs.Lines.{refusal_line};
 ghost use Rattle.text.specs.Text.{move_text, moves_text, step_line, step_lines, first_line, timetable_text};
 ghost use Rattle.text.specs.Split.{order_end};
 ghost use Rattle.text.specs.Program.{program_text};
-
-use answers::Fault;
-use scheduling::MakerVerdict;
-use timetable::TimetableVerdict;
 
 // A move as `a>b`, with a space before it.
 fn put_move(left: usize, entered: usize, out: &mut [u8], at: usize) -> usize
@@ -34,11 +28,9 @@ fn put_moves(moves: &[u8], count: usize, out: &mut [u8], at: usize) -> usize
     ensures { Wrote out.old at (moves_text (pairs moves.now 0 count)) out.new result }
 {
     let mut next = at;
-    let mut j = 0;
-    while j < count {
+    for j in 0..count {
         let pair = field::pair_at(moves, j);
         next = put_move(pair.first, pair.second, out, next);
-        j += 1;
     }
     next
 }
@@ -49,7 +41,7 @@ fn put_step(number: usize, step: &[u8], out: &mut [u8], at: usize) -> usize
     ensures { Wrote out.old at (step_line number (step_moves step.now)) out.new result }
 {
     let at = writers::put_decimal(number, out, at);
-    let at = put_moves(&step[1..], field::wide(step[0]), out, at);
+    let at = put_moves(&step[1..], usize::from(step[0]), out, at);
     writers::put_byte(b'\n', out, at)
 }
 
@@ -61,12 +53,10 @@ fn put_steps(timetable: &[u8], steps: usize, out: &mut [u8], at: usize) -> usize
 {
     let mut begin = 3;
     let mut next = at;
-    let mut i = 0;
-    while i < steps {
+    for i in 0..steps {
         let end = begin + timetable::step_length(timetable[begin]);
         next = put_step(i + 1, &timetable[begin..end], out, next);
         begin = end;
-        i += 1;
     }
     next
 }
@@ -88,29 +78,18 @@ pub fn put_timetable(timetable: &[u8], out: &mut [u8], at: usize) -> usize
     requires { WellPacked timetable.now × Fits out.old at (timetable_text (steps_of timetable.now)) }
     ensures { Wrote out.old at (timetable_text (steps_of timetable.now)) out.new result }
 {
-    let TimetableVerdict::Accepted { steps, moves } = timetable::read(timetable) else {
-        return at;
+    let Ok(counts) = timetable::read(timetable) else {
+        unreachable!()
     };
-    let at = put_first_line(steps, moves, out, at);
-    put_steps(timetable, steps, out, at)
+    let at = put_first_line(counts.steps, counts.moves, out, at);
+    put_steps(timetable, counts.steps, out, at)
 }
 
 // Where the order ends in a program's input: the whole input, where that ends before the order does.
 pub fn order_end(input: &[u8]) -> usize
     ensures { result ≡ order_end input.now }
 {
-    let end = order::record_length(input);
-    if end == 0 {
-        return input.len();
-    }
-    end
-}
-
-// A refusal's line, at the front of `out`.
-fn print_refusal(fault: Fault, place: u32, out: &mut [u8; 524288]) -> usize
-    ensures { Wrote out.old 0 (refusal_line (number_of fault) place) out.new result }
-{
-    writers::put_refusal(answers::number(fault), place, out, 0)
+    order::record_length(input).unwrap_or(input.len())
 }
 
 // The timetable program on its whole input: writes what it prints at the front of `out`, leaves every byte behind it, and says how many
@@ -122,9 +101,11 @@ pub fn timetable_program(input: &[u8], out: &mut [u8; 524288]) -> usize
     let end = order_end(input);
     let mut buffer = [0u8; 65536];
     match scheduling::make(&input[..end], &input[end..], &mut buffer) {
-        MakerVerdict::Refused(fault, place) => print_refusal(fault, place, out),
-        MakerVerdict::Accepted(_) => {
-            let len = timetable::record_length(&buffer);
+        Err(refusal) => writers::put_refusal(refusal, out, 0),
+        Ok(_) => {
+            let Some(len) = timetable::record_length(&buffer) else {
+                unreachable!()
+            };
             put_timetable(&buffer[..len], out, 0)
         }
     }

@@ -30,9 +30,10 @@ pub record Has (s : List ℕ) (i : ℕ) : Type 0 where
   pub high : i ≤ step_count s
 
 module _ (s : List ℕ) (i : ℕ) where
-  pub number_gave : (v : List ℕ) → number_answer s i ≡ accepted v → Has s i
+  pub number_gave : (v : List ℕ) → accepted v ≡ number_answer s i → Has s i
   unfolding number_answer
-  number_gave v e =
+  number_gave v told =
+      let e = sym told in
       let above = refuse (eqb i 0 || ltb (step_count s) i) 45 0 (reading_answer s) in
       let below = pass_up-low (reading_answer s) above v e in
       let right : (eqb i 0 || ltb (step_count s) i) ≡ false =
@@ -62,7 +63,7 @@ module _ (s : List ℕ) (i : ℕ) where
     pub given_has : Has s i
     given_has =
         let low = pass_up-low (number_answer s i) _ (at ∷ n ∷ []) above in
-        number_gave low.0 low.1
+        number_gave low.0 (sym low.1)
 
     pub given_at : offset s i ≡ at
     given_at = cc same

@@ -1,6 +1,6 @@
 -- The reader of 40 and 41.
 --
---     pad_room, pad_there, pad_clear    the pad of a step, read from the part that begins at its second byte
+--     pad_room, pad_told            the pad of a step, read from the part that begins at its second byte
 --     remembered, kept              whether a pad bit was set, after one more step
 --     Left s k at moves seen i    the loop over the k steps of s, before step i + 1, which begins at byte `at`: what
 --                                 is left to judge decides
@@ -8,7 +8,7 @@
 --     past, runs_past, left-over    40, where a step begins or ends past the end, and where bytes are left over
 --     part_length                   the part that is cut out is as long as its count byte says
 --     pads_set                      41, where a pad bit was set
---     short, passed_up, spare_set, sound    the reader's answers above the steps'
+--     short, handed_on, spare_set, sound    the reader's answers above the steps'
 -- Assumes nothing.
 use Prim.Native.Nat.{ℕ, ◌+◌, ◌-◌, ◌*◌, ◌≤◌, ◌<◌}
 use mathlib.Core.Path.{◌≡◌, refl, sym, ap, ◌∙◌}
@@ -19,14 +19,18 @@ use native.Mathlib.Nat.{sub-zero, zero-add, add-zero, add_assoc}
 use borrow.Author.Tests.{ne_eqb, eq-eqb, lt-ltb, le-ltb}
 use lib.ListN.{length, get_or, take, drop, length-drop}
 use lib.Dec.{eqb}
-use Rattle.answers.specs.Answer.{Answer, accepted, refused, refuse, pass_up}
-use Rattle.answers.proofs.AnswerLaws.{pass_up_refused, pass_up_accepted}
+use Rattle.std.specs.Prelude.{Result, IsErrAnd}
+use Rattle.answers.specs.Answer.{accepted, refused, refused_by, refuse, pass_up}
+use Rattle.answers.specs.declared.Refusal.{Refusal}
+use Rattle.answers.proofs.AnswerLaws.{pass_up_accepted, handed_up}
 use Rattle.field.specs.Bits.{field, pad}
 use Rattle.field.proofs.BitLaws.{field-drop}
 use Rattle.field.proofs.RecordLaws.{rest_is, up_to_byte}
 use Rattle.order.specs.Floor.{some}
-use Rattle.timetable.specs.Timetable.{step_length, step_parts, step_pad_set, parts_of, step_count, wrong_timetable_length}
+use Rattle.timetable.specs.Timetable.{step_length, step_parts, step_pad_set, parts_of, step_count}
 use Rattle.timetable.specs.Timetable.{timetable_padding_set}
+use Rattle.timetable.specs.declared.Counts.{Counts}
+use Rattle.timetable.specs.Checking.{told, answer_of_check}
 use Rattle.timetable.specs.Reading.{steps_answer, reading_answer, wrong_steps, total}
 use Rattle.timetable.proofs.StepLaws.{part_at, next_at, parts_next, parts_none, Room, wrong_past, wrong_short_lem, wrong_next, wrong_left}
 use Rattle.timetable.proofs.StepLaws.{right_end, wrong_length_lem, head_part_at, cut_is, cut_length}
@@ -42,13 +46,9 @@ module _ (p : List ℕ) (e : length p ≡ step_length (get_or p 0 0)) where
         let twelve : 6 * (2 * c) ≡ 12 * c = omega arith in
         g ∙ rw (rest_is 1 p, twelve, ← h) (sym (field-drop p 1 (12 * c) (pad (12 * c))))
 
-    pub pad_there : (r ≡ 0 → ⊥) → true ≡ step_pad_set p
+    pub pad_told : not (eqb r 0) ≡ step_pad_set p
     unfolding step_pad_set
-    pad_there d = simp (← pad_read, ne_eqb r 0 d)
-
-    pub pad_clear : r ≡ 0 → false ≡ step_pad_set p
-    unfolding step_pad_set
-    pad_clear z = simp (← pad_read, eq-eqb r 0 z)
+    pad_told = rw pad_read refl
 
 -- a set pad bit is remembered
 pub remembered : (set seen b : Bool) → set ≡ true → b ≡ true → set ≡ (seen || b)
@@ -161,21 +161,24 @@ module _ (s : List ℕ) where
   unfolding reading_answer
   short h = simp (wrong_length_lem s, lt-ltb (length s) 3 h)
 
-  module _ (h : 3 ≤ length s) (count : ℕ) (ec : count ≡ field s 0 22) (a : Answer) (ea : a ≡ steps_answer count (drop 3 s)) where
-    steps_are : a ≡ steps_answer (step_count s) (drop 3 s)
+  module _ (h : 3 ≤ length s) (count : ℕ) (ec : count ≡ field s 0 22) where
+    same_steps : steps_answer count (drop 3 s) ≡ steps_answer (step_count s) (drop 3 s)
     unfolding step_count
-    steps_are = ea ∙ ap (λ (k : ℕ). steps_answer k (drop 3 s)) ec
+    same_steps = ap (λ (k : ℕ). steps_answer k (drop 3 s)) ec
 
-    -- a refusal of the steps is the answer
-    pub passed_up : (n p : ℕ) → a ≡ refused n p → a ≡ reading_answer s
-    passed_up n p r = steps_are ∙ pass_up_refused _ _ n p (sym steps_are ∙ r) ∙ sym (reading_is s h)
+    -- r is what `?` makes of the refusal e of the steps
+    pub handed_on : (r : Result Counts Refusal) (e : Refusal) → IsErrAnd r (λ x. x ≡ e)
+        → refused_by e.0 e.1 ≡ steps_answer count (drop 3 s) → answer_of_check r ≡ reading_answer s
+    handed_on r e is down = handed_up told r e is (down ∙ same_steps) _ ∙ sym (reading_is s h)
 
-    module _ (v : List ℕ) (r : a ≡ accepted v) (x : ℕ) (ex : x ≡ field s 22 2) where
-      over : reading_answer s ≡ refuse (not (eqb x 0)) 41 0 a
-      over = reading_is s h ∙ pass_up_accepted _ _ v (sym steps_are ∙ r) ∙ rw (ex, steps_are) refl
+    module _ (v : List ℕ) (ev : accepted v ≡ steps_answer count (drop 3 s)) (x : ℕ) (ex : x ≡ field s 22 2) where
+      over : reading_answer s ≡ refuse (not (eqb x 0)) 41 0 (accepted v)
+      over =
+          let steps_are = ev ∙ same_steps in
+          reading_is s h ∙ pass_up_accepted _ _ v (sym steps_are) ∙ rw (ex, steps_are) refl
 
       pub spare_set : (x ≡ 0 → ⊥) → refused 41 0 ≡ reading_answer s
       spare_set d = sym (over ∙ rw (ne_eqb x 0 d) refl)
 
-      pub sound : x ≡ 0 → a ≡ reading_answer s
+      pub sound : x ≡ 0 → accepted v ≡ reading_answer s
       sound z = sym (over ∙ rw (eq-eqb x 0 z) refl)

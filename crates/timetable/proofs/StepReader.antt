@@ -13,10 +13,13 @@ use native.Mathlib.Omega.{arith}
 use borrow.Author.Tests.{eq-eqb, ne_eqb, lt-ltb, le-ltb}
 use lib.ListN.{length, get_or, take, drop}
 use lib.Dec.{ltb, eqb}
-use Rattle.answers.specs.Answer.{Answer, accepted, refused, refuse, pass_up}
-use Rattle.answers.proofs.AnswerLaws.{pass_up_accepted}
+use Rattle.std.specs.Prelude.{Result, IsErrAnd}
+use Rattle.answers.specs.Answer.{accepted, refused, refused_by, refuse}
+use Rattle.answers.specs.declared.Refusal.{Refusal}
+use Rattle.answers.proofs.AnswerLaws.{pass_up_accepted, handed_up}
 use Rattle.timetable.specs.Timetable.{step_length, step_count, steps_length, offset, step_part, step_answer}
-use Rattle.timetable.specs.Reading.{reading_answer, number_answer, part_given}
+use Rattle.timetable.specs.declared.Part.{Part}
+use Rattle.timetable.specs.Reading.{told, reading_answer, number_answer, part_given, answer_of_step}
 use Rattle.timetable.proofs.StepLaws.{length-part_at}
 use Rattle.timetable.proofs.ReadingLaws.{reading_gave, step_answer_is, Stands, stands-next, stands_room, step_room, step_part_is}
 use Rattle.timetable.proofs.HandedOut.{Has, given_part}
@@ -56,9 +59,10 @@ stands_there s k i at low high within up stands =
     )
 
 module _ (s : List ℕ) (i : ℕ) where
-  pub not_found : (a : Answer) (n p : ℕ) → a ≡ number_answer s i → a ≡ refused n p → refused n p ≡ step_answer s i
-  not_found a n p e r =
-      sym (step_answer_is s i ∙ ap (λ (b : Answer). pass_up b (accepted (offset s i ∷ length (step_part s i) ∷ []))) (sym e ∙ r))
+  -- r is what `?` makes of the refusal e of 40, 41 or 45
+  pub not_found : (r : Result Part Refusal) (e : Refusal) → IsErrAnd r (λ x. x ≡ e) → refused_by e.0 e.1 ≡ number_answer s i
+      → answer_of_step r ≡ step_answer s i
+  not_found r e is down = handed_up told r e is down _ ∙ sym (step_answer_is s i)
 
   module _ (has : Has s i) (at n : ℕ) (there : at ≡ offset s i) (e : n ≡ step_length (get_or s at 0)) where
     length_is : n ≡ length (step_part s i)
@@ -68,10 +72,10 @@ module _ (s : List ℕ) (i : ℕ) where
         (ap length (step_part_is s has.length_right i has.low has.high)
         ∙ length-part_at s (offset s i) (step_room s has.length_right i has.low has.high))
 
-    pub found : (a : Answer) (v : List ℕ) → a ≡ number_answer s i → a ≡ accepted v → accepted (at ∷ n ∷ []) ≡ step_answer s i
-    found a v g r =
+    pub found : (v : List ℕ) → accepted v ≡ number_answer s i → accepted (at ∷ n ∷ []) ≡ step_answer s i
+    found v g =
         ap₂ (λ (b m : ℕ). accepted (b ∷ m ∷ [])) there length_is
-        ∙ sym (step_answer_is s i ∙ pass_up_accepted (number_answer s i) _ v (sym g ∙ r))
+        ∙ sym (step_answer_is s i ∙ pass_up_accepted (number_answer s i) _ v (sym g))
 
   -- the part that the code cuts out
   pub part_given_lem : (at n : ℕ) → step_answer s i ≡ accepted (at ∷ n ∷ []) → take (at + n - at) (drop at s) ≡ part_given s i

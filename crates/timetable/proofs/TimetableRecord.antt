@@ -31,7 +31,7 @@ use Rattle.field.proofs.UnitLaws.{or_left, or_right}
 use Rattle.field.proofs.WholeBytes.{bits_of_append, padded-whole, to_bytes-whole, length_whole, to_bytes_append}
 use Rattle.order.specs.Floor.{some}
 use Rattle.timetable.specs.Timetable.{all_step_bits, timetable_bits, timetable_record, step_length, step_count, step_parts}
-use Rattle.timetable.specs.Timetable.{parts_of, wrong_timetable_length, step_pad_set, timetable_padding_set, step_moves, steps_of}
+use Rattle.timetable.specs.Timetable.{parts_of, step_pad_set, timetable_padding_set, step_moves, steps_of}
 use Rattle.timetable.specs.Reading.{WellPacked, wrong_steps}
 use Rattle.timetable.proofs.StepLaws.{step_length-some, wrong_length_lem, length-moves}
 use Rattle.timetable.proofs.ReadingLaws.{count_steps}

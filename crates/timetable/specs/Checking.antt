@@ -1,11 +1,15 @@
--- The verdict on a timetable as document 01's answer.
+-- The result of reading a timetable, or of checking one, as document 01's answer.
 --
---     answer_of_check r         the verdict r on a timetable, on its structure alone or for an order, as an answer
+--     told c                    the counts that are told
+--     answer_of_check r         the result r on a timetable, on its structure alone or for an order, as an answer
 -- Assumes nothing.
-use Rattle.std.specs.Prelude.{[], ◌∷◌}
-use Rattle.answers.specs.Answer.{Answer, accepted, refused_by}
-use Rattle.timetable.specs.declared.TimetableVerdict.{TimetableVerdict}
+use Rattle.std.specs.Prelude.{ℕ, List, [], ◌∷◌, Result}
+use Rattle.answers.specs.Answer.{Answer, answer_by}
+use Rattle.answers.specs.declared.Refusal.{Refusal}
+use Rattle.timetable.specs.declared.Counts.{Counts}
 
-abbrev pub answer_of_check : TimetableVerdict → Answer
-answer_of_check (TimetableVerdict.Accepted steps moves) = accepted (steps ∷ moves ∷ [])
-answer_of_check (TimetableVerdict.Refused f place) = refused_by f place
+abbrev pub told : Counts → List ℕ
+told c = c.steps ∷ c.moves ∷ []
+
+abbrev pub answer_of_check : Result Counts Refusal → Answer
+answer_of_check = answer_by told

@@ -14,13 +14,14 @@
 --     place_given p s i       and where it stands in memory, where s stands at p: a place is a block and an offset in it, in bytes
 --     answer_of_step r         the step reader's verdict r as an answer
 -- Assumes nothing.
-use Rattle.std.specs.Prelude.{ℕ, zero, suc, ◌+◌, ◌≤◌, ◌≡◌, Bool, true, false, not, ◌||◌, List, [], ◌∷◌, length, get_or, drop, ltb, eqb}
-use Rattle.answers.specs.Answer.{Answer, accepted, refused, refuse, refused_by, pass_up}
+use Rattle.std.specs.Prelude.{ℕ, zero, suc, ◌+◌, ◌≤◌, ◌≡◌, Bool, true, false, not}
+use Rattle.std.specs.Prelude.{◌||◌, List, [], ◌∷◌, length, get_or, drop, ltb, eqb, Result}
+use Rattle.answers.specs.Answer.{Answer, accepted, refused, refuse, pass_up, answer_by}
 use Rattle.order.specs.Floor.{some}
 use Rattle.timetable.specs.Timetable.{step_length, step_parts, step_pad_set, parts_of, step_count, wrong_timetable_length}
 use Rattle.timetable.specs.Timetable.{timetable_padding_set, step_answer, step_part}
-use Rattle.timetable.specs.declared.StepVerdict.{StepVerdict}
-use Rattle.timetable.specs.declared.StepVerdict.TheVariants.{Found, Refused}
+use Rattle.answers.specs.declared.Refusal.{Refusal}
+use Rattle.timetable.specs.declared.Part.{Part}
 
 pub record StepSize (c n : ℕ) : Type 0 where
   pub size_is : n ≡ step_length c
@@ -71,6 +72,8 @@ part_given s i = given_by (step_answer s i) (step_part s i)
 unfoldable pub place_given : ℕ × ℕ → List ℕ → ℕ → ℕ × ℕ
 place_given p s i = (p.0, begins_at (step_answer s i) + p.1)
 
-abbrev pub answer_of_step : StepVerdict → Answer
-answer_of_step (Found offset len) = accepted (offset ∷ len ∷ [])
-answer_of_step (Refused f place) = refused_by f place
+abbrev pub told : Part → List ℕ
+told p = p.offset ∷ p.len ∷ []
+
+abbrev pub answer_of_step : Result Part Refusal → Answer
+answer_of_step = answer_by told

@@ -21,7 +21,7 @@
 --     step_part s i            the part of s that is step i
 --     step_answer s i          the step reader's answer for step i of s
 -- Assumes nothing.
-use Rattle.std.specs.Prelude.{ℕ, zero, suc, ◌+◌, ◌-◌, ◌*◌, ◌/◌, Bool, true, not, ◌||◌, List, [], ◌∷◌, ◌++◌, map}
+use Rattle.std.specs.Prelude.{ℕ, zero, suc, ◌+◌, ◌-◌, ◌*◌, ◌/◌, Bool, not, ◌||◌, List, [], ◌∷◌, ◌++◌, map}
 use Rattle.std.specs.Prelude.{length, get_or, take, drop, ltb, eqb}
 use Rattle.answers.specs.Answer.{Answer, accepted, refuse, pass_up}
 use Rattle.field.specs.Bits.{bits, field, pairs, pair_bits, pad, padded, to_bytes}

@@ -5,58 +5,53 @@
 #![tactic(auto)]
 
 ghost use Rattle.std.specs.Prelude.{◌≡◌, false, ◌≤◌, ◌<◌, length, get_or, drop};
+ghost use Rattle.answers.specs.Found.{found};
 ghost use Rattle.timetable.specs.Timetable.{step_length, step_pad_set, wrong_timetable_length, step_count};
 ghost use Rattle.timetable.specs.Timetable.{offset, step_answer};
 ghost use Rattle.timetable.specs.Reading.{StepSize, steps_answer, reading_answer, number_answer, part_given, place_given, answer_of_step};
 ghost use Rattle.timetable.specs.Checking.{answer_of_check};
 ghost use Rattle.timetable.specs.RecordLength.{whole_timetable_length};
 
-use answers::Fault;
+use answers::{Fault, Refusal};
 
-// The verdict on a timetable, on its structure alone or for an order, with the counts of an accepted one.
+// The counts of an accepted timetable.
 #[derive(Clone, Copy)]
-pub enum TimetableVerdict {
-    Accepted { steps: usize, moves: usize },
-    Refused(Fault, u32),
+pub struct Counts {
+    pub steps: usize,
+    pub moves: usize,
 }
 
-// Where a step stands in the lent timetable, or why it is not handed out.
+// Where a step stands in the lent timetable.
 #[derive(Clone, Copy)]
-pub enum StepVerdict {
-    Found { offset: usize, len: usize },
-    Refused(Fault, u32),
+pub struct Part {
+    pub offset: usize,
+    pub len: usize,
 }
 
 // The length in bytes of a step of c moves: its count byte, its moves and its pad.
 pub fn step_length(c: u8) -> usize
     ensures { StepSize c result }
 {
-    1 + (12 * field::wide(c) + 7) / 8
+    1 + (12 * usize::from(c) + 7) / 8
 }
 
-// The length of the timetable that the bytes begin with, by its step count and its count bytes alone; 0 where the bytes end before it
-// does.
-pub fn record_length(bytes: &[u8]) -> usize
-    ensures { result ≡ whole_timetable_length bytes.now }
+// The length of the timetable that the bytes begin with, by its step count and its count bytes alone, if they do not end before it does.
+pub fn record_length(bytes: &[u8]) -> Option<usize>
+    ensures { result ≡ found (whole_timetable_length bytes.now) }
 {
     if bytes.len() < 3 {
-        return 0;
+        return None;
     }
     let count = field::count_at_head(bytes);
     let mut end = 3;
-    let mut i = 0;
-    while i < count {
-        if bytes.len() <= end {
-            return 0;
-        }
-        let size = step_length(bytes[end]);
+    for _ in 0..count {
+        let size = step_length(*bytes.get(end)?);
         if bytes.len() - end < size {
-            return 0;
+            return None;
         }
         end += size;
-        i += 1;
     }
-    end
+    Some(end)
 }
 
 // Whether a pad bit of a step is set. The step is the whole part, from its count byte to its pad.
@@ -64,83 +59,71 @@ fn pad_set(step: &[u8]) -> bool
     requires { length step.now ≡ step_length (get_or step.now 0 0) }
     ensures { result ≡ step_pad_set step.now }
 {
-    if field::pad_after(&step[1..], 2 * field::wide(step[0])) != 0 {
-        return true;
-    }
-    false
+    field::pad_after(&step[1..], 2 * usize::from(step[0])) != 0
 }
 
 // 40 and 41 of the steps alone, from the fourth byte on. A set pad bit is remembered and not answered at once: 40 is judged to the end.
-fn read_steps(timetable: &[u8], count: usize) -> TimetableVerdict
+fn read_steps(timetable: &[u8], count: usize) -> Result<Counts, Refusal>
     requires { 3 ≤ length timetable.now }
     ensures { answer_of_check result ≡ steps_answer count (drop 3 timetable.now) }
 {
     let mut at = 3;
     let mut moves = 0;
     let mut pad_seen = false;
-    let mut i = 0;
-    while i < count {
-        if timetable.len() <= at {
-            return TimetableVerdict::Refused(Fault::TimetableLength, 0);
-        }
-        let c = timetable[at];
+    for _ in 0..count {
+        let Some(&c) = timetable.get(at) else {
+            return Err(Refusal(Fault::TimetableLength, 0));
+        };
         let size = step_length(c);
         if timetable.len() - at < size {
-            return TimetableVerdict::Refused(Fault::TimetableLength, 0);
+            return Err(Refusal(Fault::TimetableLength, 0));
         }
         let next = at + size;
         if pad_set(&timetable[at..next]) {
             pad_seen = true;
         }
-        moves += field::wide(c);
+        moves += usize::from(c);
         at = next;
-        i += 1;
     }
     if at < timetable.len() {
-        return TimetableVerdict::Refused(Fault::TimetableLength, 0);
+        return Err(Refusal(Fault::TimetableLength, 0));
     }
     if pad_seen {
-        return TimetableVerdict::Refused(Fault::TimetablePadding, 0);
+        return Err(Refusal(Fault::TimetablePadding, 0));
     }
-    TimetableVerdict::Accepted {
+    Ok(Counts {
         steps: count,
         moves,
-    }
+    })
 }
 
 // 40 and 41: the verdict on any byte string as a timetable record.
-pub fn read(timetable: &[u8]) -> TimetableVerdict
+pub fn read(timetable: &[u8]) -> Result<Counts, Refusal>
     ensures { answer_of_check result ≡ reading_answer timetable.now }
 {
     if timetable.len() < 3 {
-        return TimetableVerdict::Refused(Fault::TimetableLength, 0);
+        return Err(Refusal(Fault::TimetableLength, 0));
     }
     let count = field::count_at_head(timetable);
-    let steps = read_steps(timetable, count);
-    let TimetableVerdict::Accepted { steps: _, moves: _ } = steps else {
-        return steps;
-    };
+    let counts = read_steps(timetable, count)?;
     if field::spare_at_head(timetable) != 0 {
-        return TimetableVerdict::Refused(Fault::TimetablePadding, 0);
+        return Err(Refusal(Fault::TimetablePadding, 0));
     }
-    steps
+    Ok(counts)
 }
 
 // 45, above 40 and 41.
-fn read_number(timetable: &[u8], number: usize) -> TimetableVerdict
+fn read_number(timetable: &[u8], number: usize) -> Result<Counts, Refusal>
     ensures { answer_of_check result ≡ number_answer timetable.now number }
 {
-    let reading = read(timetable);
-    let TimetableVerdict::Accepted { steps, moves: _ } = reading else {
-        return reading;
-    };
+    let counts = read(timetable)?;
     if number == 0 {
-        return TimetableVerdict::Refused(Fault::StepNumber, 0);
+        return Err(Refusal(Fault::StepNumber, 0));
     }
-    if steps < number {
-        return TimetableVerdict::Refused(Fault::StepNumber, 0);
+    if counts.steps < number {
+        return Err(Refusal(Fault::StepNumber, 0));
     }
-    reading
+    Ok(counts)
 }
 
 // Where step `number` begins, in a timetable that has it: the steps before it are passed one by one.
@@ -149,27 +132,22 @@ fn offset_of(timetable: &[u8], number: usize) -> usize
     ensures { (result ≡ offset timetable.now number) × (result < length timetable.now) }
 {
     let mut at = 3;
-    let mut i = 1;
-    while i < number {
+    for _ in 1..number {
         at += step_length(timetable[at]);
-        i += 1;
     }
     at
 }
 
 // 40, 41 and 45: where step `number` stands, for any byte string and any number.
-pub fn find_step(timetable: &[u8], number: usize) -> StepVerdict
+pub fn find_step(timetable: &[u8], number: usize) -> Result<Part, Refusal>
     ensures { answer_of_step result ≡ step_answer timetable.now number }
 {
-    let reading = read_number(timetable, number);
-    let TimetableVerdict::Refused(fault, place) = reading else {
-        let offset = offset_of(timetable, number);
-        return StepVerdict::Found {
-            offset,
-            len: step_length(timetable[offset]),
-        };
-    };
-    StepVerdict::Refused(fault, place)
+    read_number(timetable, number)?;
+    let offset = offset_of(timetable, number);
+    Ok(Part {
+        offset,
+        len: step_length(timetable[offset]),
+    })
 }
 
 // Step `number` as that part of the lent timetable itself, its count byte first and its pad last; the empty part where it is refused,
@@ -178,8 +156,7 @@ pub fn step<'a>(timetable: &'a [u8], number: usize) -> &'a [u8]
     ensures bytes { result.now ≡ part_given timetable.now number }
     ensures place { result.ref_ptr ≡ place_given timetable.entry.ref_ptr timetable.now number }
 {
-    let found = find_step(timetable, number);
-    let StepVerdict::Found { offset, len } = found else {
+    let Ok(Part { offset, len }) = find_step(timetable, number) else {
         return &timetable[0..0];
     };
     let end = offset + len;

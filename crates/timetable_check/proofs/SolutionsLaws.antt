@@ -5,11 +5,10 @@
 use Prim.Native.Nat.{ℕ}
 use mathlib.Core.List.{List, [], ◌∷◌}
 use mathlib.Core.Logic.{◌↔◌}
-use mathlib.Core.Path.{◌≡◌, refl, sym, ap, ◌∙◌}
+use mathlib.Core.Path.{◌≡◌, sym, ap, ◌∙◌}
 use Rattle.answers.specs.Answer.{accepted}
 use Rattle.field.specs.Bytes.{Bytes}
-use Rattle.motion.specs.StepSolutions.{steps_between}
-use Rattle.timetable.specs.Timetable.{timetable_record, step_count, steps_of, timetable_answer, move_total}
+use Rattle.timetable.specs.Timetable.{timetable_record, step_count, timetable_answer, move_total}
 use Rattle.timetable_check.specs.Solutions.{AcceptedTimetable}
 use Rattle.timetable.proofs.ReadingLaws.{total-moves}
 use Rattle.timetable_check.proofs.SizeLaws.{count_small}

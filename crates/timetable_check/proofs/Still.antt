@@ -33,7 +33,7 @@ use Rattle.motion.proofs.StepLimits.{step_racks, full_iff}
 use Rattle.tables.proofs.AcceptedLaws.{well_placed}
 use Rattle.timetable.specs.Timetable.{timetable_record, step_count, step_parts, parts_of, wrong_timetable_length, move_total, steps_length}
 use Rattle.timetable.specs.Timetable.{timetable_padding_set, steps_of, timetable_answer, timetable_length}
-use Rattle.timetable.specs.Reading.{WellPacked, wrong_steps, total}
+use Rattle.timetable.specs.Reading.{WellPacked, total}
 use Rattle.timetable.proofs.ReadingLaws.{count_steps, total-moves}
 use Rattle.timetable.proofs.TimetableRecord.{Steps, one_step, Packable, steps_of_record, record_well_packed}
 use Rattle.timetable_check.proofs.Leading.{LeadingTimetable, accepted_leads}

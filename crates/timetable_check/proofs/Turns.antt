@@ -10,11 +10,10 @@ use mathlib.Core.Path.{◌≡◌, refl, sym, ap, ◌∙◌, subst}
 use mathlib.Core.Bool.{Bool, true, false}
 use mathlib.Core.List.{List, ◌∷◌}
 use lib.ListN.{length, get_or, take, drop}
+use Rattle.answers.specs.Answer.{number_of}
 use Rattle.answers.specs.declared.Fault.{Fault}
 use Rattle.field.specs.Bits.{pairs}
-use Rattle.motion.specs.Replay.{Replayed}
-use Rattle.tables.specs.declared.Replay.{Replay}
-use Rattle.tables.specs.Ending.{end_of}
+use Rattle.motion.specs.Replay.{Replayed, ended, stopped}
 use Rattle.tables.proofs.EndingLaws.{Left, left_stops, left_goes, left_none}
 use Rattle.chains.specs.StepOn.{legal_step_on, step_on, ran_on}
 use Rattle.trains.specs.StepsOn.{step_fault_on, replay_steps_on}
@@ -54,9 +53,9 @@ module _ (s g h₀ : List ℕ) where
     legal_is : b ≡ legal_step_on g h (step_moves (part_at s at))
     legal_is = is ∙ ap (λ (p : List ℕ). legal_step_on g h (step_moves p)) (cut_is s at n size_is)
 
-    pub steps_stop : b ≡ false → end_of (Replay.Stopped Fault.TimetableStep (i + 1)) h ≡ whole
+    pub steps_stop : b ≡ false → stopped (number_of Fault.TimetableStep) (i + 1) ≡ whole
     unfolding step_fault_on
-    steps_stop f = left_stops (step_fault_on g) step_on whole i h _ _ here Fault.TimetableStep (rw (sym legal_is ∙ f)) h
+    steps_stop f = left_stops (step_fault_on g) step_on whole i h _ _ here Fault.TimetableStep (rw (sym legal_is ∙ f))
 
     ran : b ≡ true → ran_on g h (step_moves (take (at + n - at) (drop at s))) ≡ step_on h (step_moves (part_at s at))
     unfolding ran_on
@@ -70,5 +69,5 @@ module _ (s g h₀ : List ℕ) where
     steps_on t h' made =
         record { stands = rw size_is (stands-next s i at sl.stands l); left = rw (made ∙ ran t) (goes t) }
 
-  pub steps_end : (h : List ℕ) (i at : ℕ) → StepsLeft h i at → step_count s ≤ i → end_of Replay.Ended h ≡ whole
+  pub steps_end : (h : List ℕ) (i at : ℕ) → StepsLeft h i at → step_count s ≤ i → ended h ≡ whole
   steps_end h i at sl l = left_none (step_fault_on g) step_on whole i h (subst (After i h) (steps_none s i l) sl.left)

@@ -2,17 +2,21 @@
 --
 --     sound_targets   moves that the first pass passes have their targets noted
 --     sound_taking    and each takes a rack along to its target
+--     sound_few       so they are at most 64
 --     not_sound       a step that it does not pass is not legal
 --     sound           one that it passes is judged by the second
 --     stays, ran      where a step is not legal the racks stay, and else it is made
 --     not_read        more moves than are read are no legal step
 -- Assumes nothing.
-use Prim.Native.Nat.{ℕ, ◌<◌}
+use Prim.Native.Nat.{ℕ, ◌≤◌, ◌<◌}
 use mathlib.Core.Path.{◌≡◌, refl, sym, ◌∙◌, subst}
-use mathlib.Core.Bool.{Bool, true, false, ◌&&◌}
+use mathlib.Core.Bool.{Bool, true, false, ◌&&◌, false≢true}
 use mathlib.Core.List.{List, [], ◌∷◌, Memᴰ}
+use mathlib.Core.Logic.{dite}
+use native.Mathlib.Decide.{dec_lt}
+use native.Mathlib.Omega.{arith}
 use borrow.Author.Tests.{eq-eqb}
-use lib.ListN.{get_or, replicate}
+use lib.ListN.{length, get_or, replicate}
 use lib.Dec.{T}
 use mir.Facts.{and_yes}
 use Rattle.field.specs.Bits.{pairs}
@@ -53,6 +57,9 @@ module _ (g h : List ℕ) (ms : List (ℕ × ℕ)) where
         λ z. absurd (rw (eq-eqb (get_or h m.0 0) 0 z) at ((every_iff (λ m. held_at h m.0) ms).0 two.1 m k)),
         targets.goes m.0 ∙ rw (passed (leaves ms m.0) ((leaves_iff ms m.0).1 (m, k, refl)), goes_to_takes up k) refl,
       ))
+
+  pub sound_few : BelowPairs 64 ms → sound_moves g h ms ≡ true → length ms ≤ 64
+  sound_few b e = dite (dec_lt 64 (length ms)) (λ many. absurd (false≢true (sym (too_many g h b many) ∙ e))) (λ few. omega arith)
 
   pub not_sound : sound_moves g h ms ≡ false → false ≡ legal_step_on g h ms
   unfolding legal_step_on

@@ -3,6 +3,7 @@
 --     whole, whole_edge        rows with an edge from each position to each: how long a journey is does not hang on the rows
 --     near, far                (z + i) % size, before and after the cycle's last place is passed
 --     round_in, round_below    that is a place of the cycle, and so a position below 64
+--     round_on                 the place after the place j places after z
 --     round_whole              place z itself
 --     round-apart              those of i = 1, .., size are different positions
 --     round_edge               an edge leads from each to the next
@@ -29,7 +30,7 @@ use native.Mathlib.Decide.{dec_lt, ℕ_discrete}
 use native.Mathlib.Nat.{mod-lt, mod-eq_of_lt, mod-eq-sub-mod}
 use native.Mathlib.Omega.{arith}
 use lib.Dec.{leb}
-use lib.ListN.{length, get_or, replicate, get_or-replicate}
+use lib.ListN.{length, replicate, get_or-replicate}
 use borrow.Author.Tests.{lt-ltb, le-ltb, le-leb, lt-leb}
 use Rattle.field.specs.Listed.{moves_of}
 use Rattle.field.proofs.ListedLaws.{moves_of_append}
@@ -46,7 +47,7 @@ use Rattle.moving.proofs.JourneyLaws.{journey_by_none, journey_by_more, journey_
 use Rattle.moving.proofs.JourneyLaws.{fits_then, fits_less}
 use Rattle.moving.specs.OnePlace.{Enterable, Passed, Simple}
 use Rattle.turning.specs.Turned.{Round, VacantPlace, Turnable, Turned}
-use Rattle.turning.specs.Turned.{vacant_place, round_from, is_rack, is_real, pass_move, pass_moves, turn_by, turn_moves, turn_written}
+use Rattle.turning.specs.Turned.{vacant_place, round_from, is_rack, is_real, pass_move, pass_moves, turn_by}
 use Rattle.turning.specs.Turned.{TurnJourney, TurnShown}
 
 whole : List ℕ
@@ -64,6 +65,10 @@ far x size l h = mod-eq-sub-mod l ∙ mod-eq_of_lt (omega arith)
 
 pub round_in : (z size : ℕ) → z < size → (i : ℕ) → (z + i) % size < size
 round_in z size hz i = mod-lt (z + i) (omega arith)
+
+round_on : (at : ℕ → ℕ) (z size : ℕ) {b i : ℕ} (j : ℕ) → i ≡ j + 1 → b ≡ at ((z + j + 1) % size)
+    → b ≡ round_from at z size i
+round_on at z size {i = i} j e is = is ∙ ap (λ (k : ℕ). at (k % size)) (let same : z + j + 1 ≡ z + i = omega arith in same)
 
 module _ (at : ℕ → ℕ) (z size : ℕ) (hz : z < size) where
   pub round_below : Simple at size → (i : ℕ) → round_from at z size i < 64
@@ -367,12 +372,14 @@ module _ {at : ℕ → ℕ} {z size : ℕ} {s : State} {l t : List ℕ} (v : Vac
       pub underway_fits : Fits s l t size → 1 < i → Fits s' l' t' 1
       underway_fits f hi = let high = u.high in fits_then (fits_less (size - i + 1) (omega arith) f) whole_journey
 
-      pub underway_enterable : Enterable (round_from at z size (i - 1)) (round_from at z size i) (row s'.racks)
-      underway_enterable =
+      pub underway_enterable : {a b : ℕ} (j : ℕ) → i ≡ j + 1 → a ≡ round_from at z size j → b ≡ at ((z + j + 1) % size)
+          → Enterable a b (row s'.racks)
+      underway_enterable j e leaves enters =
+          let into = round_on at z size j e enters in
           record {
-            leaves = round_below at z size v.before simple (i - 1);
-            enters = round_below at z size v.before simple i;
-            vacant = u.turning.vacant;
+            leaves = subst (λ (p : ℕ). p < 64) (sym leaves) (round_below at z size v.before simple j);
+            enters = subst (λ (p : ℕ). p < 64) (sym into) (round_below at z size v.before simple i);
+            vacant = ap (row s'.racks) into ∙ u.turning.vacant;
           }
 
     module _ {s'' : State} {l'' t'' : List ℕ} where
@@ -393,17 +400,17 @@ module _ {at : ℕ → ℕ} {z size : ℕ} {s : State} {l t : List ℕ} (v : Vac
                 (round-apart at z size v.before simple) hi (omega arith) moved u.turning;
           }
 
-      pub underway_next : (i : ℕ) → 1 < i
-          → JourneyOn (Joins (round_from at z size (i - 1)) (round_from at z size i)) 1 s' l' t' s'' l'' t''
-          → Passed (round_from at z size (i - 1)) (round_from at z size i) (row s'.racks) (row s''.racks)
-          → Underway at z size i s l t s' l' t' → Underway at z size (i - 1) s l t s'' l'' t''
-      underway_next i hi =
-          let e : i - 1 + 1 ≡ i = omega arith in
-          subst
-          (λ (n : ℕ). JourneyOn (Joins (round_from at z size (i - 1)) (round_from at z size n)) 1 s' l' t' s'' l'' t''
-          → Passed (round_from at z size (i - 1)) (round_from at z size n) (row s'.racks) (row s''.racks)
-          → Underway at z size n s l t s' l' t' → Underway at z size (i - 1) s l t s'' l'' t'')
-          e (underway_one (i - 1) (omega arith))
+      pub underway_next : {a b i : ℕ} (j : ℕ) → i ≡ j + 1 → 0 < j → a ≡ round_from at z size j → b ≡ at ((z + j + 1) % size)
+          → JourneyOn (Joins a b) 1 s' l' t' s'' l'' t'' → Passed a b (row s'.racks) (row s''.racks)
+          → Underway at z size i s l t s' l' t' → Underway at z size j s l t s'' l'' t''
+      underway_next {a} j e hj leaves enters step moved u =
+          let into = round_on at z size j refl enters in
+          underway_one j hj
+          (subst (λ (p : ℕ). JourneyOn (Joins p (round_from at z size (j + 1))) 1 s' l' t' s'' l'' t'') leaves
+          (subst (λ (q : ℕ). JourneyOn (Joins a q) 1 s' l' t' s'' l'' t'') into step))
+          (subst (λ (p : ℕ). Passed p (round_from at z size (j + 1)) (row s'.racks) (row s''.racks)) leaves
+          (subst (λ (q : ℕ). Passed a q (row s'.racks) (row s''.racks)) into moved))
+          (subst (λ (n : ℕ). Underway at z size n s l t s' l' t') e u)
 
   module _ {s' : State} {l' t' : List ℕ} {i : ℕ} (le : i ≤ 1) (u : Underway at z size i s l t s' l' t') where
     one : i ≡ 1

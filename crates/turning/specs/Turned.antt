@@ -16,7 +16,7 @@
 --     Turned at size h k      every content of the cycle, vacancies too, stands one place on; nothing else moved
 --     TurnShown at size s s'  the three things shown of a turn: legal moves, one place on, no other rack
 -- Assumes nothing.
-use Rattle.std.specs.Prelude.{ℕ, zero, suc, ◌+◌, ◌-◌, ◌%◌, ◌≤◌, ◌<◌, ◌≡◌, Bool, cond, ◌&&◌, List, [], ◌∷◌, ◌++◌, ◌≢◌, ltb, leb}
+use Rattle.std.specs.Prelude.{ℕ, zero, suc, ◌+◌, ◌-◌, ◌%◌, ◌<◌, ◌≡◌, Bool, cond, ◌&&◌, List, [], ◌∷◌, ◌++◌, ◌≢◌, ltb, leb}
 use Rattle.field.specs.Listed.{moves_of}
 use Rattle.graph.specs.Rows.{row, Edge}
 use Rattle.breakdown.specs.Part.{place_of}

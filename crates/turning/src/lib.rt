@@ -2,53 +2,42 @@
 // and `undo` are the entry points.
 #![tactic(auto)]
 
-ghost use Rattle.std.specs.Prelude.{◌≡◌, ◌-◌};
+ghost use Rattle.std.specs.Prelude.{◌≡◌, ◌-◌, ◌<◌};
 ghost use Rattle.graph.specs.Rows.{row};
-ghost use Rattle.moving.specs.Journey.{state_of, Fits, Space};
+ghost use Rattle.moving.specs.Journey.{Fits, Space};
 ghost use Rattle.moving.specs.Journey.{Joins, JourneyOn};
 ghost use Rattle.moving.specs.OnePlace.{Enterable, Passed, Simple};
 ghost use Rattle.turning.specs.Turned.{Turnable, vacant_place, TurnJourney, TurnShown};
 ghost use Rattle.turning.specs.Undone.{Entries, Undoable, Undone};
 
-use moving::{Log, State, Tally};
+use moving::{Log, State};
 
-// The lowest place of the cycle that is vacant.
+// The lowest place of the cycle that is vacant: the last one, where none before it is.
 fn vacancy_on(cycle: &[u8; 64], size: usize, racks: &[u8; 64]) -> usize
     requires simple { Simple (row cycle.now) size }
     requires turnable { Turnable (row cycle.now) size (row racks.now) }
-    ensures { result ≡ vacant_place (row cycle.now) size (row racks.now) }
+    ensures lowest { result ≡ vacant_place (row cycle.now) size (row racks.now) }
+    ensures before { result < size }
 {
-    let mut i: usize = 0;
-    while i + 1 < size {
+    for i in 0..size - 1 {
         let position = cycle[i] as usize;
         if racks[position] == 0 {
             return i;
         }
-        i += 1;
     }
-    i
+    size - 1
 }
 
 // Moves what stands at a, if anything does, to b, which is vacant.
-fn pass_on(
-    a: usize,
-    b: usize,
-    real: usize,
-    racks: &mut [u8; 64],
-    log: &mut Log,
-    tail: &mut [u8],
-    tally: Tally,
-) -> Tally
-    requires enterable { Enterable a b (row racks.old) }
-    requires fits { Fits (state_of racks.old real tally) log.old tail.old 1 }
-    ensures journey_on { JourneyOn (Joins a b) 1 (state_of racks.old real tally) log.old tail.old
-        (state_of racks.new real result) log.new tail.new }
-    ensures passed { Passed a b (row racks.old) (row racks.new) }
+fn pass_on(a: usize, b: usize, state: &mut State, log: &mut Log, tail: &mut [u8])
+    requires enterable { Enterable a b (row state.old.racks) }
+    requires fits { Fits state.old log.old tail.old 1 }
+    ensures journey_on { JourneyOn (Joins a b) 1 state.old log.old tail.old state.new log.new tail.new }
+    ensures passed { Passed a b (row state.old.racks) (row state.new.racks) }
 {
-    if racks[a] == 0 {
-        return tally;
+    if state.racks[a] != 0 {
+        moving::step(a, b, state, log, tail);
     }
-    moving::step(a, b, real, racks, log, tail, tally)
 }
 
 // Turns a cycle by one place: from the vacancy at its lowest place on, the rack before it moves into it, then the one before that, and so
@@ -63,20 +52,11 @@ pub fn turn(cycle: &[u8; 64], size: usize, state: State, log: &mut Log, tail: &m
 {
     let mut state = state;
     let z = vacancy_on(cycle, size, &state.racks);
-    // The place i places after that vacancy is vacant: what stands before it moves there.
-    let mut i = size;
-    while 1 < i {
-        let b = cycle[(z + i) % size] as usize;
-        i -= 1;
+    // What stands i places after that vacancy moves to the next place, which is vacant by then.
+    for i in (1..size).rev() {
         let a = cycle[(z + i) % size] as usize;
-        let real = state.real;
-        let begun = Tally {
-            written: state.written,
-            logged: state.logged,
-        };
-        let made = pass_on(a, b, real, &mut state.racks, log, tail, begun);
-        state.written = made.written;
-        state.logged = made.logged;
+        let b = cycle[(z + i + 1) % size] as usize;
+        pass_on(a, b, &mut state, log, tail);
     }
     state
 }
@@ -89,23 +69,13 @@ pub fn undo(from: usize, to: usize, state: State, log: &Log, tail: &mut [u8]) ->
     requires space { Space state tail.old (to - from) }
     ensures { Undone log.now from to state tail.old result tail.new }
 {
-    let real = state.real;
-    let mut racks = state.racks;
-    let mut written = state.written;
-    let mut i = to;
-    while from < i {
-        i -= 1;
-        let x = log[i];
-        let a = field::first_of(x);
-        let b = field::second_of(x);
-        if racks[b] != 0 {
-            written = moving::move_rack(b, a, real, &mut racks, tail, written);
+    let mut state = state;
+    for i in (from..to).rev() {
+        let a = field::first_of(log[i]);
+        let b = field::second_of(log[i]);
+        if state.racks[b] != 0 {
+            moving::move_rack(b, a, &mut state, tail);
         }
     }
-    State {
-        racks,
-        real,
-        written,
-        logged: state.logged,
-    }
+    state
 }

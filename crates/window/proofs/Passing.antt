@@ -5,8 +5,8 @@
 --     ToPass s e from end first row₀ w₀ row w g d j    with the moves before move j passed, of those of the tail s in the edition e from
 --                                        move `from` to move `end`, begun with row₀ and w₀: the row, the window w, the greatest step g, and
 --                                        d, before which no step behind the window comes
---     pass-first, pass-next, pass_last   how that goes on
---     row_early, row-left_early          no number of the row is above what j moves give
+--     pass-next, pass_last               how that goes on
+--     turn_few                           nor is a turn above what j moves give
 -- Assumes nothing.
 use Prim.Native.Nat.{ℕ, ◌+◌, ◌-◌, ◌*◌, ◌/◌, ◌≤◌, ◌<◌, max}
 use mathlib.Core.Path.{◌≡◌, refl, sym, ap, ◌∙◌}
@@ -67,9 +67,6 @@ module _ (s : List ℕ) (e : Bool) (from end first : ℕ) (row₀ w₀ : List �
     pub early : Early j (pass_in row w g)
     pub size : length row ≡ length row₀
 
-  pub pass-first : (d : ℕ) → Early from (pass_in row₀ w₀ 0) → ToPass row₀ w₀ 0 d from
-  pass-first d early = record { to_do = refl; due = λ x h all. all; early = early; size = refl }
-
   module _ (row w : List ℕ) (g d j : ℕ) (p : ToPass row w g d j) (h : j < end) (a b : ℕ) (ea : a ≡ field s (6 * (move_size e * j)) 6)
       (eb : b ≡ field s (6 * (move_size e * j) + 6) 6) (ha : a < 64) (hb : b < 64) where
     next : (a, b) ∷ moves_at e s (6 * (move_size e * (j + 1))) (end - (j + 1)) ≡ moves_at e s (6 * (move_size e * j)) (end - j)
@@ -105,15 +102,12 @@ module _ (s : List ℕ) (e : Bool) (from end first : ℕ) (row₀ w₀ : List �
             size = length-set (set row b (u / longest_train)) (64 + a) u ∙ length-set row b (u / longest_train) ∙ p.size;
           })
 
-  -- the numbers of a row are small
-  module _ (row w : List ℕ) (g d j : ℕ) (p : ToPass row w g d j) where
-    pub row_early : (a : ℕ) → a < 64 → get_or row a 0 ≤ j
-    unfolding pass_in
-    row_early a h = omega (arith, p.early.arrivals a, get_or-take 64 row a 0 h)
-
-    pub row-left_early : (b : ℕ) → get_or row (64 + b) 0 ≤ 8 * j + 7
-    unfolding pass_in turn_number
-    row-left_early b = omega (arith, p.early.leavings b, get_or-drop 64 row b 0)
+  -- a turn is at most the eighth place of the step behind those passed
+  pub turn_few : {row w : List ℕ} {g d j : ℕ} → ToPass row w g d j → (a b : ℕ) → a < 64
+      → max (longest_train * (get_or row a 0 + 1)) (get_or row (64 + b) 0 + 1) ≤ 8 * j + 8
+  unfolding pass_in turn_number
+  turn_few {row} p a b h =
+      omega (arith, p.early.arrivals a, p.early.leavings b, get_or-take 64 row a 0 h, get_or-drop 64 row b 0)
 
   pub pass_last : (row w : List ℕ) (g d j : ℕ) → ToPass row w g d j → end ≤ j
       → PassMade first row₀ w₀ (moves_at e s (6 * (move_size e * from)) (end - from)) g d row w

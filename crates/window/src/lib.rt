@@ -3,30 +3,12 @@
 // row; `fill` is the entry point.
 #![tactic(auto)]
 
-ghost use Rattle.std.specs.Prelude.{◌≡◌, ◌+◌, ◌-◌, ◌*◌, ◌^◌, ◌≤◌, ◌<◌, max, min, length};
+ghost use Rattle.std.specs.Prelude.{◌≡◌, ◌+◌, ◌-◌, ◌*◌, ◌^◌, ◌≤◌, ◌<◌, length};
 ghost use Rattle.field.specs.Listed.{move_size, moves_at};
 ghost use Rattle.window.specs.Rows.{KeepsLeft};
 ghost use Rattle.window.specs.Filling.{noted, pass_in, Early, PassMade};
 
-// The greater of two steps.
-pub fn later(x: usize, y: usize) -> usize
-    ensures { result ≡ max x y }
-{
-    if x < y {
-        return y;
-    }
-    x
-}
-
-// The smaller of two steps, or of two numbers of moves.
-pub fn earlier(x: usize, y: usize) -> usize
-    ensures { result ≡ min x y }
-{
-    if x < y {
-        return x;
-    }
-    y
-}
+use field::Moves;
 
 // Enters the move from a to b, of step t, into the window of the 4096 steps after step `first`, if that has its step.
 fn note(
@@ -67,21 +49,14 @@ fn enter(
     ensures keeps_left { KeepsLeft window.old leaving.old window.new leaving.new }
 {
     if first + 4096 < t {
-        return earlier(due, t);
+        return due.min(t);
     }
     note(window, leaving, first, t, a, b);
     due
 }
 
-// The longest train: crates/motion has it as `longest_train`.
-const LONGEST: usize = 8;
-
-// A number of a row as an index or a step.
-fn wide(x: u32) -> usize
-    ensures { result ≡ x }
-{
-    x as usize
-}
+// The longest train, as a number of steps' places.
+const LONGEST: usize = motion::LONGEST as usize;
 
 // What a pass over a stretch finds: the greatest step, and the first one behind the window.
 #[derive(Clone, Copy)]
@@ -91,15 +66,15 @@ pub struct Found {
 }
 
 // What is due where no step lies behind the window: a number above every step, and above the last step of every window.
+// Kept as a number, not an Option: the earlier of two is then their minimum, and an Option would have each case told apart.
 const NEVER: usize = 8388608;
 
-// One pass over the moves from move `from` to move `end` of a plan's tail: enters those of the 4096 steps after step `first` into the
+// One pass over the moves from move `from` to move `end` of a plan: enters those of the 4096 steps after step `first` into the
 // window. The row has for each position the last step of the rack that now stands there, so that no arrangement is needed, and 64 numbers
 // behind it the latest turn that left the position. A turn is a move's step and the moves ahead of it in its chain there as one number, so
 // that behind the last place of a full train comes the first of the next step.
 pub fn fill(
-    tail: &[u8],
-    named: bool,
+    moves: &Moves,
     from: usize,
     end: usize,
     first: usize,
@@ -107,27 +82,25 @@ pub fn fill(
     window: &mut [u8; 262144],
     leaving: &mut [u64; 4096],
 ) -> Found
-    requires from_le_end { (from ≤ end) × (end < 2 ^ 22) × (6 * (move_size named * end) ≤ 8 * length tail.now) × (first < 2 ^ 22) }
+    requires from_le_end { (from ≤ end) × (end ≤ moves.now.count) × (first < 2 ^ 22) }
     requires early { Early from (pass_in row.old window.old 0) }
     ensures pass_made { PassMade first row.old window.old
-        (moves_at named tail.now (6 * (move_size named * from)) (end - from))
+        (moves_at moves.now.named moves.now.tail.now (6 * (move_size moves.now.named * from)) (end - from))
         result.greatest result.due row.new window.new }
     ensures keeps_left { KeepsLeft window.old leaving.old window.new leaving.new }
 {
-    let mut greatest = 0;
+    let mut greatest: usize = 0;
     let mut due = NEVER;
-    let mut j = from;
-    while j < end {
-        let step = field::move_at(tail, named, j);
+    for j in from..end {
+        let step = moves.at(j);
         let a = step.first;
         let b = step.second;
-        let turn = later(LONGEST * (wide(row[a]) + 1), wide(row[64 + b]) + 1);
+        let turn = (LONGEST * (row[a] as usize + 1)).max(row[64 + b] as usize + 1);
         let t = turn / LONGEST;
         row[b] = t as u32;
         row[64 + a] = turn as u32;
-        greatest = later(greatest, t);
+        greatest = greatest.max(t);
         due = enter(window, leaving, first, t, a, b, due);
-        j += 1;
     }
     Found { greatest, due }
 }

@@ -7,18 +7,13 @@ use Rattle.shunting.specs.Cleared.{RoomToBring}
 use Rattle.shunting.proofs.BringLaws.{brought_few}
 use Rattle.moving.proofs.JourneyLaws.{journey_append, fits_less, fits_then}
 use Rattle.moving.proofs.TableLaws.{table_went}
-use Rattle.base_ring.proofs.RingLaws.{circle_below, circle-places, ring_below, ring_robust, ring_few}
-use Rattle.base_ring.proofs.ExchangeLaws.{aside_movable, aside_on, aside_bringable, aside_again, aside-done}
+use Rattle.base_ring.proofs.RingLaws.{circle_below, ring_below, ring_robust, ring_few}
+use Rattle.base_ring.proofs.ExchangeLaws.{aside_on, aside_bringable, aside_again, aside-done}
+use Rattle.base_ring.proofs.RingLaws.{circle-places}
 use Rattle.base_ring.proofs.bring_aside.Goals as goal
 
 pub part-ring-requires : goal.part-ring-requires
 part-ring-requires c = circle-places c.requires.rows c.requires.base_ring
-
-pub make_move-stepped-requires : goal.make_move-stepped-requires
-make_move-stepped-requires c = record {
-  movable = aside_movable c.requires.rows c.requires.base_ring c.requires.fact c.requires.on_ring;
-  fits = fits_less 1 (omega arith) c.requires.fits;
-}
 
 pub where_is-stands-requires : goal.where_is-stands-requires
 where_is-stands-requires c =

@@ -8,26 +8,13 @@ use Rattle.moving.proofs.JourneyLaws.{journey_append, fits_less, fits_then}
 use Rattle.shunting.proofs.ClearLaws.{clear_room, clear_few}
 use Rattle.shunting.proofs.BringLaws.{brought_few}
 use Rattle.moving.proofs.TableLaws.{table_went}
-use Rattle.base_ring.proofs.RingLaws.{circle_below, circle_small, circle-places, held_same, ring_below, ring_robust}
+use Rattle.base_ring.proofs.RingLaws.{circle-places, held_same, ring_below, ring_robust}
 use Rattle.base_ring.proofs.RingLaws.{ring_few, ring_few_without, ring_few_last, ring-reaches-without, ring-reaches_last}
 use Rattle.base_ring.proofs.ExchangeLaws.{next_bringable, next_outside, next_held_still, next_outside_still, next-done}
 use Rattle.base_ring.proofs.bring_next.Goals as goal
 
 pub part-ring-requires : goal.part-ring-requires
 part-ring-requires c = circle-places c.requires.rows c.requires.base_ring
-
-pub where_is-stands-requires : goal.where_is-stands-requires
-where_is-stands-requires c = record {
-  n_bound = c.requires.rows.small;
-  stands = (
-    c.requires.on_ring.at,
-    record {
-      inside = circle_below c.requires.base_ring c.requires.on_ring.at
-          c.requires.on_ring.on;
-      there = c.requires.on_ring.there;
-    },
-  );
-}
 
 pub bring-brought-requires : goal.bring-brought-requires
 bring-brought-requires c =
@@ -44,11 +31,6 @@ bring-brought-requires c =
           c.where_is-stands.ensures c.requires.table c.requires.rest_held;
       room_to_bring = room;
     }
-
-pub without-free-requires : goal.without-free-requires
-without-free-requires c =
-    let three = c.requires.base_ring.three in
-    circle_small c.requires.rows c.requires.base_ring 1 (omega arith)
 
 pub clear_within-cleared-requires : goal.clear_within-cleared-requires
 clear_within-cleared-requires c =
@@ -67,11 +49,6 @@ clear_within-cleared-requires c =
           (omega arith) _ c.without-free.ensures)
           (fits_less _ (omega arith) (fits_then c.requires.fits go));
     }
-
-pub without-requires : goal.without-requires
-without-requires c =
-    let three = c.requires.base_ring.three in
-    circle_small c.requires.rows c.requires.base_ring 0 (omega arith)
 
 pub clear_within-requires : goal.clear_within-requires
 clear_within-requires c =

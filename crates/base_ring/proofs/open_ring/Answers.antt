@@ -6,9 +6,10 @@ use Rattle.moving.proofs.JourneyLaws.{trip_append, trip_anew, fits_then, fits_an
 use Rattle.shunting.proofs.ClearLaws.{clear_room, clear_few}
 use Rattle.moving.proofs.TableLaws.{table_went}
 use Rattle.base_ring.specs.Moves.{open_moves}
-use Rattle.base_ring.proofs.RingLaws.{circle_small, circle-places, ring_below, ring_few, ring_few_without}
+use Rattle.base_ring.proofs.RingLaws.{ring_below, ring_few, ring_few_without}
 use Rattle.base_ring.proofs.RingLaws.{ring-reaches, ring-reaches-without}
 use Rattle.base_ring.proofs.SettleLaws.{open_rest, open_first, open_done}
+use Rattle.base_ring.proofs.RingLaws.{circle-places}
 use Rattle.base_ring.proofs.open_ring.Goals as goal
 
 pub part-ring-requires : goal.part-ring-requires
@@ -27,11 +28,6 @@ clear_within-cleared-requires c =
       room_to_clear = clear_room (ring_few c.requires.rows c.requires.base_ring _ c.part-ring.ensures)
           (fits_anew _ (omega arith) (omega arith) c.requires.room);
     }
-
-pub without-requires : goal.without-requires
-without-requires c =
-    let three = c.requires.base_ring.three in
-    circle_small c.requires.rows c.requires.base_ring 0 (omega arith)
 
 pub clear_within-requires : goal.clear_within-requires
 clear_within-requires c =

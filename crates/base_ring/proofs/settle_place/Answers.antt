@@ -7,18 +7,6 @@ use Rattle.moving.proofs.TableLaws.{table_went}
 use Rattle.base_ring.proofs.SettleLaws.{place-goal, place_held, place_same, place-done}
 use Rattle.base_ring.proofs.settle_place.Goals as goal
 
-pub bounds-goal-p : goal.bounds-goal-p
-bounds-goal-p c =
-    let small = c.requires.rows.small in
-    let x = c.requires.base_ring.below c.args.i c.requires.le_i.1 in
-    omega arith
-
-pub bounds-state-p : goal.bounds-state-p
-bounds-state-p c =
-    let small = c.requires.rows.small in
-    let x = c.requires.base_ring.below c.args.i c.requires.le_i.1 in
-    omega arith
-
 pub returns-then-a-b : goal.returns-then-a-b
 returns-then-a-b c = record {
   trip = trip_more _ (omega arith) (trip_none _ _);

@@ -5,12 +5,6 @@ use native.Mathlib.Omega.{arith}
 use Rattle.base_ring.proofs.MoveLaws.{swap-first, swap-second, swap_third, swap-done, fits_by}
 use Rattle.base_ring.proofs.swap.Goals as goal
 
-pub pass_by-away-requires : goal.pass_by-away-requires
-pass_by-away-requires c = record {
-  passable_by = swap-first c.requires.swappable;
-  fits = fits_less 2 (omega arith) c.requires.fits;
-}
-
 pub pass_by-there-requires : goal.pass_by-there-requires
 pass_by-there-requires c = record {
   passable_by = swap-second c.requires.swappable c.pass_by-away.ensures.passed;

@@ -2,25 +2,12 @@
 -- and `rest` has positions beside a alone.
 -- Assumes nothing.
 use native.Mathlib.Omega.{arith}
-use Rattle.breakdown.proofs.ChoiceLaws.{ring-enter, ring_turn, ring_leave, rest_less}
+use Rattle.breakdown.proofs.ChoiceLaws.{ring_entered, ring_no_way, ring_one_way, ring_left, rest_less}
 use Rattle.breakdown.proofs.choose_ring_at.Goals as goal
+use Rattle.breakdown.proofs.choose_ring_at.Goals.{in-Some, in_default}
 
 pub loop-rest-init : goal.loop-rest-init
-loop-rest-init c = (ring-enter c.args.rows.now _ _ _ _ c.requires.ring_choice, λ y h. h)
-
-pub ring_size-requires : goal.ring_size-requires
-ring_size-requires c =
-    let edge = c.loop-rest.invariant.1 c.lowest-b.result c.lowest-b.ensures.has in
-    record {
-      rows = c.requires.rows;
-      a_lt_n = (c.requires.a_lt_n, (c.requires.rows.inside _ _ edge).1);
-    }
-
-pub better-best-requires : goal.better-best-requires
-better-best-requires c = tt
-
-pub without-rest-requires : goal.without-rest-requires
-without-rest-requires c = c.lowest-b.ensures.upper_bound
+loop-rest-init c = (ring_entered c.args.n c.args.rows.now c.args.a c.args.best c.requires.ring_choice, λ y h. h)
 
 pub loop-rest-smaller : goal.loop-rest-smaller
 loop-rest-smaller c =
@@ -29,10 +16,15 @@ loop-rest-smaller c =
 pub loop-rest-preserved : goal.loop-rest-preserved
 loop-rest-preserved c =
     let edge = c.loop-rest.invariant.1 c.lowest-b.result c.lowest-b.ensures.has in (
-      ring_turn c.args.rows.now _ _ _ _ _ _ _ _ _ _ _ c.without-rest.ensures edge c.ring_size.ensures
-          c.better-best.ensures c.loop-rest.invariant.0,
+      elim c.match-ring_way.branch [
+        | in-Some w ↦ rw w.best-is (ring_one_way c.args.n c.args.rows.now c.args.a c.lowest-b.result c.loop-rest.rest
+            c.without-rest.result c.loop-rest.best c.without-rest.ensures edge w.in-Some.way w.better.result w.in-Some.ensures
+            w.better.ensures c.loop-rest.invariant.0)
+        | in_default w ↦ rw w.best-is (ring_no_way c.args.n c.args.rows.now c.args.a c.lowest-b.result c.loop-rest.rest
+            c.without-rest.result c.loop-rest.best c.without-rest.ensures edge w.in_default.ensures c.loop-rest.invariant.0)
+      ],
       λ y h. c.loop-rest.invariant.1 y ((c.without-rest.ensures y).0 h).0,
     )
 
 pub returns : goal.returns
-returns c = ring_leave c.args.rows.now _ _ _ _ _ (omega arith) c.loop-rest.invariant.0
+returns c = ring_left c.args.n c.args.rows.now c.args.a c.loop-rest.rest c.loop-rest.best (omega arith) c.loop-rest.invariant.0

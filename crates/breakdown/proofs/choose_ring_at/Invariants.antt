@@ -6,12 +6,12 @@ use lib.Count.{ones}
 use Rattle.sets.specs.Sets.{Has}
 use Rattle.graph.specs.Rows.{Edge}
 use Rattle.breakdown.proofs.ChoiceFacts.{Upto}
-use Rattle.breakdown.specs.Choice.{RingChoice}
+use Rattle.breakdown.specs.Choice.{Chosen, RingChoice}
 use Rattle.breakdown.proofs.choose_ring_at.Given as goal
 
 abbrev pub invariant-loop-rest : goal.invariant-loop-rest
 invariant-loop-rest l =
-    RingChoice l.n l.rows (Upto l.a l.rest) l.best.from l.best.to l.best.size × ((y : ℕ) → Has l.rest y → Edge l.rows l.a y)
+    Chosen (RingChoice l.n l.rows (Upto l.a l.rest)) l.best × ((y : ℕ) → Has l.rest y → Edge l.rows l.a y)
 
 abbrev pub decreases-loop-rest : goal.decreases-loop-rest
 decreases-loop-rest l = ones l.rest

@@ -1,6 +1,6 @@
 -- `breakdown::part` meets its contract.
 -- Assumes nothing.
-use Prim.Native.Nat.{◌-◌, ◌≤◌}
+use Prim.Native.Nat.{◌≤◌}
 use mathlib.Core.Path.{◌≡◌}
 use mathlib.Core.Logic.{◌⊎◌}
 use Rattle.graph.specs.Rows.{row}
@@ -8,7 +8,4 @@ use Rattle.breakdown.specs.Part.{Part}
 use Rattle.breakdown.proofs.part.Given as goal
 
 abbrev pub invariant-loop-i : goal.invariant-loop-i
-invariant-loop-i l = (l.from ≤ l.i) × ((l.i ≤ l.to) ⊎ (l.i ≡ l.from)) × Part (row l.order) l.from l.i l.set
-
-abbrev pub decreases-loop-i : goal.decreases-loop-i
-decreases-loop-i l = l.to - l.i
+invariant-loop-i l = ((l.i ≤ l.to) ⊎ (l.i ≡ l.from)) × Part (row l.order) l.from l.i l.set

@@ -1,32 +1,25 @@
--- `breakdown::place_of` meets its contract. The invariant: what is left of the search finds what the whole of it finds.
+-- `breakdown::place_of` meets its contract.
 -- Assumes nothing.
-use mathlib.Core.Path.{refl, sym, ◌∙◌}
-use native.Mathlib.Omega.{arith}
-use Rattle.graph.specs.Rows.{row}
-use Rattle.breakdown.proofs.PlaceLaws.{place_of_here, place_of-next, place_of_end}
+use Prim.Native.Nat.{◌-◌}
+use mathlib.Core.Path.{◌≡◌}
+use mathlib.Core.Logic.{◌≢◌}
+use borrow.Author.Tests.{tests}
+use lib.ListN.{take, drop}
+use Rattle.std.proofs.Common.{rules, Some, None}
+use Rattle.std.proofs.lemmas.Iterator.{IsFirst-from_position, YieldsList-from_slice}
+use Rattle.breakdown.proofs.PlaceLaws.{place_found}
 use Rattle.breakdown.proofs.place_of.Goals as goal
 
-pub loop-i-init : goal.loop-i-init
-loop-i-init c = (c.requires.0, refl)
+pub returns-in-Some : goal.returns-in-Some
+returns-in-Some c =
+    place_found c.args.order.now c.args.s c.args.e c.args.p (Some c.in-Some.i) c.requires.0 (rw c.told-order c.requires.1)
+    (IsFirst-from_position _ _ _ (λ q. q ≡ c.args.p) (λ q. q ≢ c.args.p) c.in-Some.ensures.ran
+    (YieldsList-from_slice (take (c.args.e - c.args.s) (drop c.args.s c.args.order.now)) c.iter.ensures.rest)
+    (λ q f k. search (rules, tests)) (λ q f k. search (rules, tests)))
 
-pub overflow_add-i : goal.overflow_add-i
-overflow_add-i c = let p = c.requires.1 in let q = c.loop-i.invariant.0 in omega arith
-
-pub bounds-order-i : goal.bounds-order-i
-bounds-order-i c = let p = c.requires.1 in omega arith
-
-pub returns-then-wide-p : goal.returns-then-wide-p
-returns-then-wide-p c =
-    sym (place_of_here (row c.args.order.now) c.args.p c.loop-i.i c.args.e (omega arith)
-    (sym c.wide.ensures.0 ∙ c.if-wide-p.true)) ∙ c.loop-i.invariant.1
-
-pub loop-i-preserved : goal.loop-i-preserved
-loop-i-preserved c = (
-  omega arith,
-  place_of-next (row c.args.order.now) c.args.p c.loop-i.i c.args.e (omega arith)
-      (λ e. c.if-wide-p.false (c.wide.ensures.0 ∙ e)) ∙ c.loop-i.invariant.1,
-)
-
-pub returns : goal.returns
-returns c =
-    sym (place_of_end (row c.args.order.now) c.args.p c.loop-i.i c.args.e (omega arith)) ∙ c.loop-i.invariant.1
+pub returns-in-None : goal.returns-in-None
+returns-in-None c =
+    place_found c.args.order.now c.args.s c.args.e c.args.p None c.requires.0 (rw c.told-order c.requires.1)
+    (IsFirst-from_position _ _ _ (λ q. q ≡ c.args.p) (λ q. q ≢ c.args.p) c.in-None.ensures.ran
+    (YieldsList-from_slice (take (c.args.e - c.args.s) (drop c.args.s c.args.order.now)) c.iter.ensures.rest)
+    (λ q f k. search (rules, tests)) (λ q f k. search (rules, tests)))

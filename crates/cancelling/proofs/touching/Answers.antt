@@ -1,23 +1,19 @@
 -- `cancelling::touching` meets its contract. Assumes nothing.
-use Rattle.cancelling.specs.Looking.{listed_of}
-use Rattle.cancelling.proofs.LookingLaws.{move_is, touching_not, touching_first, touching_second}
+use mathlib.Core.Logic.{inl, inr, ⊎_elim}
+use Rattle.cancelling.specs.Looking.{listing}
+use Rattle.cancelling.proofs.LookingLaws.{move_is, never, touching_is}
 use Rattle.cancelling.proofs.touching.Goals as goal
-
-pub returns-then-not-has : goal.returns-then-not-has
-returns-then-not-has c =
-    let moves = listed_of c.args.named c.args.tail.now in
-    touching_not moves c.args.marks.now c.args.ends c.args.i c.has.result c.has.ensures c.if-not-has.true-raw
 
 pub returns-then-has : goal.returns-then-has
 returns-then-has c =
-    let moves = listed_of c.args.named c.args.tail.now in
-    touching_first moves c.args.marks.now c.args.ends c.args.i c.has.result c.has.ensures
-    c.if-not-has.false-raw c.move_at-step.result.first c.move_at-step.result.second (move_is _ _ _ _ _ c.move_at-step.ensures)
-    (c.has-2.ensures.0 c.if-has.true)
+    let is = touching_is (listing c.args.moves.now) c.args.marks.now c.args.ends c.args.i _ _
+    (move_is _ _ _ _ _ c.at-step.ensures) in
+    (λ h. is.1 (c.has.ensures.0 c.if-not-has.false, inl (c.has-2.ensures.0 h)), λ t. c.if-has.true)
 
-pub returns : goal.returns
-returns c =
-    let moves = listed_of c.args.named c.args.tail.now in
-    touching_second moves c.args.marks.now c.args.ends c.args.i c.has.result c.has.ensures
-    c.if-not-has.false-raw c.move_at-step.result.first c.move_at-step.result.second (move_is _ _ _ _ _ c.move_at-step.ensures)
-    c.has-2.result c.has-3.result c.has-2.ensures c.if-has.false c.has-3.ensures
+pub returns-else-has : goal.returns-else-has
+returns-else-has c =
+    let is = touching_is (listing c.args.moves.now) c.args.marks.now c.args.ends c.args.i _ _
+    (move_is _ _ _ _ _ c.at-step.ensures) in (
+      λ h. is.1 (c.has.ensures.0 c.if-not-has.false, inr (c.has-else-has.ensures.0 h)),
+      λ t. ⊎_elim (λ h. never _ c.if-has.false (c.has-2.ensures.1 h)) c.has-else-has.ensures.1 (is.0 t).1,
+    )

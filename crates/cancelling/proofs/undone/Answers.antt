@@ -1,27 +1,26 @@
 -- `cancelling::undone` meets its contract. Assumes nothing.
-use Prim.Native.Nat.{◌+◌, ◌-◌}
+use Prim.Native.Nat.{ℕ, ◌-◌}
+use mathlib.Core.Path.{◌≡◌, sym, ap, ◌∙◌}
 use native.Mathlib.Omega.{arith}
-use Rattle.cancelling.specs.Looking.{listed_of}
-use Rattle.cancelling.proofs.LookingLaws.{move_is, room_fewer, undone_first, undone_other, undone_is}
+use Rattle.cancelling.specs.Stack.{move_of}
+use Rattle.cancelling.specs.Looking.{listing}
+use Rattle.cancelling.proofs.LookingLaws.{move_is}
 use Rattle.cancelling.proofs.undone.Goals as goal
+use Rattle.cancelling.proofs.undone.Goals.{else-step-b-via-then-step-b+else-step-a, else-step-b-via-else-step-b}
 
-pub returns-then-at-eq0 : goal.returns-then-at-eq0
-returns-then-at-eq0 c =
-    let moves = listed_of c.args.named c.args.tail.now in
-    undone_first moves c.args.at c.args.a c.args.b c.if-at-eq0.true
-
-pub move_at-step-requires : goal.move_at-step-requires
-move_at-step-requires c =
-    room_fewer c.args.named (c.args.at - 1 + 1) c.args.at _ (omega (arith, c.if-at-eq0.false)) c.requires
-
-pub returns-then-step-b : goal.returns-then-step-b
-returns-then-step-b c =
-    let moves = listed_of c.args.named c.args.tail.now in
-    undone_other moves c.args.at c.args.a c.args.b c.if-at-eq0.false c.move_at-step.result.first
-    c.move_at-step.result.second (move_is _ _ _ _ _ c.move_at-step.ensures) c.if-step-b.true
+pub returns-then-step-a : goal.returns-then-step-a
+returns-then-step-a c = (
+  omega (arith, c.if-at-eq0.false),
+  rw (← c.if-step-b.true, ← c.if-step-a.true)
+      (move_is c.args.moves.now.named c.args.moves.now.tail.now (c.args.at - 1) _ _ c.at-step.ensures),
+)
 
 pub returns : goal.returns
-returns c =
-    let moves = listed_of c.args.named c.args.tail.now in
-    undone_is moves c.args.at c.args.a c.args.b c.if-at-eq0.false c.move_at-step.result.first
-    c.move_at-step.result.second (move_is _ _ _ _ _ c.move_at-step.ensures) c.if-step-b.false
+returns c h there turned =
+    let same : c.args.at - 1 ≡ h = omega arith in
+    let is = move_is c.args.moves.now.named c.args.moves.now.tail.now (c.args.at - 1) _ _ c.at-step.ensures in
+    let both = sym is ∙ ap (λ (i : ℕ). move_of (listing c.args.moves.now i)) same ∙ turned in
+    elim c.else-step-b.branch [
+      | else-step-b-via-then-step-b+else-step-a w ↦ w.if-step-a.false (ap (λ (m : ℕ × ℕ). m.1) both)
+      | else-step-b-via-else-step-b w ↦ w.if-step-b.false (ap (λ (m : ℕ × ℕ). m.0) both)
+    ]

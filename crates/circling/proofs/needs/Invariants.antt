@@ -1,11 +1,7 @@
 -- `circling::needs` meets its contract. The invariant is the record `Needing`. Assumes nothing.
-use Prim.Native.Nat.{◌+◌, ◌-◌}
 use Rattle.graph.specs.Rows.{row}
 use Rattle.circling.proofs.NeedsLaws.{Needing}
 use Rattle.circling.proofs.needs.Given as goal
 
 abbrev pub invariant-loop-r : goal.invariant-loop-r
 invariant-loop-r l = Needing l.n l.m l.from (row l.p) l.to (row l.g) l.need l.r
-
-abbrev pub decreases-loop-r : goal.decreases-loop-r
-decreases-loop-r l = l.m + 1 - l.r

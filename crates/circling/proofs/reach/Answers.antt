@@ -3,13 +3,6 @@ use native.Mathlib.Omega.{arith}
 use Rattle.circling.proofs.NeedsLaws.{distance_below}
 use Rattle.circling.proofs.reach.Goals as goal
 
-pub distance-requires : goal.distance-requires
-distance-requires c = record {
-  n_bound = c.requires.n_bound;
-  rack = c.requires.rack;
-  places = c.requires.places;
-}
-
 pub overflow_add-result : goal.overflow_add-result
 overflow_add-result c =
     let far = distance_below c.requires.places c.args.r c.requires.rack in

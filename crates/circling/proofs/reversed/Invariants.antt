@@ -1,5 +1,4 @@
 -- `circling::reversed` meets its contract. The invariant: the places before j are written. Assumes nothing.
-use Prim.Native.Nat.{◌-◌, ◌<◌}
 use mathlib.Core.Path.{◌≡◌}
 use lib.ListN.{length}
 use Rattle.graph.specs.Rows.{row}
@@ -7,7 +6,4 @@ use Rattle.circling.proofs.LandsLaws.{Mirrored}
 use Rattle.circling.proofs.reversed.Given as goal
 
 abbrev pub invariant-loop-j : goal.invariant-loop-j
-invariant-loop-j l = (0 < l.j) × (length l.back ≡ 64) × Mirrored l.n (row l.circle) (row l.back) l.j
-
-abbrev pub decreases-loop-j : goal.decreases-loop-j
-decreases-loop-j l = l.n - l.j
+invariant-loop-j l = (length l.back ≡ 64) × Mirrored l.n (row l.circle) (row l.back) l.j

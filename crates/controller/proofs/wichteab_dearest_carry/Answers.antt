@@ -9,18 +9,18 @@ use Rattle.controller.proofs.wichteab_dearest_carry.Goals as goal
 
 pub start_goal_moves-requires : goal.start_goal_moves-requires
 start_goal_moves-requires c =
-    room_of start-goal-moves-pack (carry_sized _ _) (ap answer_of (sym c.in-Found.is) ∙ c.make.ensures.result_value)
+    room_of start-goal-moves-pack (carry_sized _ _) (ap answer_of (sym c.in-Ok.is) ∙ c.make.ensures.result_value)
 
-pub returns-in-Found : goal.returns-in-Found
-returns-in-Found c = record {
+pub returns-in-Ok : goal.returns-in-Ok
+returns-in-Ok c = record {
   tells = tells start-goal-moves-pack (carry_sized _ _)
-      (c.start_goal_moves.ensures ∙ ap (packed start_goal_moves) (ap answer_of (sym c.in-Found.is) ∙ c.make.ensures.result_value));
+      (c.start_goal_moves.ensures ∙ ap (packed start_goal_moves) (ap answer_of (sym c.in-Ok.is) ∙ c.make.ensures.result_value));
   buffer_after = c.make.ensures.buffer_after;
 }
 
-pub returns-in-Refused : goal.returns-in-Refused
-returns-in-Refused c = record {
+pub returns-in-Err : goal.returns-in-Err
+returns-in-Err c = record {
   tells = tells start-goal-moves-pack (carry_sized _ _)
-      (c.refusal.ensures ∙ ap (packed start_goal_moves) (ap answer_of (sym c.in-Refused.is) ∙ c.make.ensures.result_value));
+      (c.refusal.ensures ∙ ap (packed start_goal_moves) (ap answer_of (sym c.in-Err.is) ∙ c.make.ensures.result_value));
   buffer_after = c.make.ensures.buffer_after;
 }

@@ -1,20 +1,15 @@
--- `controller::wichteab_order_check` meets its contract: the verdict's answer, packed. Assumes nothing.
-use mathlib.Core.Path.{ap, sym, ◌∙◌}
+-- `controller::wichteab_order_check` meets its contract: the reader's answer, packed. Assumes nothing.
+use mathlib.Core.Path.{ap, ◌∙◌}
 use Rattle.order.specs.Order.{order_answer}
-use Rattle.order.specs.Verdict.{answer_of}
+use Rattle.order.specs.Verdict.{told}
 use Rattle.packing.specs.Packed.{packed, nothing}
 use Rattle.controller.proofs.AnswerSizes.{order_sized}
+use Rattle.controller.proofs.Judgements.{uncounted_number}
 use Rattle.packing.proofs.PackedLaws.{tells, nothing_packs, uncounted_sized, uncounted-same}
 use Rattle.controller.proofs.wichteab_order_check.Goals as goal
 
-pub returns-in-Accepted : goal.returns-in-Accepted
-returns-in-Accepted c =
-    let answer = ap answer_of (sym c.in-Accepted.is) ∙ c.read.ensures in
-    tells nothing_packs (uncounted_sized (order_sized c.args.order.now)) (ap (packed nothing) answer ∙ uncounted-same
-    (order_answer c.args.order.now))
-
-pub returns-in-Refused : goal.returns-in-Refused
-returns-in-Refused c =
-    let answer = ap answer_of (sym c.in-Refused.is) ∙ c.read.ensures in
+pub returns : goal.returns
+returns c =
     tells nothing_packs (uncounted_sized (order_sized c.args.order.now))
-    (c.refusal.ensures ∙ ap (packed nothing) answer ∙ uncounted-same (order_answer c.args.order.now))
+    (c.judged.ensures ∙ uncounted_number told c.read.result ∙ ap (packed nothing) c.read.ensures
+    ∙ uncounted-same (order_answer c.args.order.now))

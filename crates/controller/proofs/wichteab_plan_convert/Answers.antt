@@ -1,26 +1,16 @@
--- `controller::wichteab_plan_convert` meets its contract: the verdict's answer, packed, and the buffer as the
--- converter leaves it. Assumes nothing.
-use mathlib.Core.Path.{ap, sym, ◌∙◌}
-use Rattle.converting.specs.Converter.{answer_of}
+-- `controller::wichteab_plan_convert` meets its contract: the count's answer, packed, and the buffer as it is left. Assumes nothing.
+use mathlib.Core.Path.{ap, ◌∙◌}
 use Rattle.packing.specs.Packed.{packed, one_count}
 use Rattle.controller.proofs.AnswerSizes.{converter_sized}
-use Rattle.packing.proofs.PackedLaws.{room_of, tells, plan-moves-pack}
+use Rattle.controller.proofs.Judgements.{count_room}
+use Rattle.packing.proofs.PackedLaws.{tells, plan-moves-pack}
 use Rattle.controller.proofs.wichteab_plan_convert.Goals as goal
 
-pub one_count-requires : goal.one_count-requires
-one_count-requires c =
-    room_of plan-moves-pack (converter_sized _ _ _) (ap answer_of (sym c.in-Accepted.is) ∙ c.convert.ensures.result_value)
+pub counted-requires : goal.counted-requires
+counted-requires c = count_room plan-moves-pack (converter_sized _ _ _) _ c.convert.ensures.result_value
 
-pub returns-in-Accepted : goal.returns-in-Accepted
-returns-in-Accepted c = record {
-  tells = tells plan-moves-pack (converter_sized _ _ _)
-      (c.one_count.ensures ∙ ap (packed one_count) (ap answer_of (sym c.in-Accepted.is) ∙ c.convert.ensures.result_value));
-  buffer_after = c.convert.ensures.buffer_after;
-}
-
-pub returns-in-Refused : goal.returns-in-Refused
-returns-in-Refused c = record {
-  tells = tells plan-moves-pack (converter_sized _ _ _)
-      (c.refusal.ensures ∙ ap (packed one_count) (ap answer_of (sym c.in-Refused.is) ∙ c.convert.ensures.result_value));
+pub returns : goal.returns
+returns c = record {
+  tells = tells plan-moves-pack (converter_sized _ _ _) (c.counted.ensures ∙ ap (packed one_count) c.convert.ensures.result_value);
   buffer_after = c.convert.ensures.buffer_after;
 }

@@ -9,14 +9,14 @@ use Rattle.controller.proofs.wichteab_timetable_check.Goals as goal
 pub steps_and_moves-requires : goal.steps_and_moves-requires
 steps_and_moves-requires c =
     room_of steps_moves-pack (timetable_sized _ _ (λ i. (c.type_inv.timetable i).fits))
-    (ap answer_of_check (sym c.in-Accepted.is) ∙ c.check.ensures)
+    (ap answer_of_check (sym c.in-Ok.is) ∙ c.check.ensures)
 
-pub returns-in-Accepted : goal.returns-in-Accepted
-returns-in-Accepted c =
+pub returns-in-Ok : goal.returns-in-Ok
+returns-in-Ok c =
     tells steps_moves-pack (timetable_sized _ _ (λ i. (c.type_inv.timetable i).fits))
-    (c.steps_and_moves.ensures ∙ ap (packed steps_and_moves) (ap answer_of_check (sym c.in-Accepted.is) ∙ c.check.ensures))
+    (c.steps_and_moves.ensures ∙ ap (packed steps_and_moves) (ap answer_of_check (sym c.in-Ok.is) ∙ c.check.ensures))
 
-pub returns-in-Refused : goal.returns-in-Refused
-returns-in-Refused c =
+pub returns-in-Err : goal.returns-in-Err
+returns-in-Err c =
     tells steps_moves-pack (timetable_sized _ _ (λ i. (c.type_inv.timetable i).fits))
-    (c.refusal.ensures ∙ ap (packed steps_and_moves) (ap answer_of_check (sym c.in-Refused.is) ∙ c.check.ensures))
+    (c.refusal.ensures ∙ ap (packed steps_and_moves) (ap answer_of_check (sym c.in-Err.is) ∙ c.check.ensures))

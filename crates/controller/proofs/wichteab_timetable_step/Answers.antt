@@ -9,15 +9,15 @@ use Rattle.controller.proofs.wichteab_timetable_step.Goals as goal
 pub length_and_offset-requires : goal.length_and_offset-requires
 length_and_offset-requires c =
     room_of offset-length_packs (step_sized _ _ (λ i. (c.type_inv.timetable i).fits))
-    (ap answer_of_step (sym c.in-Found.is) ∙ c.find_step.ensures)
+    (ap answer_of_step (sym c.in-Ok.is) ∙ c.find_step.ensures)
 
-pub returns-in-Found : goal.returns-in-Found
-returns-in-Found c =
+pub returns-in-Ok : goal.returns-in-Ok
+returns-in-Ok c =
     tells offset-length_packs (step_sized _ _ (λ i. (c.type_inv.timetable i).fits))
     (c.length_and_offset.ensures
-    ∙ ap (packed length_and_offset) (ap answer_of_step (sym c.in-Found.is) ∙ c.find_step.ensures))
+    ∙ ap (packed length_and_offset) (ap answer_of_step (sym c.in-Ok.is) ∙ c.find_step.ensures))
 
-pub returns-in-Refused : goal.returns-in-Refused
-returns-in-Refused c =
+pub returns-in-Err : goal.returns-in-Err
+returns-in-Err c =
     tells offset-length_packs (step_sized _ _ (λ i. (c.type_inv.timetable i).fits))
-    (c.refusal.ensures ∙ ap (packed length_and_offset) (ap answer_of_step (sym c.in-Refused.is) ∙ c.find_step.ensures))
+    (c.refusal.ensures ∙ ap (packed length_and_offset) (ap answer_of_step (sym c.in-Err.is) ∙ c.find_step.ensures))

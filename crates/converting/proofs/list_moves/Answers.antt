@@ -8,7 +8,7 @@ use Rattle.converting.proofs.list_moves.Goals as goal
 
 pub loop-j-init : goal.loop-j-init
 loop-j-init c =
-    (omega arith, listing_first _ _ _ _ _ c.requires.held, refl)
+    (listing_first _ _ _ _ _ c.requires.held, refl)
 
 pub move_at-step-requires : goal.move_at-step-requires
 move_at-step-requires c =
@@ -20,17 +20,17 @@ bounds-racks-a c = omega (arith, c.move_at-step.ensures.first_below)
 pub put_listed-requires : goal.put_listed-requires
 put_listed-requires c =
     let rack = next_rack_lem c.args.tail.now c.args.named c.args.k c.args.racks.now c.args.room.now c.requires.k_in_bounds c.loop-j.racks
-    c.loop-j.room c.loop-j.j c.loop-j.invariant.1 c.loop-j-test.true _ _ c.move_at-step.ensures in
+    c.loop-j.room c.loop-j.j c.loop-j.invariant.0 c.loop-j-test.true _ _ c.move_at-step.ensures in
     let room = next_room c.args.tail.now c.args.named c.args.k c.args.racks.now c.args.room.now c.requires.k_in_bounds c.loop-j.racks
-    c.loop-j.room c.loop-j.j c.loop-j.invariant.1 c.loop-j-test.true _ _ c.move_at-step.ensures in
+    c.loop-j.room c.loop-j.j c.loop-j.invariant.0 c.loop-j-test.true _ _ c.move_at-step.ensures in
     record {
       a_bound = (
         c.move_at-step.ensures.first_below,
         c.move_at-step.ensures.second_below,
-        λ e. rw c.wide.ensures.0
-            (rack (sym c.loop-j.invariant.2 ∙ e)),
+        λ e. rw c.from.ensures
+            (rack (sym c.loop-j.invariant.1 ∙ e)),
       );
-      j_in_bounds = rw c.loop-j.invariant.2 room;
+      j_in_bounds = rw c.loop-j.invariant.1 room;
     }
 
 pub bounds-racks-a-in-loop-j : goal.bounds-racks-a-in-loop-j
@@ -44,14 +44,14 @@ bounds-racks-b c =
 pub loop-j-preserved : goal.loop-j-preserved
 loop-j-preserved c =
     let next = listing_next c.args.tail.now c.args.named c.args.k c.args.racks.now c.args.room.now c.requires.k_in_bounds c.loop-j.racks
-    c.loop-j.room c.loop-j.j c.loop-j.invariant.1 c.loop-j-test.true _ _ c.move_at-step.ensures _ c.loop-j.invariant.2
-    c.wide.result c.wide.ensures.0 _ c.put_listed.ensures in
-    (omega arith, next, c.loop-j.invariant.2)
+    c.loop-j.room c.loop-j.j c.loop-j.invariant.0 c.loop-j-test.true _ _ c.move_at-step.ensures _ c.loop-j.invariant.1
+    c.from.result c.from.ensures _ c.put_listed.ensures in
+    (next, c.loop-j.invariant.1)
 
 pub returns : goal.returns
 returns c =
     listing_last c.args.tail.now c.args.named c.args.k c.args.racks.now c.args.room.now c.loop-j.racks c.loop-j.room c.loop-j.j
-    c.loop-j.invariant.1 (omega arith)
+    c.loop-j.invariant.0 (omega arith)
 
 pub shape_of-room : goal.shape_of-room
-shape_of-room c = c.loop-j.invariant.1.long
+shape_of-room c = c.loop-j.invariant.0.long

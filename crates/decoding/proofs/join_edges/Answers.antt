@@ -5,43 +5,33 @@ use native.Mathlib.Omega.{arith}
 use Prim.Native.Nat.{◌/◌, ◌%◌}
 use mathlib.Core.Bool.{false≢true}
 use lib.ListN.{replicate}
-use Rattle.order.proofs.Edges.{left-first, not_right, left-next, first_is, second_is, left_none}
+use Rattle.order.proofs.Edges.{left-first, not_right, left-next, first_is, second_is, place_below, left_none}
 use Rattle.order.proofs.Tables.{join_first, join-next, join_last}
 use Rattle.decoding.proofs.join_edges.Goals as goal
 
 pub loop-j-init : goal.loop-j-init
-loop-j-init c = (omega arith, left-first _ _ _, join_first _ _ _)
+loop-j-init c = (left-first _ _ _, join_first _ _ _)
 
-pub returns-then-place-eq0 : goal.returns-then-place-eq0
-returns-then-place-eq0 c = record {
-  value = not_right c.args.tail.now c.args.n c.args.e c.loop-j.last c.loop-j.j c.next_edge-place.result c.loop-j.invariant.1 (omega arith)
-      c.next_edge-place.ensures c.if-place-eq0.true;
+pub returns-in_default : goal.returns-in_default
+returns-in_default c = record {
+  value = not_right c.args.tail.now c.args.n c.args.e c.loop-j.last c.loop-j.j c.loop-j.invariant.0 (omega arith) c.in_default.ensures;
   rows_after = λ y. absurd (false≢true y);
-}
-
-pub join-requires : goal.join-requires
-join-requires c = record {
-  a_bound = omega arith;
-  b_bound = omega arith;
 }
 
 pub loop-j-preserved : goal.loop-j-preserved
 loop-j-preserved c =
-    let first = first_is c.args.tail.now c.args.n c.args.e c.loop-j.last c.loop-j.j c.next_edge-place.result
-    c.loop-j.invariant.1 (omega arith)
-    c.next_edge-place.ensures c.if-place-eq0.false in
-    let second = second_is c.args.tail.now c.args.n c.args.e c.loop-j.last c.loop-j.j c.next_edge-place.result
-    c.loop-j.invariant.1 (omega arith)
-    c.next_edge-place.ensures c.if-place-eq0.false in (
-      omega arith,
-      left-next c.args.tail.now c.args.n c.args.e c.loop-j.last c.loop-j.j c.next_edge-place.result c.loop-j.invariant.1 (omega arith)
-          c.next_edge-place.ensures c.if-place-eq0.false,
-      rw c.join.ensures (join-next c.args.tail.now c.args.e (replicate 64 0) c.loop-j.rows c.loop-j.j (c.next_edge-place.result / 64)
-          (c.next_edge-place.result % 64) c.loop-j.invariant.2 (omega arith) first second),
+    let p = c.in-Some.place in
+    let first = first_is c.args.tail.now c.args.n c.args.e c.loop-j.last c.loop-j.j c.loop-j.invariant.0 (omega arith) p
+    c.in-Some.ensures in
+    let second = second_is c.args.tail.now c.args.n c.args.e c.loop-j.last c.loop-j.j c.loop-j.invariant.0 (omega arith) p
+    c.in-Some.ensures in (
+      left-next c.args.tail.now c.args.n c.args.e c.loop-j.last c.loop-j.j c.loop-j.invariant.0 (omega arith) p c.in-Some.ensures,
+      rw c.join.ensures (join-next c.args.tail.now c.args.e (replicate 64 0) c.loop-j.rows c.loop-j.j (p / 64) (p % 64)
+          c.loop-j.invariant.1 (omega arith) first second),
     )
 
 pub returns : goal.returns
 returns c = record {
-  value = left_none c.args.tail.now c.args.n c.args.e c.loop-j.last c.loop-j.j c.loop-j.invariant.1 (omega arith);
-  rows_after = λ y. join_last c.args.tail.now c.args.e (replicate 64 0) c.loop-j.rows c.loop-j.j c.loop-j.invariant.2 (omega arith);
+  value = left_none c.args.tail.now c.args.n c.args.e c.loop-j.last c.loop-j.j c.loop-j.invariant.0 (omega arith);
+  rows_after = λ y. join_last c.args.tail.now c.args.e (replicate 64 0) c.loop-j.rows c.loop-j.j c.loop-j.invariant.1 (omega arith);
 }

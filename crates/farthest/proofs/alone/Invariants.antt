@@ -1,6 +1,6 @@
 -- `farthest::alone` meets its contract. The loop's invariant: the ball of each position before u is the position alone.
 -- Assumes nothing.
-use Prim.Native.Nat.{ℕ, ◌-◌, ◌≤◌}
+use Prim.Native.Nat.{ℕ}
 use mathlib.Core.Path.{◌≡◌}
 use mathlib.Core.Logic.{◌↔◌}
 use Rattle.sets.specs.Sets.{Has}
@@ -12,7 +12,4 @@ abbrev pub Lone : ℕ → ℕ → Type 0
 Lone a s = (b : ℕ) → Has s b ↔ (b ≡ a)
 
 abbrev pub invariant-loop-u : goal.invariant-loop-u
-invariant-loop-u l = (l.u ≤ l.n) × Filled Lone l.u l.balls
-
-abbrev pub decreases-loop-u : goal.decreases-loop-u
-decreases-loop-u l = l.n - l.u
+invariant-loop-u l = Filled Lone l.u l.balls

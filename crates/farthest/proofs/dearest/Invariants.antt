@@ -4,8 +4,8 @@ use Prim.Native.Nat.{◌-◌}
 use Rattle.farthest.proofs.BallLaws.{Rounds}
 use Rattle.farthest.proofs.dearest.Given as goal
 
-abbrev pub invariant-loop-balls : goal.invariant-loop-balls
-invariant-loop-balls l = Rounds l.n l.rows l.balls l.moves l.start l.goal
+abbrev pub invariant-loop-farther : goal.invariant-loop-farther
+invariant-loop-farther l = Rounds l.n l.rows l.balls l.moves l.trip.start l.trip.goal
 
-abbrev pub decreases-loop-balls : goal.decreases-loop-balls
-decreases-loop-balls l = l.n - l.moves
+abbrev pub decreases-loop-farther : goal.decreases-loop-farther
+decreases-loop-farther l = l.n - l.moves

@@ -5,12 +5,11 @@ use Rattle.farthest.proofs.BallLaws.{filled_none, filled_next}
 use Rattle.farthest.proofs.grown.Goals as goal
 
 pub loop-u-init : goal.loop-u-init
-loop-u-init c = (omega arith, filled_none)
+loop-u-init c = filled_none
 
 pub loop-u-preserved : goal.loop-u-preserved
-loop-u-preserved c =
-    (omega arith, filled_next _ _ _ (omega arith) c.grown_ball.ensures c.loop-u.invariant.1)
+loop-u-preserved c = filled_next _ _ _ (omega arith) c.grown_ball.ensures c.loop-u.invariant
 
 pub returns : goal.returns
 returns c =
-    record { long = c.loop-u.invariant.1.long; is = λ a b h. c.loop-u.invariant.1.entry a (omega arith) b }
+    record { long = c.loop-u.invariant.long; is = λ a b h. c.loop-u.invariant.entry a (omega arith) b }

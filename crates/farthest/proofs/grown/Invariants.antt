@@ -1,6 +1,6 @@
 -- `farthest::grown` meets its contract. The loop's invariant: the ball of each position before u is one move larger.
 -- Assumes nothing.
-use Prim.Native.Nat.{ℕ, ◌-◌, ◌≤◌}
+use Prim.Native.Nat.{ℕ}
 use mathlib.Core.List.{List}
 use mathlib.Core.Logic.{◌↔◌}
 use Rattle.sets.specs.Sets.{Has}
@@ -13,7 +13,4 @@ abbrev pub Ball : List ℕ → List ℕ → ℕ → ℕ → Type 0
 Ball g l a s = (b : ℕ) → Has s b ↔ Grows g l a b
 
 abbrev pub invariant-loop-u : goal.invariant-loop-u
-invariant-loop-u l = (l.u ≤ l.n) × Filled (Ball l.rows l.balls) l.u l.larger
-
-abbrev pub decreases-loop-u : goal.decreases-loop-u
-decreases-loop-u l = l.n - l.u
+invariant-loop-u l = Filled (Ball l.rows l.balls) l.u l.larger

@@ -1,14 +1,8 @@
 -- `farthest::grown_ball` meets its contract. The invariant is the record `Growing`; each turn takes one position from the rest.
 -- Assumes nothing.
 use Rattle.sets.proofs.CountLaws.{ones-without}
-use Rattle.farthest.proofs.BallLaws.{growing_begin, growing_next, growing_end}
+use Rattle.farthest.proofs.BallLaws.{growing_next, growing_end}
 use Rattle.farthest.proofs.grown_ball.Goals as goal
-
-pub loop-rest-init : goal.loop-rest-init
-loop-rest-init c = growing_begin _ _ _
-
-pub without-rest-requires : goal.without-rest-requires
-without-rest-requires c = c.lowest-w.ensures.upper_bound
 
 pub loop-rest-smaller : goal.loop-rest-smaller
 loop-rest-smaller c = ones-without _ _ _ c.lowest-w.ensures.has c.without-rest.ensures

@@ -6,5 +6,5 @@ use Rattle.field.proofs.triple_number.Goals as goal
 
 pub returns : goal.returns
 returns c =
-    triple_is c.args.s.now c.args.j _ _ _ refl c.requires (omega (arith, c.wide.ensures)) (omega (arith, c.wide-2.ensures))
-    (omega (arith, c.wide-3.ensures)) (omega (arith, c.wide.ensures, c.wide-2.ensures, c.wide-3.ensures)) refl
+    triple_is c.args.s.now c.args.j _ _ _ refl c.requires (omega (arith, c.from.ensures)) (omega (arith, c.from-2.ensures))
+    (omega (arith, c.from-3.ensures)) (omega (arith, c.from.ensures, c.from-2.ensures, c.from-3.ensures)) refl

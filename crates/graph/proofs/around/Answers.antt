@@ -7,9 +7,6 @@ use Rattle.graph.proofs.around.Goals as goal
 pub loop-rest-init : goal.loop-rest-init
 loop-rest-init c = around_begin _ c.requires _
 
-pub without-rest-requires : goal.without-rest-requires
-without-rest-requires c = c.lowest-w.ensures.upper_bound
-
 pub loop-rest-smaller : goal.loop-rest-smaller
 loop-rest-smaller c = ones-without _ _ _ c.lowest-w.ensures.has c.without-rest.ensures
 

@@ -1,34 +1,22 @@
--- `graph::is_biconnected` meets its contract. The invariant: the floor is connected without each position below x.
+-- `graph::is_biconnected` meets its contract.
 -- Assumes nothing.
-use mathlib.Core.Bool.{false≢true}
-use mathlib.Core.Path.{sym, ◌∙◌}
+use mathlib.Core.Path.{refl}
 use native.Mathlib.Omega.{arith}
-use borrow.Author.Count.{below_more, below_none}
+use borrow.Author.Tests.{tests}
+use Rattle.std.proofs.Common.{rules}
+use Rattle.std.proofs.lemmas.Iterator.{cases_from_all, YieldsList-from_range}
+use Rattle.graph.specs.Connected.{ConnectedWithout}
+use Rattle.graph.specs.Rows.{Edge}
 use Rattle.graph.proofs.ConnectedLaws.{bi_connected_without}
-use Rattle.graph.proofs.Decision.{says-yes, says_no}
+use Rattle.graph.proofs.Decision.{says_same, says_range}
 use Rattle.graph.proofs.is_biconnected.Goals as goal
-
-pub returns-then-n-lt3 : goal.returns-then-n-lt3
-returns-then-n-lt3 c = says_no (λ b. let three = b.three in omega arith)
-
-pub loop-x-init : goal.loop-x-init
-loop-x-init c = (omega arith, omega arith, below_none _)
-
-pub is_connected_without-requires : goal.is_connected_without-requires
-is_connected_without-requires c = record {
-  rows = c.requires;
-  x_lt_n = c.loop-x-test.true;
-}
-
-pub returns-then-not-is_connected_without : goal.returns-then-not-is_connected_without
-returns-then-not-is_connected_without c =
-    says_no (λ b. false≢true (sym c.if-not-is_connected_without.true ∙ c.is_connected_without.ensures.1
-    (b.without c.loop-x.x (omega arith))))
-
-pub loop-x-preserved : goal.loop-x-preserved
-loop-x-preserved c =
-    (omega arith, omega arith, below_more _ _ c.loop-x.invariant.2 (c.is_connected_without.ensures.0 c.if-not-is_connected_without.false))
 
 pub returns : goal.returns
 returns c =
-    says-yes (bi_connected_without c.loop-x.invariant.1 (λ y s. c.loop-x.invariant.2 y (omega arith)))
+    let Cut = ConnectedWithout c.args.n (Edge c.args.rows.now) in
+    says_same
+    (λ all. bi_connected_without (omega arith) (λ y s. all y (omega arith) (omega arith)))
+    (λ b x from below. b.without x (omega arith))
+    (says_range Cut (λ x. Cut x → ⊥) (λ x yes no. no yes) c.all.result 0 c.args.n
+    (cases_from_all _ _ _ Cut (λ x. Cut x → ⊥) c.all.ensures.ran (YieldsList-from_range 0 c.args.n c.args.n refl (omega arith))
+    (λ x q k. search (rules, tests)) (λ x q k. search (rules, tests))))

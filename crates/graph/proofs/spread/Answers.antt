@@ -4,9 +4,6 @@ use native.Mathlib.Omega.{arith}
 use Rattle.graph.proofs.LevelLaws.{begin_none, begin, found, room, stop, next}
 use Rattle.graph.proofs.spread.Goals as goal
 
-pub minus-left-requires : goal.minus-left-requires
-minus-left-requires c = tt
-
 pub returns-then-fresh-eq0 : goal.returns-then-fresh-eq0
 returns-then-fresh-eq0 c =
     begin_none c.args.rows.now c.args.free c.args.targets c.args.goal _ _ c.if-fresh-eq0.true
@@ -19,31 +16,19 @@ loop-fresh-init c =
     c.minus-left.ensures
 
 pub returns-then-fresh-goal-ne0 : goal.returns-then-fresh-goal-ne0
-returns-then-fresh-goal-ne0 c =
-    found c.args.rows.now c.args.free c.args.targets c.args.goal c.loop-fresh.invariant c.if-fresh-goal-ne0.true
-
-pub around-requires : goal.around-requires
-around-requires c =
-    c.requires.symmetric
+returns-then-fresh-goal-ne0 c = (
+  omega arith,
+  found c.args.rows.now c.args.free c.args.targets c.args.goal c.loop-fresh.invariant c.if-fresh-goal-ne0.true,
+)
 
 pub returns-then-fresh-eq0-2 : goal.returns-then-fresh-eq0-2
 returns-then-fresh-eq0-2 c =
     stop c.args.rows.now c.args.free c.args.targets c.args.goal c.loop-fresh.invariant _ c.around.ensures c.if-fresh-goal-ne0.false
     c.if-fresh-eq0-2.true
 
-pub offset_bounds-levels-depth : goal.offset_bounds-levels-depth
-offset_bounds-levels-depth c = let r = c.loop-fresh.invariant.room in omega arith
-
 pub bounds-levels-depth : goal.bounds-levels-depth
 bounds-levels-depth c =
     room c.args.rows.now c.args.free c.args.targets c.args.goal c.loop-fresh.invariant _ c.around.ensures c.if-fresh-eq0-2.false
-
-pub minus-left-requires-in-loop-fresh : goal.minus-left-requires-in-loop-fresh
-minus-left-requires-in-loop-fresh c = tt
-
-pub overflow_add-depth : goal.overflow_add-depth
-overflow_add-depth c =
-    let r = c.loop-fresh.invariant.room in omega arith
 
 pub loop-fresh-smaller : goal.loop-fresh-smaller
 loop-fresh-smaller c =

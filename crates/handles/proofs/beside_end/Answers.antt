@@ -8,13 +8,13 @@ pub part-stage-requires : goal.part-stage-requires
 part-stage-requires c =
     lane-places c.requires.rows c.requires.lane_on
 
-pub offset_bounds-rows-right : goal.offset_bounds-rows-right
-offset_bounds-rows-right c =
+pub offset_bounds-rows-lane : goal.offset_bounds-rows-lane
+offset_bounds-rows-lane c =
     let small = lane_floor c.requires.rows c.requires.lane_on c.args.lane.right (right_below c.requires.rows c.requires.lane_on) in
     omega arith
 
-pub bounds-rows-right : goal.bounds-rows-right
-bounds-rows-right c =
+pub bounds-rows-lane : goal.bounds-rows-lane
+bounds-rows-lane c =
     lane_floor c.requires.rows c.requires.lane_on c.args.lane.right (right_below c.requires.rows c.requires.lane_on)
 
 pub without-requires : goal.without-requires

@@ -11,7 +11,7 @@ none : {s j : ℕ} → s ≤ j → j < s → ⊥
 none a b = omega arith
 
 pub loop-i-init : goal.loop-i-init
-loop-i-init c = (omega arith, λ j le l. absurd (none le l))
+loop-i-init c j le l = absurd (none le l)
 
 pub bounds-order-i : goal.bounds-order-i
 bounds-order-i c = let most = c.requires.most in omega arith
@@ -34,11 +34,9 @@ returns-then-racks-p c =
     says_no (λ all. c.if-racks-p.true (all c.loop-i.i (omega arith) (omega arith)))
 
 pub loop-i-preserved : goal.loop-i-preserved
-loop-i-preserved c = (
-  omega arith,
-  agreed_next (row c.args.order.now) (row c.args.goal.now) (row c.args.racks.now) c.args.s c.loop-i.i
-      c.if-racks-p.false c.loop-i.invariant.1,
-)
+loop-i-preserved c =
+    agreed_next (row c.args.order.now) (row c.args.goal.now) (row c.args.racks.now) c.args.s c.loop-i.i
+    c.if-racks-p.false c.loop-i.invariant
 
 pub returns : goal.returns
-returns c = says-yes (λ j le l. c.loop-i.invariant.1 j le (omega arith))
+returns c = says-yes (λ j le l. c.loop-i.invariant j le (omega arith))

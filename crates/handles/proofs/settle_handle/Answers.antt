@@ -23,8 +23,8 @@ returns-then-is_settled c = record {
   log_len_unchanged = refl;
 }
 
-pub beside_end-beside-requires : goal.beside_end-beside-requires
-beside_end-beside-requires c = record {
+pub beside_end-requires : goal.beside_end-requires
+beside_end-requires c = record {
   rows = c.requires.rows;
   lane_on = c.requires.lane_on;
 }
@@ -39,8 +39,8 @@ pub loop-k-init : goal.loop-k-init
 loop-k-init c =
     settling_begin c.requires.lane_placing c.requires.room
 
-pub overflow_sub-e : goal.overflow_sub-e
-overflow_sub-e c =
+pub overflow_sub-k-end : goal.overflow_sub-k-end
+overflow_sub-k-end c =
     let inner = c.requires.lane_on.handle.inner in
     omega arith
 
@@ -48,25 +48,12 @@ pub place-state-requires : goal.place-state-requires
 place-state-requires c = record {
   rows = c.requires.rows;
   lane_on = c.requires.lane_on;
-  lane_beside = c.beside_end-beside.ensures;
+  lane_beside = c.beside_end.ensures;
   lane_closed = c.close_cycle-cycle.ensures;
   lane_placing = c.loop-k.invariant.placing;
   k_bound = c.loop-k-test.true;
   room = settling_room c.loop-k.invariant c.loop-k-test.true;
 }
-
-pub overflow_add-k : goal.overflow_add-k
-overflow_add-k c =
-    let small = c.requires.rows.small in
-    let inner = c.requires.lane_on.handle.inner in
-    let within = c.requires.lane_on.within in
-    let more = c.loop-k-test.true in
-    omega arith
-
-pub loop-k-smaller : goal.loop-k-smaller
-loop-k-smaller c =
-    let more = c.loop-k-test.true in
-    omega arith
 
 pub loop-k-preserved : goal.loop-k-preserved
 loop-k-preserved c =

@@ -1,10 +1,8 @@
 -- `inspection::wichteab_inspect_clear` meets its contract: `ClearedLaws` has what each answer shows. Assumes nothing.
-use mathlib.Core.Path.{ap, sym, ◌∙◌}
-use mathlib.Core.Bool.{not, not-not}
+use mathlib.Core.Path.{sym}
 use native.Mathlib.Omega.{arith}
-use Rattle.order.specs.Verdict.{answer_of}
 use Rattle.inspection.specs.Clear.ClearLeft.{nothing}
-use Rattle.inspection.proofs.ClearedLaws.{number_short, number_refused, as_decoded, rows_right, room_right, off_floor, number_none}
+use Rattle.inspection.proofs.ClearedLaws.{number_short, number_refused, decoded, rows_right, room_right, off_floor, number_none}
 use Rattle.inspection.proofs.ClearedLaws.{told_no_way, told-moves, shown}
 use Rattle.inspection.proofs.wichteab_inspect_clear.Goals as goal
 
@@ -18,8 +16,8 @@ returns-then-buffer-lt64 c =
 
 pub returns-in_default : goal.returns-in_default
 returns-in_default c =
-    let answer = sym c.decode-below.ensures.result_value ∙ ap answer_of c.in_default.is in
-    let none = number_refused c.args.order.now c.args.held c.args.position _ c.if-buffer-lt64.false _ _ answer in
+    let none = number_refused c.args.order.now c.args.held c.args.position _ c.if-buffer-lt64.false _ _
+    (sym c.in_default.ensures.result_value) in
     record {
       value = sym none;
       clear_left = nothing none;
@@ -27,8 +25,7 @@ returns-in_default c =
 
 pub returns-then-position-ge64 : goal.returns-then-position-ge64
 returns-then-position-ge64 c =
-    let order = as_decoded c.in-Accepted.is c.decode-below.ensures.result_value c.decode-below.ensures.rows_after
-    c.decode-below.ensures.starts_after in
+    let order = decoded c.in-Ok.ensures.result_value c.in-Ok.ensures.rows_after c.in-Ok.ensures.starts_after in
     let far = off_floor order c.args.held c.args.position c.if-position-ge64.true in
     let none = number_none order c.args.held c.args.position _ c.if-buffer-lt64.false far in
     record {
@@ -38,21 +35,18 @@ returns-then-position-ge64 c =
 
 pub clear-clearing-requires : goal.clear-clearing-requires
 clear-clearing-requires c =
-    let order = as_decoded c.in-Accepted.is c.decode-below.ensures.result_value c.decode-below.ensures.rows_after
-    c.decode-below.ensures.starts_after in
+    let order = decoded c.in-Ok.ensures.result_value c.in-Ok.ensures.rows_after c.in-Ok.ensures.starts_after in
     record {
       rows = rows_right order;
       p_bound = c.if-position-ge64.false;
       room_to_clear = room_right order c.args.held c.args.position;
     }
 
-pub returns-then-not-clearing : goal.returns-then-not-clearing
-returns-then-not-clearing c =
-    let order = as_decoded c.in-Accepted.is c.decode-below.ensures.result_value c.decode-below.ensures.rows_after
-    c.decode-below.ensures.starts_after in
-    let not_found = sym (not-not c.clear-clearing.result.found) ∙ ap not c.if-not-clearing.true in
+pub returns-in_default-moves : goal.returns-in_default-moves
+returns-in_default-moves c =
+    let order = decoded c.in-Ok.ensures.result_value c.in-Ok.ensures.rows_after c.in-Ok.ensures.starts_after in
     let none = told_no_way order c.args.held c.args.position c.args.buffer.now c.if-buffer-lt64.false c.clear-clearing.ensures
-    not_found in
+    c.in_default-moves.is in
     record {
       value = sym none;
       clear_left = nothing none;
@@ -65,21 +59,19 @@ copy_row-requires c =
 
 pub overflow_add-result : goal.overflow_add-result
 overflow_add-result c =
-    let order = as_decoded c.in-Accepted.is c.decode-below.ensures.result_value c.decode-below.ensures.rows_after
-    c.decode-below.ensures.starts_after in
-    let is_found = sym (not-not c.clear-clearing.result.found) ∙ ap not c.if-not-clearing.false in
-    let told = told-moves order c.args.held c.args.position c.args.buffer.now c.if-buffer-lt64.false c.clear-clearing.ensures is_found in
+    let order = decoded c.in-Ok.ensures.result_value c.in-Ok.ensures.rows_after c.in-Ok.ensures.starts_after in
+    let told = told-moves order c.args.held c.args.position c.args.buffer.now c.if-buffer-lt64.false c.clear-clearing.ensures
+    c.in-Some.is in
     let few = told.1 in
     omega arith
 
 pub returns : goal.returns
 returns c =
-    let order = as_decoded c.in-Accepted.is c.decode-below.ensures.result_value c.decode-below.ensures.rows_after
-    c.decode-below.ensures.starts_after in
-    let is_found = sym (not-not c.clear-clearing.result.found) ∙ ap not c.if-not-clearing.false in
-    let told = told-moves order c.args.held c.args.position c.args.buffer.now c.if-buffer-lt64.false c.clear-clearing.ensures is_found in
+    let order = decoded c.in-Ok.ensures.result_value c.in-Ok.ensures.rows_after c.in-Ok.ensures.starts_after in
+    let told = told-moves order c.args.held c.args.position c.args.buffer.now c.if-buffer-lt64.false c.clear-clearing.ensures
+    c.in-Some.is in
     record {
       value = sym told.0;
-      clear_left = shown order c.args.held c.args.position c.args.buffer.now c.if-buffer-lt64.false c.clear-clearing.ensures is_found
-          c.copy_row.ensures;
+      clear_left = shown order c.args.held c.args.position c.args.buffer.now c.if-buffer-lt64.false c.clear-clearing.ensures
+          c.in-Some.is c.copy_row.ensures;
     }

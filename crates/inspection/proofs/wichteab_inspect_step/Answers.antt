@@ -8,4 +8,4 @@ pub returns-then-part-at : goal.returns-then-part-at
 returns-then-part-at c = byte_none _ _ c.step-part.ensures.bytes _ (omega arith)
 
 pub returns : goal.returns
-returns c = c.wide.ensures.0 ∙ byte_there _ _ c.step-part.ensures.bytes _ (omega arith)
+returns c = c.from.ensures ∙ byte_there _ _ c.step-part.ensures.bytes _ (omega arith)

@@ -10,8 +10,5 @@ use Rattle.lane.proofs.carry.Given as goal
 
 abbrev pub invariant-loop-i : goal.invariant-loop-i
 invariant-loop-i l =
-    Carrying l.n (row l.order) l.end l.right l.beside l.q (row l.initial.state.racks) (row l.state.racks) l.i
+    Carrying l.n (row l.lane.order) l.end l.right l.beside l.q (row l.initial.state.racks) (row l.state.racks) l.i
     × JourneyIn (λ p. l.beside ≢ p) l.rows ((l.n - 2) * (l.i - l.q)) l.initial.state l.initial.log l.initial.tail l.state l.log l.tail
-
-abbrev pub decreases-loop-i : goal.decreases-loop-i
-decreases-loop-i l = l.end - l.i

@@ -6,34 +6,18 @@ use Rattle.breakdown.specs.Breakdown.{Between}
 use Rattle.breakdown.proofs.PlaceLaws.{place_at}
 use Rattle.graph.specs.Rows.{row}
 use Rattle.shunting.specs.Cleared.{Vacancy}
-use Rattle.moving.proofs.JourneyLaws.{trip_none, trip_more, trip_append, room_less, room_then}
+use Rattle.moving.proofs.JourneyLaws.{trip_none, trip_more, trip_append, room_then}
 use Rattle.moving.proofs.TableLaws.{table_went}
 use Rattle.lane.specs.Lane.{LaneStage, LaneCarriable}
-use Rattle.lane.specs.Moves.{end_moves}
-use Rattle.lane.proofs.StageLaws.{handle_places}
-use Rattle.lane.proofs.CycleLaws.{lane_floor, lane-places}
 use Rattle.lane.proofs.PlaceLaws.{rack_there}
 use Rattle.lane.proofs.FetchLaws.{fails, fetch_already, fetch_place, fetch_held, fetch_carried}
 use Rattle.lane.proofs.fetch.Goals as goal
-
-pub next_rack-rack-requires : goal.next_rack-rack-requires
-next_rack-rack-requires c = record {
-  places = handle_places c.requires.lane_on c.requires.rows.small;
-  k_bound = c.requires.k_bound;
-}
-
-pub part-stage-requires : goal.part-stage-requires
-part-stage-requires c = lane-places c.requires.rows c.requires.lane_on
 
 pub where_is-requires : goal.where_is-requires
 where_is-requires c = record {
   n_bound = c.requires.rows.small;
   stands = rack_there c.requires.rows c.requires.lane_on c.requires.lane_placing c.requires.k_bound c.next_rack-rack.ensures;
 }
-
-pub has-requires : goal.has-requires
-has-requires c =
-    lane_floor c.requires.rows c.requires.lane_on c.where_is.result c.where_is.ensures.inside
 
 pub returns-then-has : goal.returns-then-has
 returns-then-has c =
@@ -46,28 +30,12 @@ returns-then-has c =
       log_len_unchanged = refl;
     }
 
-pub open_end-open-requires : goal.open_end-open-requires
-open_end-open-requires c = record {
-  rows = c.requires.rows;
-  lane_on = c.requires.lane_on;
-  lane_beside = c.requires.lane_beside;
-  lane_stacked = (_, c.requires.lane_placing);
-  room = room_less (end_moves c.args.lane.positions) (omega arith) c.requires.room;
-}
-
 pub where_is-at-requires : goal.where_is-at-requires
 where_is-at-requires c = record {
   n_bound = c.requires.rows.small;
   stands = rack_there c.requires.rows c.requires.lane_on (c.open_end-open.ensures.lane_kept _ c.requires.lane_placing)
       c.requires.k_bound c.next_rack-rack.ensures;
 }
-
-pub has-requires-2 : goal.has-requires-2
-has-requires-2 c =
-    lane_floor c.requires.rows c.requires.lane_on c.where_is-at.result c.where_is-at.ensures.inside
-
-pub shape_of-tail-then-has-2 : goal.shape_of-tail-then-has-2
-shape_of-tail-then-has-2 c = c.open_end-open.ensures.trip.tail
 
 pub returns-then-has-2 : goal.returns-then-has-2
 returns-then-has-2 c =
@@ -84,10 +52,6 @@ returns-then-has-2 c =
           (c.where_is-at.ensures.there ∙ c.next_rack-rack.ensures) there vacancy;
       log_len_unchanged = c.open_end-open.ensures.log_len_unchanged;
     }
-
-pub place_of-q-requires : goal.place_of-q-requires
-place_of-q-requires c =
-    (c.requires.lane_on.handle.inner, (handle_places c.requires.lane_on c.requires.rows.small).most)
 
 pub carry-requires : goal.carry-requires
 carry-requires c =
@@ -112,10 +76,6 @@ carry-requires c =
       lane_carriable = can;
       room = room;
     }
-
-pub shape_of-tail : goal.shape_of-tail
-shape_of-tail c =
-    c.carry.ensures.trip.tail ∙ c.open_end-open.ensures.trip.tail
 
 pub returns : goal.returns
 returns c =

@@ -8,24 +8,9 @@ use Rattle.moving.proofs.JourneyLaws.{trip_append, trip_anew, fits_anew, fits_th
 use Rattle.moving.proofs.TableLaws.{table_went}
 use Rattle.shunting.proofs.ClearLaws.{clear_room, clear_few}
 use Rattle.lane.specs.Moves.{end_moves}
-use Rattle.lane.proofs.StageLaws.{handle_places, region_has, region_below, region_few, region_reaches, placing_kept}
-use Rattle.lane.proofs.CycleLaws.{lane-places, lane_floor, stage_below}
+use Rattle.lane.proofs.StageLaws.{region_has, region_below, region_few, region_reaches, placing_kept}
 use Rattle.lane.proofs.FetchLaws.{end_below, end_inside, end_reaches, end_few, end_beside}
 use Rattle.lane.proofs.open_end.Goals as goal
-
-pub part-stage-requires : goal.part-stage-requires
-part-stage-requires c = lane-places c.requires.rows c.requires.lane_on
-
-pub overflow_add-s : goal.overflow_add-s
-overflow_add-s c =
-    let small = c.requires.rows.small in
-    let few = c.requires.lane_stacked.1.few in
-    let inner = c.requires.lane_on.handle.inner in
-    let within = c.requires.lane_on.within in
-    omega arith
-
-pub part-requires : goal.part-requires
-part-requires c = handle_places c.requires.lane_on c.requires.rows.small
 
 pub clear_within-aside-requires : goal.clear_within-aside-requires
 clear_within-aside-requires c =
@@ -41,11 +26,6 @@ clear_within-aside-requires c =
           ((region_has c.requires.lane_on c.args.k _ _ c.part-stage.ensures c.part.ensures) p).0 x))
           (fits_anew (c.args.lane.positions - 1) (omega arith) (omega arith) c.requires.room);
     }
-
-pub without-free-requires : goal.without-free-requires
-without-free-requires c =
-    lane_floor c.requires.rows c.requires.lane_on c.args.lane.beside (stage_below c.requires.rows c.requires.lane_on
-    c.args.lane.beside c.requires.lane_beside.there)
 
 pub clear_within-requires : goal.clear_within-requires
 clear_within-requires c =
@@ -67,10 +47,6 @@ clear_within-requires c =
           (region_has c.requires.lane_on c.args.k _ _ c.part-stage.ensures c.part.ensures) c.without-free.ensures)
           (fits_then (fits_anew (end_moves c.args.lane.positions) (omega arith) (omega arith) c.requires.room) way);
     }
-
-pub shape_of-tail : goal.shape_of-tail
-shape_of-tail c =
-    c.clear_within.ensures.journey.journey.trip.tail ∙ c.clear_within-aside.ensures.journey.journey.trip.tail
 
 pub returns : goal.returns
 returns c =

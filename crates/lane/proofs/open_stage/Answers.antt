@@ -7,18 +7,9 @@ use Rattle.moving.proofs.JourneyLaws.{trip_none, trip_more, trip_anew, fits_anew
 use Rattle.moving.proofs.TableLaws.{table_went}
 use Rattle.shunting.proofs.ClearLaws.{clear_room, clear_few}
 use Rattle.lane.specs.Moves.{open_moves}
-use Rattle.lane.proofs.StageLaws.{handle_places, region_has, region_below, region_few, region_reaches, placing_kept}
+use Rattle.lane.proofs.StageLaws.{region_has, region_below, region_few, region_reaches, placing_kept}
 use Rattle.lane.proofs.StageLaws.{stage_vacancy}
-use Rattle.lane.proofs.CycleLaws.{lane-places}
 use Rattle.lane.proofs.open_stage.Goals as goal
-
-pub part-stage-requires : goal.part-stage-requires
-part-stage-requires c =
-    lane-places c.requires.rows c.requires.lane_on
-
-pub vacancies-requires : goal.vacancies-requires
-vacancies-requires c =
-    c.requires.rows.small
 
 pub returns-then-vacancies-stage-ne0 : goal.returns-then-vacancies-stage-ne0
 returns-then-vacancies-stage-ne0 c = record {
@@ -27,18 +18,6 @@ returns-then-vacancies-stage-ne0 c = record {
   vacancy = stage_vacancy _ _ c.vacancies.ensures c.part-stage.ensures c.if-vacancies-stage-ne0.true;
   log_len_unchanged = refl;
 }
-
-pub overflow_add-s : goal.overflow_add-s
-overflow_add-s c =
-    let small = c.requires.rows.small in
-    let few = c.requires.lane_stacked.1.few in
-    let inner = c.requires.lane_on.handle.inner in
-    let within = c.requires.lane_on.within in
-    omega arith
-
-pub part-requires : goal.part-requires
-part-requires c =
-    handle_places c.requires.lane_on c.requires.rows.small
 
 pub clear_within-requires : goal.clear_within-requires
 clear_within-requires c =
@@ -53,9 +32,6 @@ clear_within-requires c =
       room_to_clear = clear_room (region_few c.requires.lane_on c.args.k (λ q x. (has q).0 x))
           (fits_anew (open_moves c.args.lane.positions) (omega arith) (omega arith) c.requires.room);
     }
-
-pub shape_of-tail : goal.shape_of-tail
-shape_of-tail c = c.clear_within.auto.tail
 
 pub returns : goal.returns
 returns c =

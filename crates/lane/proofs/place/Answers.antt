@@ -14,23 +14,13 @@ use Rattle.moving.proofs.JourneyLaws.{trip_append, fits_less, fits_then}
 use Rattle.moving.proofs.TableLaws.{table_went}
 use Rattle.lane.specs.Lane.{next_rack}
 use Rattle.lane.specs.Moves.{home_moves}
-use Rattle.lane.proofs.StageLaws.{handle_places}
-use Rattle.lane.proofs.CycleLaws.{lane_floor, lane-places, left_below, stage_in}
+use Rattle.lane.proofs.CycleLaws.{lane_floor, left_below, stage_in}
 use Rattle.lane.proofs.PlaceLaws.{rack_some, rack_there, rack_held, placing_turned, stage_robust, stage_vacancy, place-from}
 use Rattle.lane.proofs.PlaceLaws.{stage_few, rest_few, place_below, place_brought, place_below_rest, place_cleared}
 use Rattle.lane.proofs.PlaceLaws.{place_held, place-reaches}
 use Rattle.lane.proofs.PlaceLaws.{cycle_simple, cycle-round, cycle-vacancy}
 use Rattle.lane.proofs.FetchLaws.{place_open, place_room, place_fits, place_trip}
 use Rattle.lane.proofs.place.Goals as goal
-
-pub next_rack-rack-requires : goal.next_rack-rack-requires
-next_rack-rack-requires c = record {
-  places = handle_places c.requires.lane_on c.requires.rows.small;
-  k_bound = c.requires.k_bound;
-}
-
-pub part-stage-requires : goal.part-stage-requires
-part-stage-requires c = lane-places c.requires.rows c.requires.lane_on
 
 pub open_stage-opened-requires : goal.open_stage-opened-requires
 open_stage-opened-requires c = record {
@@ -127,12 +117,6 @@ turn-requires c =
       turnable = cycle-vacancy c.requires.rows c.requires.lane_on c.requires.lane_closed c.clear_within-cleared.ensures.cleared;
       fits = fits_less _ c.requires.lane_closed.short room;
     }
-
-pub shape_of-tail : goal.shape_of-tail
-shape_of-tail c =
-    (c.turn.ensures.turn_journey _ (cycle-round c.requires.rows c.requires.lane_on c.requires.lane_closed)).journey.trip.tail
-    ∙ c.clear_within-cleared.ensures.journey.journey.trip.tail ∙ c.bring-brought.ensures.brought_by.journey.trip.tail
-    ∙ c.fetch-fetched.ensures.trip.tail ∙ c.open_stage-opened.ensures.trip.tail
 
 pub returns : goal.returns
 returns c =

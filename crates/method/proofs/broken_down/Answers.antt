@@ -32,11 +32,17 @@ fill-requires-2 c =
       racks_len = to.size;
     }
 
-pub break_down-found-requires : goal.break_down-found-requires
-break_down-found-requires c =
+pub break_down-requires : goal.break_down-requires
+break_down-requires c =
     let o = c.requires.some_tables.order in
     let a = c.args in
     filled_rows c.requires.some_tables.tables.gave c.requires.some_tables.tables.rows_are
+
+pub unreachable-requires : goal.unreachable-requires
+unreachable-requires c =
+    let ring = broken c.requires.some_tables.tables.gave c.requires.some_tables.tables.can c.requires.some_tables.tables.rows_are
+    c.requires.e_nonzero c.in_default.ensures in
+    omega arith
 
 pub solve-end-requires : goal.solve-end-requires
 solve-end-requires c =
@@ -47,9 +53,7 @@ solve-end-requires c =
     let most = room_racks c.requires.some_tables.tables.gave c.requires.some_tables.tables.can c.requires.e_nonzero in
     record {
       rows = filled_rows c.requires.some_tables.tables.gave c.requires.some_tables.tables.rows_are;
-      breaks_down = c.break_down-found.ensures.found (broken c.requires.some_tables.tables.gave
-          c.requires.some_tables.tables.can c.requires.some_tables.tables.rows_are c.requires.e_nonzero
-          c.break_down-found.ensures);
+      breaks_down = c.in-Some.ensures.1.found c.in-Some.ensures.0;
       table = c.fill.ensures.table;
       table_2 = c.fill-2.ensures.table;
       goal_len = c.fill-2.ensures.racks_len_2;

@@ -5,7 +5,7 @@ use Rattle.models.proofs.PutLaws.{copy-first, copy_room, copy-next, copy_last}
 use Rattle.models.proofs.put_pairs.Goals as goal
 
 pub loop-i-init : goal.loop-i-init
-loop-i-init c = (omega arith, copy-first c.args.j c.args.from.now c.args.m)
+loop-i-init c = copy-first c.args.j c.args.from.now c.args.m
 
 pub overflow_add-j : goal.overflow_add-j
 overflow_add-j c =
@@ -18,22 +18,18 @@ put_pair-requires c = (
   omega arith,
   omega arith,
   copy_room c.args.from.now c.args.m c.loop-i.i c.loop-i-test.true c.pair_at-pair.result.first
-      c.pair_at-pair.result.second c.pair_at-pair.ensures c.loop-i.invariant.1
+      c.pair_at-pair.result.second c.pair_at-pair.ensures c.loop-i.invariant
       c.requires.room,
 )
 
 pub loop-i-preserved : goal.loop-i-preserved
-loop-i-preserved c = (
-  omega arith,
-  copy-next c.args.from.now c.args.m c.loop-i.i c.loop-i-test.true c.pair_at-pair.result.first
-      c.pair_at-pair.result.second c.pair_at-pair.ensures c.loop-i.invariant.1
-      c.put_pair.new.s
-      c.put_pair.ensures,
-)
+loop-i-preserved c =
+    copy-next c.args.from.now c.args.m c.loop-i.i c.loop-i-test.true c.pair_at-pair.result.first c.pair_at-pair.result.second
+    c.pair_at-pair.ensures c.loop-i.invariant c.put_pair.new.s c.put_pair.ensures
 
 pub shape_of-tail : goal.shape_of-tail
-shape_of-tail c = c.loop-i.invariant.1.length_same
+shape_of-tail c = c.loop-i.invariant.length_same
 
 pub returns : goal.returns
 returns c =
-    copy_last c.args.from.now c.args.m c.loop-i.i (omega arith) c.loop-i.invariant.1
+    copy_last c.args.from.now c.args.m c.loop-i.i (omega arith) c.loop-i.invariant

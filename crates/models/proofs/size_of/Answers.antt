@@ -1,6 +1,6 @@
-use Rattle.models.specs.Grid.{rows_of, columns_of}
+-- `models::size_of` meets its contract. Assumes nothing.
 use native.Mathlib.Omega.{arith}
-use Rattle.models.proofs.GridLaws.{known_range, size_is}
+use Rattle.models.proofs.GridLaws.{known_range, size_tabled}
 use Rattle.models.proofs.size_of.Goals as goal
 
 pub overflow_sub-result : goal.overflow_sub-result
@@ -9,18 +9,8 @@ overflow_sub-result c = let r = known_range c.args.model c.requires in omega ari
 pub offset_bounds-model : goal.offset_bounds-model
 offset_bounds-model c = let r = known_range c.args.model c.requires in omega arith
 
-pub bounds-model : goal.bounds-model
-bounds-model c = let r = known_range c.args.model c.requires in omega arith
-
-pub overflow_sub-result-2 : goal.overflow_sub-result-2
-overflow_sub-result-2 c = let r = known_range c.args.model c.requires in omega arith
-
-pub offset_bounds-model-2 : goal.offset_bounds-model-2
-offset_bounds-model-2 c = let r = known_range c.args.model c.requires in omega arith
-
-pub bounds-model-2 : goal.bounds-model-2
-bounds-model-2 c = let r = known_range c.args.model c.requires in omega arith
+pub bounds-model-model : goal.bounds-model-model
+bounds-model-model c = let r = known_range c.args.model c.requires in omega arith
 
 pub returns : goal.returns
-unfolding rows_of columns_of
-returns c = size_is c.args.model c.requires
+returns c = size_tabled c.args.model c.requires

@@ -12,13 +12,13 @@ pub bounds-short-1 : goal.bounds-short-1
 bounds-short-1 c = let l = ((short_fits c.args.short.now c.requires.short_value.0).head_there) in omega arith
 
 pub size_of-size-requires : goal.size_of-size-requires
-size_of-size-requires c = out_known ((let it : Begun c.args.short.now c.args.order.now c.wide-model.result
-    c.wide-m.result = record {
+size_of-size-requires c = out_known ((let it : Begun c.args.short.now c.args.order.now c.from-model.result
+    c.from-m.result = record {
       right = c.requires.short_value.0;
       known = c.requires.short_value.1;
       enough =
           c.requires.short_in_bounds;
-      head = read_head c.wide-model.ensures c.wide-m.ensures;
+      head = read_head c.type_inv.short c.from-model.ensures c.from-m.ensures;
     } in it))
 
 pub slice_bounds-put_tail-count : goal.slice_bounds-put_tail-count
@@ -35,11 +35,11 @@ slice_bounds-put_tail-start-2 c = let l = ((short_fits c.args.short.now c.requir
 
 pub put_tail-e-requires : goal.put_tail-e-requires
 put_tail-e-requires c =
-    let o = ((let it : Begun c.args.short.now c.args.order.now c.wide-model.result c.wide-m.result = record {
+    let o = ((let it : Begun c.args.short.now c.args.order.now c.from-model.result c.from-m.result = record {
       right = c.requires.short_value.0;
       known = c.requires.short_value.1;
       enough = c.requires.short_in_bounds;
-      head = read_head c.wide-model.ensures c.wide-m.ensures;
+      head = read_head c.type_inv.short c.from-model.ensures c.from-m.ensures;
     } in it)) in
     record {
       le_columns = (
@@ -56,23 +56,23 @@ put_head-requires c =
     let l = length-expanded c.args.short.now in
     record {
       in_bounds = omega arith;
-      n_bound = out_counts ((let it : Begun c.args.short.now c.args.order.now c.wide-model.result c.wide-m.result =
+      n_bound = out_counts ((let it : Begun c.args.short.now c.args.order.now c.from-model.result c.from-m.result =
           record {
             right = c.requires.short_value.0;
             known = c.requires.short_value.1;
             enough =
                 c.requires.short_in_bounds;
-            head = read_head c.wide-model.ensures c.wide-m.ensures;
+            head = read_head c.type_inv.short c.from-model.ensures c.from-m.ensures;
           } in it))
           c.size_of-size.ensures _ c.put_tail-e.ensures;
     }
 
 pub returns : goal.returns
 returns c =
-    out_written ((let it : Begun c.args.short.now c.args.order.now c.wide-model.result c.wide-m.result = record {
+    out_written ((let it : Begun c.args.short.now c.args.order.now c.from-model.result c.from-m.result = record {
       right = c.requires.short_value.0;
       known = c.requires.short_value.1;
       enough = c.requires.short_in_bounds;
-      head = read_head c.wide-model.ensures c.wide-m.ensures;
+      head = read_head c.type_inv.short c.from-model.ensures c.from-m.ensures;
     } in it)) c.size_of-size.ensures _ c.put_tail-e.ensures
     c.put_head.ensures

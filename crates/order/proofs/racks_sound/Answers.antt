@@ -2,11 +2,6 @@
 use Rattle.order.proofs.Layers.{starts_refused, goals-judged}
 use Rattle.order.proofs.racks_sound.Goals as goal
 
-pub returns-then-not-place_sound : goal.returns-then-not-place_sound
-returns-then-not-place_sound c =
-    starts_refused c.args.tail.now c.args.n c.args.e c.args.m _ _ c.place_sound.result c.place_sound.ensures.value
-    c.if-not-place_sound.true
-
 pub returns : goal.returns
 returns c =
     goals-judged c.args.tail.now c.args.n c.args.e c.args.m _ _ c.place_sound.result c.place_sound.ensures.value

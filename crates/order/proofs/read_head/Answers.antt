@@ -1,5 +1,4 @@
 -- `order::read_head` meets its contract: a law of `Head` at each return. Assumes nothing.
-use mathlib.Core.Bool.{true}
 use native.Mathlib.Omega.{arith}
 use Rattle.order.proofs.Head.{short, wrong_length_lem, fitted, none, many, padding, sound}
 use Rattle.order.proofs.read_head.Goals as goal
@@ -17,10 +16,6 @@ returns-then-n-eq0 c =
 pub returns-then-n-gt64 : goal.returns-then-n-gt64
 returns-then-n-gt64 c =
     many c.counts_of-counts.ensures c.units_fit.ensures c.if-not-units_fit.false (omega arith)
-
-pub units_clean-requires : goal.units_clean-requires
-units_clean-requires c =
-    fitted c.counts_of-counts.ensures c.units_fit.ensures c.if-not-units_fit.false
 
 pub returns-then-not-units_clean : goal.returns-then-not-units_clean
 returns-then-not-units_clean c =

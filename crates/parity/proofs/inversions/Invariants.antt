@@ -8,7 +8,4 @@ use Rattle.parity.proofs.inversions.Given as goal
 
 abbrev pub invariant-loop-i : goal.invariant-loop-i
 invariant-loop-i l =
-    (l.i ≤ l.n) × ((l.count ≤ 64 * l.i) × (l.count + inversions (entries l.list l.i (l.n - l.i)) ≡ inversions (entries l.list 0 l.n)))
-
-abbrev pub decreases-loop-i : goal.decreases-loop-i
-decreases-loop-i l = l.n - l.i
+    (l.count ≤ 64 * l.i) × (l.count + inversions (entries l.list l.i (l.n - l.i)) ≡ inversions (entries l.list 0 l.n))

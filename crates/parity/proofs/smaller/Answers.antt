@@ -1,7 +1,6 @@
 -- `parity::smaller` meets its contract.
 -- Assumes nothing.
 use Prim.Native.Nat.{◌<◌}
-use mathlib.Core.Logic.{⊎_elim}
 use Rattle.parity.proofs.WorkLaws.{smaller-counts, smaller_skips, smaller-all}
 use native.Mathlib.Omega.{arith}
 use Rattle.parity.proofs.smaller.Goals as goal

@@ -8,8 +8,4 @@ use Rattle.parity.proofs.smaller.Given as goal
 
 abbrev pub invariant-loop-i : goal.invariant-loop-i
 invariant-loop-i l =
-    (l.from ≤ l.i) × ((l.i ≤ l.n) × ((l.count + l.from ≤ l.i) × (l.count + smaller l.x (entries l.list l.i (l.n - l.i))
-    ≡ smaller l.x (entries l.list l.from (l.n - l.from)))))
-
-abbrev pub decreases-loop-i : goal.decreases-loop-i
-decreases-loop-i l = l.n - l.i
+    (l.count + l.from ≤ l.i) × (l.count + smaller l.x (entries l.list l.i (l.n - l.i)) ≡ smaller l.x (entries l.list l.from (l.n - l.from)))

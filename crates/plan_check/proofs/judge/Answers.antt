@@ -1,41 +1,33 @@
 -- `plan_check::judge` meets its contract: what the replay told, and then the lowest misplaced rack. Assumes nothing.
-use Prim.Native.Nat.{◌+◌, ◌*◌}
+use mathlib.Core.Path.{ap₂, ◌∙◌}
 use mathlib.Core.List.{[], ◌∷◌}
+use Rattle.answers.specs.Answer.{the_count}
 use Rattle.answers.specs.declared.Fault.{Fault}
-use Rattle.field.specs.Bits.{positions}
+use Rattle.answers.proofs.AnswerLaws.{handed_on}
 use Rattle.field.specs.Listed.{listed_moves}
 use Rattle.tables.specs.MovesOn.{replay_on}
-use Rattle.tables.proofs.EndingLaws.{JudgeTold, judge_told}
+use Rattle.tables.proofs.EndingLaws.{judge_stopped, judge_misplaced, judge_settled}
 use Rattle.plan_check.specs.Judging.{table_answer}
 use Rattle.plan_check.proofs.judge.Goals as goal
 
-pub returns-in-Stopped : goal.returns-in-Stopped
+pub returns-in_err-replay : goal.returns-in_err-replay
 unfolding table_answer
-returns-in-Stopped c = ((let it : JudgeTold Fault.PlanGoal (positions c.args.order.now (6 * (2 * c.args.e + c.args.m))
-    c.args.m) (c.args.k ∷ []) c.args.m c.replay-replayed.result c.replay-replayed.new.racks
-    (table_answer c.args.order.now c.args.e c.args.m c.args.plan.now c.args.named c.args.k) = judge_told Fault.PlanGoal
-    c.args.order.now c.args.e c.args.m (c.args.k ∷ []) (λ g h. replay_on g h
-    (listed_moves c.args.named c.args.plan.now 0 c.args.k)) c.mark_edges.ensures c.place_racks.ensures
-    c.replay-replayed.ensures in it)).stopped _ _ c.in-Stopped.is
+returns-in_err-replay c =
+    let moves = listed_moves c.args.named c.args.plan.now 0 c.args.k in
+    handed_on the_count c.from_residual.result _ c.from_residual.ensures.1
+    (judge_stopped Fault.PlanGoal _ (c.args.k ∷ []) c.args.m _ _ _
+    (c.in_err-replay.ensures ∙ ap₂ (λ g h. replay_on g h moves) c.mark_edges.ensures c.place_racks.ensures))
 
-pub returns-then-rack-ne0 : goal.returns-then-rack-ne0
+pub returns-in-Some : goal.returns-in-Some
 unfolding table_answer
-returns-then-rack-ne0 c =
-    ((let it : JudgeTold Fault.PlanGoal (positions c.args.order.now (6 * (2 * c.args.e + c.args.m)) c.args.m)
-    (c.args.k ∷ []) c.args.m c.replay-replayed.result c.replay-replayed.new.racks
-    (table_answer c.args.order.now c.args.e c.args.m c.args.plan.now c.args.named c.args.k) = judge_told
-    Fault.PlanGoal c.args.order.now c.args.e c.args.m (c.args.k ∷ [])
-    (λ g h. replay_on g h (listed_moves c.args.named c.args.plan.now 0 c.args.k)) c.mark_edges.ensures
-    c.place_racks.ensures c.replay-replayed.ensures in it)).misplaced c.in_default.is _ c.misplaced-rack.ensures
-    c.if-rack-ne0.true
+returns-in-Some c =
+    let moves = listed_moves c.args.named c.args.plan.now 0 c.args.k in
+    judge_misplaced Fault.PlanGoal _ (c.args.k ∷ []) c.args.m _
+    (c.in_ok-replay.ensures ∙ ap₂ (λ g h. replay_on g h moves) c.mark_edges.ensures c.place_racks.ensures) _ c.in-Some.ensures
 
 pub returns : goal.returns
 unfolding table_answer
 returns c =
-    ((let it : JudgeTold Fault.PlanGoal (positions c.args.order.now (6 * (2 * c.args.e + c.args.m)) c.args.m)
-    (c.args.k ∷ []) c.args.m c.replay-replayed.result c.replay-replayed.new.racks
-    (table_answer c.args.order.now c.args.e c.args.m c.args.plan.now c.args.named c.args.k) = judge_told
-    Fault.PlanGoal c.args.order.now c.args.e c.args.m (c.args.k ∷ [])
-    (λ g h. replay_on g h (listed_moves c.args.named c.args.plan.now 0 c.args.k)) c.mark_edges.ensures
-    c.place_racks.ensures c.replay-replayed.ensures in it)).settled c.in_default.is _ c.misplaced-rack.ensures
-    c.if-rack-ne0.false
+    let moves = listed_moves c.args.named c.args.plan.now 0 c.args.k in
+    judge_settled Fault.PlanGoal _ (c.args.k ∷ []) c.args.m _
+    (c.in_ok-replay.ensures ∙ ap₂ (λ g h. replay_on g h moves) c.mark_edges.ensures c.place_racks.ensures) c.in_default.ensures

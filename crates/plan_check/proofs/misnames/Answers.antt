@@ -7,4 +7,4 @@ returns-then-rack-eq0 c = unnamed _ _ c.if-rack-eq0.true
 
 pub returns : goal.returns
 returns c =
-    rw c.wide.ensures.0 (named_there c.args.rack c.args.there c.if-rack-eq0.false)
+    rw c.from.ensures (named_there c.args.rack c.args.there c.if-rack-eq0.false)

@@ -5,7 +5,7 @@ use Rattle.plan_check.proofs.Turns.{moves-first, moves-stop, moves_next, moves_n
 use Rattle.plan_check.proofs.replay.Goals as goal
 
 pub loop-j-init : goal.loop-j-init
-loop-j-init c = (omega arith, moves-first _ _ _ _ _)
+loop-j-init c = moves-first _ _ _ _ _
 
 pub listed_at-listed-requires : goal.listed_at-listed-requires
 listed_at-listed-requires c =
@@ -20,22 +20,22 @@ bounds-matrix-step c = omega (arith, c.listed_at-listed.ensures.left_below, c.li
 pub bounds-racks-b : goal.bounds-racks-b
 bounds-racks-b c = omega (arith, c.listed_at-listed.ensures.entered_below)
 
-pub returns-in-Illegal : goal.returns-in-Illegal
-returns-in-Illegal c =
+pub returns-in-Err : goal.returns-in-Err
+returns-in-Err c =
     moves-stop c.args.tail.now c.args.named c.args.k c.args.matrix.now c.args.racks.now c.loop-j.racks c.loop-j.j
-    c.listed_at-listed.result.step c.listed_at-listed.result.rack c.loop-j.invariant.1 (omega arith) c.listed_at-listed.ensures
-    c.move_fault-verdict.result c.move_fault-verdict.ensures
-    _ c.in-Illegal.is
+    c.listed_at-listed.result.step c.listed_at-listed.result.rack c.loop-j.invariant (omega arith) c.listed_at-listed.ensures
+    c.move_fault.result c.move_fault.ensures
+    _ c.in-Err.is
 
 pub loop-j-preserved : goal.loop-j-preserved
 loop-j-preserved c =
     let next = moves_next c.args.tail.now c.args.named c.args.k c.args.matrix.now c.args.racks.now c.loop-j.racks
-    c.loop-j.j c.listed_at-listed.result.step c.listed_at-listed.result.rack c.loop-j.invariant.1 (omega arith)
-    c.listed_at-listed.ensures c.move_fault-verdict.result c.move_fault-verdict.ensures
-    c.in_default.is in
-    (omega arith, next)
+    c.loop-j.j c.listed_at-listed.result.step c.listed_at-listed.result.rack c.loop-j.invariant (omega arith)
+    c.listed_at-listed.ensures c.move_fault.result c.move_fault.ensures
+    _ c.in_default.is in
+    next
 
 pub returns : goal.returns
 returns c =
     moves_none c.args.tail.now c.args.named c.args.k c.args.matrix.now c.args.racks.now c.loop-j.racks c.loop-j.j
-    c.loop-j.invariant.1 (omega arith)
+    c.loop-j.invariant (omega arith)

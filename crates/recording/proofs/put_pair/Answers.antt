@@ -17,4 +17,4 @@ bounds-s-at-4 c = simp length-set (omega arith)
 
 pub returns : goal.returns
 unfolding put_pair
-returns c = simp (ne_eqb _ _ c.if-j-eq0.false, c.wide-begun.ensures.0)
+returns c = simp (ne_eqb _ _ c.if-j-eq0.false, c.from-begun.ensures)

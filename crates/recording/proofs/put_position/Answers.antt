@@ -15,15 +15,15 @@ bounds-s-at-then-place-eq1-3 c = simp length-set (omega arith)
 
 pub returns-then-place-eq1 : goal.returns-then-place-eq1
 returns-then-place-eq1 c =
-    rw c.wide-begun.ensures.0 (sym (put_1 c.args.s.now c.args.q (c.args.q / 4 * 3) refl c.args.p c.if-place-eq1.true))
+    rw c.from-begun.ensures (sym (put_1 c.args.s.now c.args.q (c.args.q / 4 * 3) refl c.args.p c.if-place-eq1.true))
 
 pub bounds-s-at-then-place-eq2-3 : goal.bounds-s-at-then-place-eq2-3
 bounds-s-at-then-place-eq2-3 c = simp length-set (omega arith)
 
 pub returns-then-place-eq2 : goal.returns-then-place-eq2
 returns-then-place-eq2 c =
-    rw c.wide-begun-then-place-eq2.ensures.0 (sym (put_2 c.args.s.now c.args.q (c.args.q / 4 * 3) refl c.args.p c.if-place-eq2.true))
+    rw c.from-begun-then-place-eq2.ensures (sym (put_2 c.args.s.now c.args.q (c.args.q / 4 * 3) refl c.args.p c.if-place-eq2.true))
 
 pub returns : goal.returns
 returns c =
-    rw c.wide-begun-2.ensures.0 (sym (put_3 c.args.s.now c.args.q (c.args.q / 4 * 3) refl c.args.p (omega arith)))
+    rw c.from-begun-2.ensures (sym (put_3 c.args.s.now c.args.q (c.args.q / 4 * 3) refl c.args.p (omega arith)))

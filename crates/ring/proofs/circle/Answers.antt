@@ -10,9 +10,6 @@ loop-k-init c = λ R C. following_first R C
 pub lowest-v-requires : goal.lowest-v-requires
 lowest-v-requires c = following_some c.requires.rows c.requires.ring (c.loop-k.invariant c.requires.rows c.requires.ring)
 
-pub bounds-at-k : goal.bounds-at-k
-bounds-at-k c = let small = c.requires.rows.small in omega arith
-
 pub without-onward-requires : goal.without-onward-requires
 without-onward-requires c = omega (
   arith,
@@ -20,11 +17,6 @@ without-onward-requires c = omega (
   following_below c.requires.rows c.requires.ring
       (c.loop-k.invariant c.requires.rows c.requires.ring),
 )
-
-pub overflow_add-k : goal.overflow_add-k
-overflow_add-k c =
-    let small = c.requires.rows.small in
-    omega arith
 
 pub loop-k-preserved : goal.loop-k-preserved
 loop-k-preserved c =

@@ -1,5 +1,4 @@
 -- `ring::circle` meets its contract. The invariant is the record `Following`. Assumes nothing.
-use Prim.Native.Nat.{◌-◌}
 use Rattle.graph.specs.Connected.{Ring}
 use Rattle.graph.specs.EdgeCount.{edge_count}
 use Rattle.graph.specs.Rows.{Edge, Rows}
@@ -9,6 +8,3 @@ use Rattle.ring.proofs.circle.Given as goal
 abbrev pub invariant-loop-k : goal.invariant-loop-k
 invariant-loop-k l =
     (R : Rows l.n l.rows) (C : Ring l.n (Edge l.rows) (edge_count l.rows l.n)) → Following R C l.at l.last l.onward l.k
-
-abbrev pub decreases-loop-k : goal.decreases-loop-k
-decreases-loop-k l = l.n - l.k

@@ -1,66 +1,26 @@
--- `ring::keeps` meets its contract. The invariant: the racks before q that were behind rack r are behind it. Assumes nothing.
+-- `ring::keeps` meets its contract. Assumes nothing.
+use Prim.Native.Nat.{ℕ, ◌+◌, ◌≤◌, ◌<◌}
+use mathlib.Core.Path.{refl}
 use native.Mathlib.Omega.{arith}
-use Rattle.graph.proofs.Decision.{says-yes, says_no}
-use Rattle.ring.proofs.OrderLaws.{rack_of_lem, before-first, before-next, before_last}
+use borrow.Author.Tests.{tests}
+use Rattle.std.proofs.Common.{rules}
+use Rattle.std.proofs.lemmas.Iterator.{cases_from_all, YieldsList-from_range}
+use Rattle.graph.specs.Rows.{row}
+use Rattle.graph.proofs.Decision.{says_same, says_range}
+use Rattle.ring.specs.Order.{distance}
 use Rattle.ring.proofs.keeps.Goals as goal
-use Rattle.ring.proofs.keeps.Goals.{then-from-distance+else-distance-to, else-from-distance}
-
-pub distance-from-requires : goal.distance-from-requires
-distance-from-requires c = record {
-  n_bound = c.requires.n_bound;
-  rack = c.requires.rack;
-  places = c.requires.places;
-}
-
-pub distance-to-requires : goal.distance-to-requires
-distance-to-requires c = record {
-  n_bound = c.requires.n_bound;
-  rack = c.requires.rack;
-  places = c.requires.places_2;
-}
-
-pub loop-q-init : goal.loop-q-init
-loop-q-init c = (omega arith, omega arith, before-first _ _)
-
-pub distance-requires : goal.distance-requires
-distance-requires c = record {
-  n_bound = c.requires.n_bound;
-  rack = rack_of_lem c.loop-q.invariant.0 c.loop-q-test.true;
-  places = c.requires.places;
-}
-
-pub distance-requires-then-from-distance : goal.distance-requires-then-from-distance
-distance-requires-then-from-distance c = record {
-  n_bound = c.requires.n_bound;
-  rack = rack_of_lem c.loop-q.invariant.0 c.loop-q-test.true;
-  places = c.requires.places_2;
-}
-
-pub returns-then-distance-to : goal.returns-then-distance-to
-returns-then-distance-to c =
-    let rack = rack_of_lem c.loop-q.invariant.0 c.loop-q-test.true in
-    says_no (λ all. let x = all c.loop-q.q rack
-    (omega (arith, c.if-from-distance.true, c.distance.ensures, c.distance-from.ensures)) in
-    omega (arith, c.if-distance-to.true, c.distance-then-from-distance.ensures, c.distance-to.ensures))
-
-pub overflow_add-q : goal.overflow_add-q
-overflow_add-q c = omega (arith, c.requires.n_bound)
-
-pub loop-q-smaller : goal.loop-q-smaller
-loop-q-smaller c = omega (arith, c.loop-q-test.true)
-
-pub loop-q-preserved : goal.loop-q-preserved
-loop-q-preserved c = (
-  omega arith,
-  omega (arith, c.loop-q-test.true),
-  before-next _ _ c.loop-q.q c.loop-q.invariant.2
-      (elim c.if-from-distance.branch [
-        | then-from-distance+else-distance-to w ↦
-            λ front. omega (arith, w.if-distance-to.false, w.distance-then-from-distance.ensures, c.distance-to.ensures)
-        | else-from-distance w ↦ λ front. absurd (omega (arith, w.if-from-distance.false, c.distance.ensures, c.distance-from.ensures))
-      ]),
-)
 
 pub returns : goal.returns
 returns c =
-    says-yes (λ q h. before_last _ _ c.loop-q.q c.loop-q.invariant.2 c.loop-q-test.false q h)
+    let d = λ (q : ℕ). distance c.args.n (row c.args.p.now) q in
+    let e = λ (q : ℕ). distance c.args.n (row c.args.g.now) q in
+    let r = c.args.r in
+    let Yes = λ (q : ℕ). d r < d q → e r < e q in
+    let No = λ (q : ℕ). (d r < d q) × (e q ≤ e r) in
+    let apart : (q : ℕ) → Yes q → No q → ⊥ = λ q yes no. let l = yes no.0 in let m = no.1 in omega arith in
+    says_same
+    (λ all q k. all q k.some (let most = k.most in omega arith))
+    (λ keeps q from below. keeps q (record { some = from; most = omega arith }))
+    (says_range Yes No apart c.all.result 1 c.args.m
+    (cases_from_all _ _ _ Yes No c.all.ensures.ran (YieldsList-from_range 1 (c.args.m + 1) c.args.m refl (omega arith))
+    (λ x q k. search (rules, tests)) (λ x q k. search (rules, tests))))

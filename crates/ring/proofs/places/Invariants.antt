@@ -1,5 +1,5 @@
 -- `ring::places` meets its contract. The invariant: the racks at the places passed have these. Assumes nothing.
-use Prim.Native.Nat.{ℕ, ◌-◌, ◌≤◌, ◌<◌}
+use Prim.Native.Nat.{ℕ, ◌<◌}
 use mathlib.Core.Path.{◌≡◌}
 use lib.ListN.{length}
 use Rattle.graph.specs.Rows.{row}
@@ -7,8 +7,5 @@ use Rattle.ring.proofs.StandingLaws.{Placing}
 use Rattle.ring.proofs.places.Given as goal
 
 abbrev pub invariant-loop-i : goal.invariant-loop-i
-invariant-loop-i l = (l.i ≤ l.n) × (length l.place ≡ 64) × ((q : ℕ) → row l.place q < l.n)
-    × Placing (row l.circle) (row l.racks) (row l.place) l.i
-
-abbrev pub decreases-loop-i : goal.decreases-loop-i
-decreases-loop-i l = l.n - l.i
+invariant-loop-i l =
+    (length l.place ≡ 64) × ((q : ℕ) → row l.place q < l.n) × Placing (row l.circle) (row l.racks) (row l.place) l.i

@@ -2,7 +2,7 @@
 -- due steps tell where the next ones are found. Assumes nothing.
 use Prim.Native.Nat.{◌≤◌, ◌-◌, ◌+◌, ◌*◌, ◌/◌}
 use lib.ListN.{length}
-use Rattle.field.specs.Listed.{moves_at}
+use Rattle.field.specs.PlanMoves.{all_moves}
 use Rattle.window.specs.Filling.{latest}
 use Rattle.passing.specs.Stretches.{Kept}
 use Rattle.scheduling.specs.Windows.{Counted}
@@ -11,10 +11,10 @@ use Rattle.scheduling.proofs.make_windows.Given as goal
 
 abbrev pub invariant-loop-done : goal.invariant-loop-done
 invariant-loop-done l =
-    let ms = moves_at l.named l.tail 0 l.k in
+    let ms = all_moves l.moves in
     (l.done.windows ≤ latest ms / 4096 + 1) × Counted ms l.due l.done.steps l.done.windows
-    × WroteWindows ms l.initial.buffer l.buffer l.done.next l.done.windows × Kept l.named l.tail l.k
+    × WroteWindows ms l.initial.buffer l.buffer l.done.next l.done.windows × Kept l.moves.named l.moves.tail.now l.moves.count
     (length l.initial.due) (4096 * l.done.windows) l.book l.due
 
 abbrev pub decreases-loop-done : goal.decreases-loop-done
-decreases-loop-done l = latest (moves_at l.named l.tail 0 l.k) / 4096 + 1 - l.done.windows
+decreases-loop-done l = latest (all_moves l.moves) / 4096 + 1 - l.done.windows

@@ -47,14 +47,14 @@ slice_bounds-put_pair-end c =
 
 pub overflow_sub-entry : goal.overflow_sub-entry
 overflow_sub-entry c =
-    let some : (c.wide-entry.result ≡ 0 → ⊥) = λ z. rest_some _ _ _ _ _ _ _ c.loop-rest.invariant c.lowest-p.result
-    c.lowest-p.ensures.has c.lowest-p.ensures.by_index (sym c.wide-entry.ensures.0 ∙ z) in
+    let some : (c.from-entry.result ≡ 0 → ⊥) = λ z. rest_some _ _ _ _ _ _ _ c.loop-rest.invariant c.lowest-p.result
+    c.lowest-p.ensures.has c.lowest-p.ensures.by_index (sym c.from-entry.ensures ∙ z) in
     omega arith
 
 pub put_pair-requires : goal.put_pair-requires
 put_pair-requires c = (
   c.lowest-p.ensures.upper_bound,
-  omega (arith, c.requires.entries_fit.0.at_most (c.args.row * 64 + c.lowest-p.result), c.wide-entry.ensures.0),
+  omega (arith, c.requires.entries_fit.0.at_most (c.args.row * 64 + c.lowest-p.result), c.from-entry.ensures),
   part_room c.loop-rest.buffer _ _ c.lowest-p.result 0
       (rest_room _ _ _ _ _ _ _ c.loop-rest.invariant c.lowest-p.result c.lowest-p.ensures.has
       c.lowest-p.ensures.by_index c.requires.row_bound.1),
@@ -75,8 +75,8 @@ loop-rest-smaller c =
 pub loop-rest-preserved : goal.loop-rest-preserved
 loop-rest-preserved c =
     rest-next _ _ _ _ _ _ _ c.loop-rest.invariant c.lowest-p.result c.lowest-p.ensures.has c.lowest-p.ensures.by_index
-    c.requires.row_bound.1 c.wide-entry.result
-    c.wide-entry.ensures.0 c.put_pair.new.s c.put_pair.ensures c.without-rest.result c.without-rest.ensures
+    c.requires.row_bound.1 c.from-entry.result
+    c.from-entry.ensures c.put_pair.new.s c.put_pair.ensures c.without-rest.result c.without-rest.ensures
 
 pub overflow_cast-buffer : goal.overflow_cast-buffer
 overflow_cast-buffer c =

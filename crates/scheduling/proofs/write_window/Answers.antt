@@ -5,31 +5,29 @@ use Rattle.scheduling.proofs.write_window.Goals as goal
 
 pub loop-row-init : goal.loop-row-init
 loop-row-init c =
-    (omega arith, rows-first c.args.window.now c.args.buffer.now c.args.n c.args.at)
+    rows-first c.args.window.now c.args.buffer.now c.args.n c.args.at
 
 pub write_step-next-requires : goal.write_step-next-requires
 write_step-next-requires c = record {
   row_bound = (
     omega arith,
     rows_room _ _ _ _ c.requires.n_bound.1 c.loop-row.buffer c.loop-row.next c.loop-row.row
-        c.loop-row.invariant.1 (omega arith),
+        c.loop-row.invariant (omega arith),
   );
   entries_fit = c.requires.entries_fit;
 }
 
 pub loop-row-preserved : goal.loop-row-preserved
-loop-row-preserved c = (
-  omega arith,
-  rows_more c.args.window.now c.args.buffer.now c.args.n c.args.at c.requires.n_bound.1 c.loop-row.buffer
-      c.loop-row.next c.loop-row.row c.loop-row.invariant.1 (omega arith) c.write_step-next.result _ c.write_step-next.ensures,
-)
+loop-row-preserved c =
+    rows_more c.args.window.now c.args.buffer.now c.args.n c.args.at c.requires.n_bound.1 c.loop-row.buffer
+    c.loop-row.next c.loop-row.row c.loop-row.invariant (omega arith) c.write_step-next.result _ c.write_step-next.ensures
 
 pub shape_of-buffer : goal.shape_of-buffer
 shape_of-buffer c =
     rows-length c.args.window.now c.args.buffer.now c.args.n c.args.at c.requires.n_bound.1 c.loop-row.buffer c.loop-row.next c.loop-row.row
-    c.loop-row.invariant.1 (omega arith)
+    c.loop-row.invariant (omega arith)
 
 pub returns : goal.returns
 returns c =
     rows_all c.args.window.now c.args.buffer.now c.args.n c.args.at c.requires.n_bound.1 c.loop-row.buffer c.loop-row.next c.loop-row.row
-    c.loop-row.invariant.1 (omega arith) (omega arith)
+    c.loop-row.invariant (omega arith) (omega arith)

@@ -1,10 +1,6 @@
 -- `scheduling::write_window` meets its contract. The loop's invariant: the steps of the rows passed are written. Assumes nothing.
-use Prim.Native.Nat.{◌≤◌, ◌-◌}
 use Rattle.scheduling.proofs.Windowing.{WroteRows}
 use Rattle.scheduling.proofs.write_window.Given as goal
 
 abbrev pub invariant-loop-row : goal.invariant-loop-row
-invariant-loop-row l = (l.row ≤ l.n) × WroteRows l.window l.initial.buffer l.n l.at l.buffer l.next l.row
-
-abbrev pub decreases-loop-row : goal.decreases-loop-row
-decreases-loop-row l = l.n - l.row
+invariant-loop-row l = WroteRows l.window l.initial.buffer l.n l.at l.buffer l.next l.row

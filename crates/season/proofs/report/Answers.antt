@@ -2,7 +2,6 @@
 use mathlib.Core.Path.{sym}
 use native.Mathlib.Omega.{arith}
 use lib.Seq.{length-take-le}
-use borrow.Author.Rules.{rules}
 use Rattle.season.proofs.SeasonLaws.{begins, over, thousandfold, full, cut, next}
 use Rattle.season.proofs.report.Goals as goal
 
@@ -12,27 +11,26 @@ loop-at-init c = begins _
 pub returns-then-pairs-eq-MOST : goal.returns-then-pairs-eq-MOST
 returns-then-pairs-eq-MOST c = full c.loop-at.invariant c.loop-at-test.true c.if-pairs-eq-MOST.true
 
-pub returns-then-order-eq0 : goal.returns-then-order-eq0
-returns-then-order-eq0 c =
-    cut c.loop-at.invariant c.loop-at-test.true c.if-pairs-eq-MOST.false c.find_pair-ends.ensures
-    (search rules)
+pub returns-in_default : goal.returns-in_default
+returns-in_default c = cut c.loop-at.invariant c.loop-at-test.true c.if-pairs-eq-MOST.false c.in_default.ensures
 
 pub slice_bounds-count_pair-end : goal.slice_bounds-count_pair-end
 slice_bounds-count_pair-end c =
-    let ordered = c.find_pair-ends.ensures.ordered in
-    let inside = c.find_pair-ends.ensures.inside in
+    let ordered = c.in-Some.ensures.ordered in
+    let inside = c.in-Some.ensures.inside in
     sym (length-take-le _ _ (omega arith))
 
 pub loop-at-smaller : goal.loop-at-smaller
 loop-at-smaller c =
-    let ordered = c.find_pair-ends.ensures.ordered in
-    let inside = c.find_pair-ends.ensures.inside in
+    let some = c.in-Some.ensures.some in
+    let ordered = c.in-Some.ensures.ordered in
+    let inside = c.in-Some.ensures.inside in
     omega arith
 
 pub loop-at-preserved : goal.loop-at-preserved
 loop-at-preserved c =
-    next c.loop-at.invariant c.loop-at-test.true c.if-pairs-eq-MOST.false c.find_pair-ends.ensures
-    c.count_pair-totals.result c.count_pair-totals.ensures.within_2 (search rules) c.count_pair-totals.ensures.value
+    next c.loop-at.invariant c.loop-at-test.true c.if-pairs-eq-MOST.false c.in-Some.ensures
+    c.count_pair-totals.result c.count_pair-totals.ensures.within_2 c.count_pair-totals.ensures.value
 
 pub divide-requires : goal.divide-requires
 divide-requires c = thousandfold c.loop-at.invariant

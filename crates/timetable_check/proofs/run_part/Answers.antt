@@ -18,11 +18,11 @@ bounds-step-0 c = omega (arith, step_length-some (get_or c.args.step.now 0 0))
 
 pub run_step-requires : goal.run_step-requires
 run_step-requires c =
-    run_room c.args.step.now c.wide.result c.wide.ensures.0 c.requires
+    run_room c.args.step.now c.from.result c.from.ensures c.requires
 
 pub returns : goal.returns
 returns c =
-    let moves = run_is c.args.step.now c.wide.result c.wide.ensures.0 in
+    let moves = run_is c.args.step.now c.from.result c.from.ensures in
     record {
       judged = c.run_step.ensures.judged ∙ ap (legal_step_on c.args.matrix.now c.args.racks.now) moves;
       made = c.run_step.ensures.made ∙ ap (ran_on c.args.matrix.now c.args.racks.now) moves;

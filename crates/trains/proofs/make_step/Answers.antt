@@ -2,11 +2,11 @@
 use mathlib.Core.Path.{ap, ◌∙◌}
 use mathlib.Core.List.{List}
 use Prim.Native.Nat.{ℕ}
-use Rattle.chains.specs.StepOn.{entries, put_down, step_on}
+use Rattle.chains.specs.StepOn.{moves_of, put_down, step_on}
 use Rattle.trains.proofs.make_step.Goals as goal
 
 pub returns : goal.returns
 unfolding step_on
 returns c =
-    let moves = entries c.args.step.now 0 c.args.c in
+    let moves = moves_of c.args.step.now in
     c.put_down.ensures ∙ ap (λ (h : List ℕ). put_down c.args.racks.now h moves) c.take_up.ensures

@@ -1,10 +1,11 @@
 -- `trains::read_moves` meets its contract. The loop's invariant: the first j moves are kept. Assumes nothing.
 use Prim.Native.Nat.{◌≤◌, ◌-◌}
+use lib.ListN.{length}
 use Rattle.chains.proofs.Moves.{Kept}
 use Rattle.trains.proofs.read_moves.Given as goal
 
 abbrev pub invariant-loop-j : goal.invariant-loop-j
-invariant-loop-j l = (l.j ≤ l.c) × (l.c ≤ 64) × Kept l.moves l.step l.j
+invariant-loop-j l = (l.j ≤ length l.initial.step) × Kept l.moves l.step (length l.initial.step) l.j
 
 abbrev pub decreases-loop-j : goal.decreases-loop-j
-decreases-loop-j l = l.c - l.j
+decreases-loop-j l = length l.initial.step - l.j

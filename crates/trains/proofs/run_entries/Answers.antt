@@ -1,6 +1,6 @@
 -- `trains::run_entries` meets its contract: judged, then made. Assumes nothing.
 use mathlib.Core.Path.{sym, ◌∙◌}
-use Rattle.chains.specs.StepOn.{entries}
+use Rattle.chains.specs.StepOn.{moves_of}
 use Rattle.trains.proofs.Running.{stays, ran}
 use Rattle.trains.proofs.run_entries.Goals as goal
 
@@ -10,7 +10,7 @@ returns-then-not-judge_entries c =
     let is = sym no ∙ c.judge_entries.ensures in
     record {
       judged = is;
-      made = stays c.args.matrix.now c.args.racks.now (entries c.args.step.now 0 c.args.c) (sym is);
+      made = stays c.args.matrix.now c.args.racks.now (moves_of c.args.step.now) (sym is);
     }
 
 pub returns : goal.returns
@@ -19,5 +19,5 @@ returns c =
     let is = sym yes ∙ c.judge_entries.ensures in
     record {
       judged = is;
-      made = ran c.args.matrix.now c.args.racks.now (entries c.args.step.now 0 c.args.c) _ (sym is) c.make_step.ensures;
+      made = ran c.args.matrix.now c.args.racks.now (moves_of c.args.step.now) _ (sym is) c.make_step.ensures;
     }

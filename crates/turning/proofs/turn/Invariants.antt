@@ -7,6 +7,3 @@ use Rattle.turning.proofs.turn.Given as goal
 abbrev pub invariant-loop-i : goal.invariant-loop-i
 invariant-loop-i l =
     Underway (row l.cycle) l.z l.size l.i l.initial.state l.initial.log l.initial.tail l.state l.log l.tail
-
-abbrev pub decreases-loop-i : goal.decreases-loop-i
-decreases-loop-i l = l.i

@@ -1,6 +1,5 @@
 -- `turning::vacancy_on` meets its contract. The invariant: what is left of the search finds what the whole of it finds.
 -- Assumes nothing.
-use Prim.Native.Nat.{◌-◌, ◌<◌}
 use mathlib.Core.Path.{◌≡◌}
 use Rattle.breakdown.specs.Part.{place_of}
 use Rattle.graph.specs.Rows.{row}
@@ -8,7 +7,4 @@ use Rattle.turning.proofs.vacancy_on.Given as goal
 
 abbrev pub invariant-loop-i : goal.invariant-loop-i
 invariant-loop-i l =
-    (l.i < l.size) × (place_of (λ j. row l.racks (row l.cycle j)) l.i l.size 0 ≡ place_of (λ j. row l.racks (row l.cycle j)) 0 l.size 0)
-
-abbrev pub decreases-loop-i : goal.decreases-loop-i
-decreases-loop-i l = l.size - l.i
+    place_of (λ j. row l.racks (row l.cycle j)) l.i l.size 0 ≡ place_of (λ j. row l.racks (row l.cycle j)) 0 l.size 0

@@ -8,6 +8,6 @@ pub returns-then-first-t : goal.returns-then-first-t
 returns-then-first-t c =
     let behind : c.args.first + 4096 < c.args.t = omega arith in
     record {
-      window_after = (note_outside _ _ _ _ _ (λ h. behind), omega (arith, c.earlier.ensures), λ h. omega (arith, c.earlier.ensures));
+      window_after = (note_outside _ _ _ _ _ (λ h. behind), omega arith, λ h. omega arith);
       keeps_left = λ left. left;
     }

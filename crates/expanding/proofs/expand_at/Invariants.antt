@@ -1,9 +1,0 @@
--- `expanding::expand_at` is safe and ends: each turn takes one position from the set. Assumes nothing.
-use Prim.Native.Nat.{◌≤◌}
-use Rattle.expanding.proofs.expand_at.Given as goal
-
-abbrev pub invariant-loop-near : goal.invariant-loop-near
-invariant-loop-near l = 0 ≤ l.near
-
-abbrev pub decreases-loop-near : goal.decreases-loop-near
-decreases-loop-near l = l.near

@@ -1,7 +1,0 @@
--- `sets::size` meets its contract. Assumes nothing.
-use native.Mathlib.Omega.{arith}
-use lib.Count.{ones-le}
-use Rattle.sets.proofs.size.Goals as goal
-
-pub overflow_cast-result : goal.overflow_cast-result
-overflow_cast-result c = record { fits = omega (arith, ones-le 64 c.args.s c.ranges.s.fits) }

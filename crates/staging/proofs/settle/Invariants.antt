@@ -1,9 +1,0 @@
--- `staging::settle` is safe and ends: the rounds are counted up to a bound. Assumes nothing.
-use Prim.Native.Nat.{◌≤◌, ◌-◌}
-use Rattle.staging.proofs.settle.Given as goal
-
-abbrev pub invariant-loop-rounds : goal.invariant-loop-rounds
-invariant-loop-rounds l = l.rounds ≤ 58
-
-abbrev pub decreases-loop-rounds : goal.decreases-loop-rounds
-decreases-loop-rounds l = 58 - l.rounds
