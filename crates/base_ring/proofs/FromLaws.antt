@@ -1,18 +1,21 @@
 -- Laws of the base ring in its order from a place on.
 --
---     length-round, round-at    how many positions; the one at place i
+--     length-round, round-next, round-at    how many positions; one more of them; the one at place i
+--     laid_none, laid_next      the row of 64 with nothing laid, and with one position more
 --     round_turned          a row moved round until place z is the first
 --     circle-right          the breakdown's ring from the left end of its first handle on is a base ring
 --     circle-same           with the same positions
 -- Assumes nothing.
 use Prim.Native.Nat.{ℕ, zero, suc, ◌+◌, ◌-◌, ◌%◌, ◌≤◌, ◌<◌}
 use mathlib.Core.Path.{◌≡◌, refl, sym, ap, subst, ◌∙◌}
-use mathlib.Core.List.{List, [], ◌++◌}
+use mathlib.Core.List.{List, [], ◌∷◌, ◌++◌}
 use mathlib.Core.Logic.{◌↔◌, ◌≢◌, by_cases}
 use native.Mathlib.Decide.{ℕ_discrete, dec_lt}
 use native.Mathlib.Nat.{mod-lt, mod-eq_of_lt, mod-eq-sub-mod}
+use native.Mathlib.Numerals.{add-one}
 use native.Mathlib.Omega.{arith}
-use lib.ListN.{length, replicate}
+use lib.ListN.{length, set, replicate}
+use lib.Seq.{set_at, append_snoc}
 use Rattle.std.specs.List.{RotatedLeft}
 use Rattle.std.proofs.lemmas.Grind.{same_number_lists}
 use Rattle.std.proofs.lemmas.List.{get_or_append_left}
@@ -31,6 +34,14 @@ module _ (at : ℕ → ℕ) (size : ℕ) where
   length-round zero z = refl
   length-round (suc k) z = ap suc (length-round k (z + 1))
 
+  pub round-next : (k z : ℕ) → round at size z (suc k) ≡ round at size z k ++ (at ((z + k) % size) ∷ [])
+  unfolding round
+  round-next zero z = let e : z ≡ z + 0 = omega arith in ap (λ (i : ℕ). at (i % size) ∷ []) e
+  round-next (suc k) z =
+      let e : z + 1 + k ≡ z + suc k = omega arith in
+      ap (λ (l : List ℕ). at (z % size) ∷ l)
+      (round-next k (z + 1) ∙ ap (λ (i : ℕ). round at size (z + 1) k ++ (at (i % size) ∷ [])) e)
+
   pub round-at : (k z i : ℕ) (rest : List ℕ) → i < k → row (round at size z k ++ rest) i ≡ at ((z + i) % size)
   unfolding round
   round-at zero z i rest l = absurd (omega arith)
@@ -38,6 +49,23 @@ module _ (at : ℕ → ℕ) (size : ℕ) where
   round-at (suc k) z (suc i) rest l =
       let e : z + 1 + i ≡ z + suc i = omega arith in
       round-at k (z + 1) i rest (omega arith) ∙ ap (λ (j : ℕ). at (j % size)) e
+
+  pub laid_none : (z : ℕ) → replicate 64 0 ≡ round at size z 0 ++ replicate (64 - 0) 0
+  unfolding round
+  laid_none z = refl
+
+  pub laid_next : (z j : ℕ) (l : List ℕ) → j < 64 → l ≡ round at size z j ++ replicate (64 - j) 0
+      → set l j (at ((z + j) % size)) ≡ round at size z (j + 1) ++ replicate (64 - (j + 1)) 0
+  laid_next z j l few is =
+      let v = at ((z + j) % size) in
+      let rest : List ℕ = replicate (64 - (j + 1)) 0 in
+      let more : 64 - j ≡ suc (64 - (j + 1)) = omega arith in
+      let split : l ≡ round at size z j ++ 0 ∷ rest = is ∙ ap (λ (k : ℕ). round at size z j ++ replicate k 0) more in
+      ap (λ (y : List ℕ). set y j v) split
+      ∙ set_at (round at size z j) 0 rest v j (length-round j z)
+      ∙ sym (append_snoc (round at size z j) v rest)
+      ∙ ap (λ (y : List ℕ). y ++ rest) (sym (round-next j z))
+      ∙ ap (λ (k : ℕ). round at size z k ++ rest) (sym (add-one j))
 
 -- (z + i) % size before and after the ring's last place is passed
 near : (x size : ℕ) → x < size → x % size ≡ x

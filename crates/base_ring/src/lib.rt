@@ -235,8 +235,10 @@ fn ring_from(order: &[u8; 64], size: usize, x: usize) -> [u8; 64]
 {
     let z = breakdown::place_of(order, 0, size, x);
     let mut circle = [0u8; 64];
-    circle[..size].copy_from_slice(&order[..size]);
-    circle[..size].rotate_left(z);
+    // Place by place: to turn a copy round would take `memmove` from whoever links the library.
+    for j in 0..size {
+        circle[j] = order[(z + j) % size];
+    }
     circle
 }
 

@@ -1,6 +1,7 @@
 -- What racks need to go on, and where it takes them.
 --
 --     distance_below      no rack is a lap away
+--     aimed-at            a number of few laps is one to aim at
 --     Needing, needing_first, needing_next, needing_last    the state of `needs`
 -- Assumes nothing.
 use Prim.Native.Nat.{ℕ, zero, suc, ◌+◌, ◌-◌, ◌*◌, ◌≤◌, ◌<◌}
@@ -8,7 +9,7 @@ use mathlib.Core.Path.{◌≡◌, refl, sym, ap, ◌∙◌}
 use mathlib.Core.List.{List}
 use mathlib.Core.Logic.{by_cases}
 use native.Mathlib.Decide.{ℕ_discrete}
-use native.Mathlib.Nat.{mul-suc}
+use native.Mathlib.Nat.{mul-le-mul_left, mul-suc}
 use native.Mathlib.Omega.{arith}
 use lib.ListN.{get_or, set, length, length-set, replicate}
 use lib.Seq.{get_or-set_same, get_or-set_other}
@@ -16,11 +17,20 @@ use Rattle.ring.specs.Order.{Rack, Places, distance}
 use Rattle.graph.specs.Rows.{row}
 use Rattle.ring.proofs.OrderLaws.{first, ahead_below}
 use Rattle.circling.specs.Lands.{total}
-use Rattle.circling.specs.Needs.{reach, Needs}
+use Rattle.circling.specs.Needs.{reach, Aimed, Needs}
 use Rattle.circling.proofs.LandsLaws.{total-set, total_none}
 
 pub distance_below : {n m : ℕ} {p : ℕ → ℕ} → Places n m p → (r : ℕ) → Rack m r → distance n p r < n
 distance_below {n} {m} {p} v r k = ahead_below n (p 1) (p r) (v.below 1 (first k)) (v.below r k)
+
+pub aimed-at : (n b j w c : ℕ) → n ≤ 64 → 2 * n ≤ b → b < 3 * n → j < n → w ≤ 4 → c ≡ j + n * w → Aimed n b j c
+aimed-at n b j w c few low high l most e =
+    let lap : n * w ≤ n * 4 = mul-le-mul_left n most in
+    record {
+      lands = record { laps = w; is = e };
+      there = record { first = omega arith; second = omega arith; near = omega arith };
+      back = record { first = omega arith; second = omega arith; near = omega arith };
+    }
 
 pub none_at : (k i : ℕ) → row (replicate k 0) i ≡ 0
 none_at zero i = refl

@@ -51,7 +51,7 @@ fn counted(count: Result<usize, Refusal>) -> u64
 {
     match count {
         Ok(n) => packing::one_count(n),
-        Err(refusal) => packing::refusal(refusal),
+        Err(why) => packing::refusal(why),
     }
 }
 
@@ -186,7 +186,7 @@ pub extern "C" fn wichteab_timetable_step(timetable: &[u8], number: u64) -> u64
 {
     match timetable::find_step(timetable, number as usize) {
         Ok(Part { offset, len }) => packing::length_and_offset(offset, len),
-        Err(refusal) => packing::refusal(refusal),
+        Err(missing) => packing::refusal(missing),
     }
 }
 

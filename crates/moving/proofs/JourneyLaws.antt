@@ -23,6 +23,7 @@
 --     real_named           the racks that were real are so still
 --     trip_packed          behind packed moves it packs those that it writes
 --     moved-passed         the table after one move
+--     moved-relogged, space_relogged    a move, and room in the plan, do not look at how many moves the log has
 --     Single, moved_single, moved_trip, moved_journey    one move is a trip, and logged a journey
 --     fits_then            where there is room for c and d moves, there is room for d after c of them
 --     fits_move            and after one move, whatever the rows are
@@ -412,6 +413,9 @@ module _ {c : ℕ} {s : State} {l t : List ℕ} where
   pub space_room : length l ≡ 8256 → Space s t c → Room s l t c
   space_room log f = record { racks = f.racks; log = log; few_racks = f.few_racks; room = f.room }
 
+pub space_relogged : {c : ℕ} {s : State} {t : List ℕ} (j : ℕ) → Space s t c → Space (relogged s j) t c
+space_relogged j f = record { racks = f.racks; few_racks = f.few_racks; room = f.room }
+
 pub space_less : {c : ℕ} {s : State} {t : List ℕ} (d : ℕ) → d ≤ c → Space s t c → Space s t d
 space_less d le f = let room = f.room in record { racks = f.racks; few_racks = f.few_racks; room = omega arith }
 
@@ -425,6 +429,10 @@ edge_of a b l =
 pub fits_move : {s s' : State} {l t l' t' : List ℕ} (a b d : ℕ) → a < 64 → Fits s l t (1 + d)
     → JourneyOn (Joins a b) 1 s l t s' l' t' → Fits s' l' t' d
 fits_move a b d l f made = fits_then f (made (set (replicate 64 0) a (2 ^ b)) (edge_of a b l))
+
+pub moved-relogged : {a b : ℕ} {s s' : State} {t t' : List ℕ} (i j : ℕ) → Moved a b s t s' t'
+    → Moved a b (relogged s i) t (relogged s' j) t'
+moved-relogged i j x = record { table = x.table; reals = x.reals; real = x.real; stand_in = x.stand_in }
 
 -- a trip of just the move from a to b
 pub record Single (g : List ℕ) (a b : ℕ) (s : State) (t : List ℕ) (s' : State) (t' : List ℕ) : Type 0 where

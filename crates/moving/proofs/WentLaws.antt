@@ -1,6 +1,7 @@
 -- Laws of moves on a table.
 --
---     move-from               the same move from a table that agrees with its own
+--     move-from, move_to      the same move between tables that agree with its own
+--     move-apart              a move's two positions differ
 --     move_back               turned round it leads back
 --     move-renamed            legality does not look at rack numbers: racks renamed by f, which leaves vacant what is vacant
 --     went_from, went_to      the same moves between tables that agree
@@ -23,6 +24,9 @@ use lib.ListN.{length}
 pub same_refl : (h : ℕ → ℕ) → Same h h
 same_refl h p = refl
 
+pub same_back : {h k : ℕ → ℕ} → Same h k → Same k h
+same_back s p = sym (s p)
+
 pub same_then : {h i k : ℕ → ℕ} → Same h i → Same i k → Same h k
 same_then s t p = s p ∙ t p
 
@@ -37,6 +41,20 @@ module _ {E : ℕ → ℕ → Type 0} where
         left = m.left;
         others = λ p x y. m.others p x y ∙ sym (s p);
       }
+
+  pub move_to : {h i k : ℕ → ℕ} {a b : ℕ} → Same k i → Move E h a b k → Move E h a b i
+  move_to {h} {i} {k} {a} {b} s m =
+      record {
+        edge = m.edge;
+        held = m.held;
+        vacant = m.vacant;
+        entered = sym (s b) ∙ m.entered;
+        left = sym (s a) ∙ m.left;
+        others = λ p x y. sym (s p) ∙ m.others p x y;
+      }
+
+  pub move-apart : {h k : ℕ → ℕ} {a b : ℕ} → Move E h a b k → a ≢ b
+  move-apart {h} m e = m.held (ap h e ∙ m.vacant)
 
   pub move_back : {h k : ℕ → ℕ} {a b : ℕ} → Symmetric E → Move E h a b k → Move E k b a h
   move_back {h} {k} {a} {b} s m =

@@ -10,6 +10,6 @@ pub fn order_program(input: &[u8], out: &mut [u8; 1024]) -> usize
 {
     match models::expand(input, out) {
         Ok(length) => length,
-        Err(refusal) => writers::put_refusal(refusal, out, 0),
+        Err(refusal) => writers::put_refusal(refusal.0.number(), refusal.1, out, 0),
     }
 }

@@ -10,6 +10,6 @@ pub fn plan_program(input: &[u8], out: &mut [u8; 65536]) -> usize
 {
     match choosing::make(input, out) {
         Ok(moves) => 3 + (18 * moves + 7) / 8,
-        Err(refusal) => writers::put_refusal(refusal, out, 0),
+        Err(refusal) => writers::put_refusal(refusal.0.number(), refusal.1, out, 0),
     }
 }

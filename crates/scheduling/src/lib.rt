@@ -133,6 +133,23 @@ fn make_windows(
 // So many moves are passed as one stretch: a book for more of them takes longer to clear than is saved.
 const ORDINARY: usize = 16384;
 
+// Makes and writes all steps, with a book of so many stretches, which has a row more, and says how many they are. A function of its own:
+// a book that stood in `make_steps` would be cleared for every plan, whichever of the two it is made with.
+fn make_steps_in<const ROWS: usize, const STRETCHES: usize>(
+    moves: &Moves,
+    buffer: &mut [u8],
+) -> usize
+    requires k_nonzero { (0 < moves.now.count)
+        × Fits buffer.old 3 (steps_bytes (all_steps (all_moves moves.now))) }
+    requires rows { (ROWS ≡ STRETCHES + 1) × (0 < STRETCHES) × (STRETCHES ≤ 128) }
+    ensures { (result ≡ latest (all_moves moves.now))
+        × (buffer.new ≡ written buffer.old 3 (steps_bytes (all_steps (all_moves moves.now)))) }
+{
+    let mut book = [[0u32; 128]; ROWS];
+    let mut due = [0usize; STRETCHES];
+    make_windows(moves, &mut book, &mut due, buffer)
+}
+
 // Makes and writes all steps, with a book of as many stretches as the plan's length is worth, and says how many they are.
 fn make_steps(moves: &Moves, buffer: &mut [u8]) -> usize
     requires { Fits buffer.old 3 (steps_bytes (all_steps (all_moves moves.now))) }
@@ -143,13 +160,9 @@ fn make_steps(moves: &Moves, buffer: &mut [u8]) -> usize
         return 0;
     }
     if moves.count <= ORDINARY {
-        let mut book = [[0u32; 128]; 2];
-        let mut due = [0usize; 1];
-        return make_windows(moves, &mut book, &mut due, buffer);
+        return make_steps_in::<2, 1>(moves, buffer);
     }
-    let mut book = [[0u32; 128]; 129];
-    let mut due = [0usize; 128];
-    make_windows(moves, &mut book, &mut due, buffer)
+    make_steps_in::<129, 128>(moves, buffer)
 }
 
 // How many steps the timetable of a plan for an order has, which is not written: the plan checker's numbers, or that count.

@@ -65,6 +65,6 @@ pub fn season_program(input: &[u8], out: &mut [u8; 256]) -> usize
 {
     match season::report(input) {
         Ok(report) => put_report(report, out, 0),
-        Err(refusal) => writers::put_refusal(refusal, out, 0),
+        Err(refusal) => writers::put_refusal(refusal.0.number(), refusal.1, out, 0),
     }
 }

@@ -86,7 +86,7 @@ pub fn has(set: u64, p: usize) -> bool {
 }
 
 // The set without its lowest position: a smaller number, so that a walk over a set ends.
-fn without_lowest(set: u64) -> u64
+pub fn without_lowest(set: u64) -> u64
     requires { 0 < set }
     ensures { result < set }
 {
@@ -591,6 +591,21 @@ impl Tables {
         }
     }
 
+    // Forgets what an earlier search was prepared with.
+    fn forget(&mut self) {
+        self.stages = 0;
+        self.shifted = 0;
+        self.rows = [0; 64];
+        self.regions = [0; 64];
+        self.goals = [0; 64];
+        self.homes = [0; 64];
+        self.turns = [0; 64];
+        self.settled = [0; 64];
+        self.doors = [None; 64];
+        self.distances = [0; 4096];
+        self.weights = [0; 4096];
+    }
+
     // Takes floor and goals over.
     fn take_over(&mut self, rows: &[u64; 64], goals: &[u8; 64]) {
         let all = sets::below(self.n);
@@ -601,8 +616,10 @@ impl Tables {
         self.vacancies = goals[..self.n].iter().filter(|rack| **rack == 0).count();
     }
 
-    // Prepares empty tables for a search on a floor whose neighbours are the rows and whose racks are to end as the goals say, 0 for none.
+    // Prepares a search on a floor whose neighbours are the rows and whose racks are to end as the goals say, 0 for none. What the tables
+    // held before does not count.
     pub fn prepare(&mut self, rows: &[u64; 64], goals: &[u8; 64]) {
+        self.forget();
         self.take_over(rows, goals);
         self.find_distances();
         let middle = self.middle();

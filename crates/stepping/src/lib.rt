@@ -51,7 +51,7 @@ fn read_lent<'a>(timetable: &[u8], number: usize, buffer: &'a mut [u16; 64]) -> 
     let part = timetable::step(timetable, number);
     let c = usize::from(part[0]);
     let step = &mut buffer[..c];
-    trains::read_moves(&part[1..], step);
+    trains::fill_step(&part[1..], step);
     step
 }
 

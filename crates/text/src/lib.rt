@@ -101,7 +101,7 @@ pub fn timetable_program(input: &[u8], out: &mut [u8; 524288]) -> usize
     let end = order_end(input);
     let mut buffer = [0u8; 65536];
     match scheduling::make(&input[..end], &input[end..], &mut buffer) {
-        Err(refusal) => writers::put_refusal(refusal, out, 0),
+        Err(refusal) => writers::put_refusal(refusal.0.number(), refusal.1, out, 0),
         Ok(_) => {
             let Some(len) = timetable::record_length(&buffer) else {
                 unreachable!()

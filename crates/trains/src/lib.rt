@@ -2,7 +2,7 @@
 // it is document 01's legal step. `run_entries` takes a step as the numbers of its moves, `run_step` as the record has it.
 #![tactic(auto)]
 
-ghost use Rattle.std.specs.Prelude.{◌≡◌, ◌+◌, ◌*◌, ◌≤◌, length};
+ghost use Rattle.std.specs.Prelude.{◌≡◌, true, ◌+◌, ◌*◌, ◌≤◌, leb, length, take};
 ghost use Rattle.field.specs.Bits.{pairs};
 ghost use Rattle.chains.specs.StepOn.{moves_of, legal_step_on, taken_up, put_down, step_on, ran_on};
 ghost use Rattle.chains.specs.Chains.{EntryAt};
@@ -17,7 +17,7 @@ fn entry_at(moves: &[u8], j: usize) -> u16
 }
 
 // Reads moves from the slice's first byte on, as many as the step has room for, two at a time, which take three bytes.
-pub fn read_moves(moves: &[u8], step: &mut [u16])
+pub fn fill_step(moves: &[u8], step: &mut [u16])
     requires { 12 * length step.old ≤ 8 * length moves.now }
     ensures { moves_of step.new ≡ pairs moves.now 0 (length step.old) }
 {
@@ -31,6 +31,19 @@ pub fn read_moves(moves: &[u8], step: &mut [u16])
     if j < step.len() {
         step[j] = entry_at(moves, j);
     }
+}
+
+// Reads the c moves that the slice begins with to the buffer's front. More than 64 are not read: so many do not ascend.
+pub fn read_moves(moves: &[u8], c: usize, buffer: &mut [u16; 64]) -> bool
+    requires { 12 * c ≤ 8 * length moves.now }
+    ensures few { result ≡ leb c 64 }
+    ensures all { result ≡ true → moves_of (take c buffer.new) ≡ pairs moves.now 0 c }
+{
+    if 64 < c {
+        return false;
+    }
+    fill_step(moves, &mut buffer[..c]);
+    true
 }
 
 // Takes up the racks at the positions that a step's moves leave.
@@ -83,17 +96,15 @@ pub fn run_entries(step: &[u16], matrix: &[u8; 4096], racks: &mut [u8; 64]) -> b
     true
 }
 
-// The same of the c moves that the slice begins with. More than 64 are not read: so many do not ascend.
+// The same of the c moves that the slice begins with.
 pub fn run_step(moves: &[u8], c: usize, matrix: &[u8; 4096], racks: &mut [u8; 64]) -> bool
     requires { 12 * c ≤ 8 * length moves.now }
     ensures judged { result ≡ legal_step_on matrix.now racks.old (pairs moves.now 0 c) }
     ensures made { racks.new ≡ ran_on matrix.now racks.old (pairs moves.now 0 c) }
 {
-    if 64 < c {
+    let mut buffer = [0u16; 64];
+    if !read_moves(moves, c, &mut buffer) {
         return false;
     }
-    let mut buffer = [0u16; 64];
-    let step = &mut buffer[..c];
-    read_moves(moves, step);
-    run_entries(step, matrix, racks)
+    run_entries(&buffer[..c], matrix, racks)
 }

@@ -4,12 +4,9 @@
 #![tactic(auto)]
 
 ghost use Rattle.std.specs.Prelude.{[], ◌∷◌};
-ghost use Rattle.answers.specs.Answer.{number_of};
 ghost use Rattle.answers.specs.Family.{family_word};
 ghost use Rattle.field.specs.Writing.{Fits, Wrote};
 ghost use Rattle.writers.specs.Lines.{decimal, refusal_line};
-
-use answers::Refusal;
 
 // One byte.
 pub fn put_byte(byte: u8, out: &mut [u8], at: usize) -> usize
@@ -52,8 +49,8 @@ fn put_word(number: u64, out: &mut [u8], at: usize) -> usize
     put_bytes(answers::family_word(number), out, at)
 }
 
-// The line of a refusal of that number.
-fn put_line(number: u64, place: u32, out: &mut [u8], at: usize) -> usize
+// The line of a refusal: `refused`, number, place and family.
+pub fn put_refusal(number: u64, place: u32, out: &mut [u8], at: usize) -> usize
     requires { Fits out.old at (refusal_line number place) }
     ensures { Wrote out.old at (refusal_line number place) out.new result }
 {
@@ -64,12 +61,4 @@ fn put_line(number: u64, place: u32, out: &mut [u8], at: usize) -> usize
     let at = put_byte(b' ', out, at);
     let at = put_word(number, out, at);
     put_byte(b'\n', out, at)
-}
-
-// The line of a refusal: `refused`, number, place and family.
-pub fn put_refusal(refusal: Refusal, out: &mut [u8], at: usize) -> usize
-    requires { Fits out.old at (refusal_line (number_of refusal.0) refusal.1) }
-    ensures { Wrote out.old at (refusal_line (number_of refusal.0) refusal.1) out.new result }
-{
-    put_line(refusal.0.number(), refusal.1, out, at)
 }

@@ -1,12 +1,11 @@
 -- `order_program::order_program` meets its contract: what the expansion answers and leaves is what is printed. Assumes nothing.
 use native.Mathlib.Omega.{arith}
-use Rattle.answers.proofs.AnswerLaws.{number_of_le}
 use Rattle.writers.proofs.LineLaws.{refusal_fits}
 use Rattle.order_program.proofs.PrintedLaws.{order_text_lem, refusal_text}
 use Rattle.order_program.proofs.order_program.Goals as goal
 
 pub put_refusal-requires : goal.put_refusal-requires
-put_refusal-requires c = refusal_fits _ _ (omega (arith, number_of_le c.in-Err.refusal.0)) (omega arith) _ (omega arith)
+put_refusal-requires c = refusal_fits _ _ (omega arith) (omega arith) _ (omega arith)
 
 pub returns-in-Ok : goal.returns-in-Ok
 returns-in-Ok c =
@@ -16,4 +15,4 @@ returns-in-Ok c =
 pub returns-in-Err : goal.returns-in-Err
 returns-in-Err c =
     refusal_text c.args.input.now c.args.out.now (omega arith) _ _ c.put_refusal.result c.expand.new.buffer c.put_refusal.new.out
-    c.in-Err.ensures.answer c.in-Err.ensures.buffer c.put_refusal.ensures
+    c.in-Err.ensures.answer c.in-Err.ensures.buffer (rw c.number.ensures at c.put_refusal.ensures)

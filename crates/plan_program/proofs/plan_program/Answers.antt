@@ -1,6 +1,5 @@
 -- `plan_program::plan_program` meets its contract: what the planner answers and leaves is what is printed. Assumes nothing.
 use native.Mathlib.Omega.{arith}
-use Rattle.answers.proofs.AnswerLaws.{number_of_le}
 use Rattle.writers.proofs.LineLaws.{refusal_fits}
 use Rattle.planner.proofs.PlannerLaws.{moves_few}
 use Rattle.plan_program.proofs.PrintedLaws.{made_printed, refused_printed}
@@ -19,12 +18,10 @@ overflow_add-result-in-Ok c = let few = moves_few c.in-Ok.ensures in
     omega arith
 
 pub put_refusal-requires : goal.put_refusal-requires
-put_refusal-requires c =
-    let low = number_of_le c.in-Err.refusal.0 in
-    refusal_fits _ _ (omega arith) (omega arith) _ (omega arith)
+put_refusal-requires c = refusal_fits _ _ (omega arith) (omega arith) _ (omega arith)
 
 pub returns-in-Ok : goal.returns-in-Ok
 returns-in-Ok c = made_printed (omega arith) c.in-Ok.ensures (omega arith)
 
 pub returns-in-Err : goal.returns-in-Err
-returns-in-Err c = refused_printed (omega arith) c.in-Err.ensures c.put_refusal.ensures (omega arith)
+returns-in-Err c = refused_printed (omega arith) c.in-Err.ensures (rw c.number.ensures at c.put_refusal.ensures) (omega arith)

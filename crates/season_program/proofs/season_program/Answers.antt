@@ -10,7 +10,6 @@ use denote.Enum.Declared.{row}
 use native.Mathlib.Omega.{arith}
 use Rattle.std.specs.Prelude.{ℕ, Option, None, Some}
 use Rattle.std.specs.contracts.option.Option.{the_type}
-use Rattle.answers.proofs.AnswerLaws.{number_of_le}
 use Rattle.field.proofs.WritingLaws.{wrote_as}
 use Rattle.writers.proofs.LineLaws.{refusal_fits}
 use Rattle.season.specs.Season.{told_by, answer_of}
@@ -29,7 +28,7 @@ put_report-requires c =
     (omega arith) (omega arith) (let inv = rw c.in-Ok.is at c.report.type_inv in small c.in-Ok.report.parallelism _ inv.1.1.1.1.0.1.1.1.0)
 
 pub put_refusal-requires : goal.put_refusal-requires
-put_refusal-requires c = refusal_fits _ _ (omega (arith, number_of_le c.in-Err.refusal.0)) (omega arith) _ (omega arith)
+put_refusal-requires c = refusal_fits _ _ (omega arith) (omega arith) _ (omega arith)
 
 pub returns-in-Ok : goal.returns-in-Ok
 returns-in-Ok c =
@@ -39,4 +38,4 @@ returns-in-Ok c =
 pub returns-in-Err : goal.returns-in-Err
 returns-in-Err c =
     let is = ap answer_of (sym c.in-Err.is) ∙ c.report.ensures in
-    wrote_as (refusal_text c.args.input.now _ _ is) c.put_refusal.ensures
+    wrote_as (refusal_text c.args.input.now _ _ is) (rw c.number.ensures at c.put_refusal.ensures)

@@ -32,21 +32,21 @@ bounds-part-0 c = some_bytes (goal.at.bounds-part-0 c).After-step-part
 pub slice_bounds-step-end : goal.slice_bounds-step-end
 slice_bounds-step-end c = few (goal.at.slice_bounds-step-end c).After-from-c
 
-pub slice_bounds-read_moves-count : goal.slice_bounds-read_moves-count
-slice_bounds-read_moves-count c = some_bytes (goal.at.slice_bounds-read_moves-count c).After-step-part
+pub slice_bounds-fill_step-count : goal.slice_bounds-fill_step-count
+slice_bounds-fill_step-count c = some_bytes (goal.at.slice_bounds-fill_step-count c).After-step-part
 
-pub slice_bounds-read_moves-start : goal.slice_bounds-read_moves-start
-slice_bounds-read_moves-start c = some_bytes (goal.at.slice_bounds-read_moves-start c).After-step-part
+pub slice_bounds-fill_step-start : goal.slice_bounds-fill_step-start
+slice_bounds-fill_step-start c = some_bytes (goal.at.slice_bounds-fill_step-start c).After-step-part
 
-pub read_moves-requires : goal.read_moves-requires
-read_moves-requires c =
-    rw (room (goal.at.read_moves-requires c).After-from-c)
+pub fill_step-requires : goal.fill_step-requires
+fill_step-requires c =
+    rw (room (goal.at.fill_step-requires c).After-from-c)
     (run_room c.step-part.result.now c.from-c.result c.from-c.ensures
     (part_sized c.args.timetable.now c.args.number c.requires c.step-part.result.now c.step-part.ensures.bytes))
 
 pub returns : goal.returns
 returns c =
-    c.read_moves.ensures
+    c.fill_step.ensures
     ∙ ap (pairs (take (length c.step-part.result.now - 1) (drop 1 c.step-part.result.now)) 0) (room (goal.at.returns c).After-from-c)
     ∙ run_is c.step-part.result.now c.from-c.result c.from-c.ensures
     ∙ part-moves c.args.timetable.now c.args.number c.requires c.step-part.result.now c.step-part.ensures.bytes

@@ -2,7 +2,6 @@
 use native.Mathlib.Omega.{arith}
 use mathlib.Core.Path.{sym}
 use lib.Seq.{length-take-le}
-use Rattle.answers.proofs.AnswerLaws.{number_of_le}
 use Rattle.field.proofs.WritingLaws.{wrote_as}
 use Rattle.writers.proofs.LineLaws.{refusal_fits}
 use Rattle.text.proofs.Program.{end_within, refusal_text, part_there, part-within, part-packed, part_fits, part_text}
@@ -48,12 +47,12 @@ put_timetable-requires c = (
 )
 
 pub put_refusal-requires : goal.put_refusal-requires
-put_refusal-requires c = refusal_fits _ _ (omega (arith, number_of_le c.in-Err.refusal.0)) (omega arith) _ (omega arith)
+put_refusal-requires c = refusal_fits _ _ (omega arith) (omega arith) _ (omega arith)
 
 pub returns-in-Err : goal.returns-in-Err
 returns-in-Err c =
     wrote_as (refusal_text c.args.input.now c.order_end-end.ensures c.make.ensures.result_value c.in-Err.is)
-    c.put_refusal.ensures
+    (rw c.number.ensures at c.put_refusal.ensures)
 
 pub returns-in-Some : goal.returns-in-Some
 returns-in-Some c =

@@ -1,16 +1,12 @@
--- `trains::read_moves` meets its contract. The loop's invariant: the first j moves are kept. Assumes nothing.
-use Prim.Native.Nat.{◌+◌}
+-- `trains::read_moves` meets its contract: as many moves as the buffer has room for are read to its front. Assumes nothing.
+use mathlib.Core.Path.{sym}
+use mathlib.Core.Bool.{false≢true}
 use native.Mathlib.Omega.{arith}
-use lib.ListN.{length}
-use Rattle.chains.proofs.Moves.{kept_next, kept-all}
+use borrow.Author.Tests.{lt-leb}
 use Rattle.trains.proofs.read_moves.Goals as goal
 
-pub returns-then-j-step : goal.returns-then-j-step
-returns-then-j-step c =
-    let next = kept_next c.args.moves.now c.loop-j.step (length c.args.step.now) c.loop-j.j _ (omega arith)
-    c.entry_at-then-j-step.ensures c.loop-j.invariant.1 in
-    kept-all c.args.moves.now _ (length c.args.step.now) (c.loop-j.j + 1) (omega arith) next
-
-pub returns-else-j-step : goal.returns-else-j-step
-returns-else-j-step c =
-    kept-all c.args.moves.now c.loop-j.step (length c.args.step.now) c.loop-j.j (omega arith) c.loop-j.invariant.1
+pub returns-then-c-gt64 : goal.returns-then-c-gt64
+returns-then-c-gt64 c = record {
+  few = sym (lt-leb c.args.c 64 (omega arith));
+  all = λ r. absurd (false≢true r);
+}

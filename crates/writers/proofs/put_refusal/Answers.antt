@@ -1,7 +1,7 @@
--- `writers::put_line` meets its contract: its parts stand one behind another. Assumes nothing.
+-- `writers::put_refusal` meets its contract: its parts stand one behind another. Assumes nothing.
 use Rattle.writers.proofs.LineLaws.{word_fits, number_fits, gap_fits, place_fits, gap₂_fits, family_fits, end_fits, line_wrote}
 use borrow.Author.Rules.{rules}
-use Rattle.writers.proofs.put_line.Goals as goal
+use Rattle.writers.proofs.put_refusal.Goals as goal
 
 pub put_bytes-at-requires : goal.put_bytes-at-requires
 put_bytes-at-requires c = search (word_fits, rules)
